@@ -65,7 +65,7 @@ inline Bytes tree_of(const Bytes& text, Settings s) {
     const u8 newline = 10;
     u64 room = 0;
     u32 size = 0, windows = 0;
-    demand(bt_enough((u32)text.size(), s.leaf, s.arity, s.levels, 1, &room) == 0, "enough");
+    demand(bt_size_bound((u32)text.size(), s.leaf, s.arity, s.levels, 1, &room) == 0, "enough");
     Bytes tree(room);
     std::vector<u32> work(bt_scan_words((u32)text.size(), s.leaf));
     demand(bt_build_scanned(text.data(), text.size(), s.leaf, s.arity, s.levels, &newline, 1, work.data(), work.size(), tree.data(), tree.size(), &size, &windows) == 0, "build");

@@ -61,7 +61,7 @@ static void same_reads(const Asked& a, const peer::View& v, u32 place) {
     p = peer::count(v, newline, place);
     demand(bt_count(a.t(), a.size(), newline, place, &w, &y) == p.number && w == p.value && y == p.entered, "count");
     peer::Run run;
-    demand(peer::walk(v, place, run) && bt_run(a.t(), a.size(), place, &w, &x) == 0 && v.tree + w == run.from && x == run.length, "run");
+    demand(peer::walk(v, place, run) && bt_run_range(a.t(), a.size(), place, &w, &x) == 0 && v.tree + w == run.from && x == run.length, "run");
     for (u32 length : {8u, 32u, 100u}) {
         demand(bt_span(a.t(), a.size(), place, length, mine, sizeof mine, &x) == 0 && peer::span(v, place, length, theirs, sizeof theirs, y) == 0, "span");
         demand(x == y && std::memcmp(mine, theirs, length) == 0, "span");
@@ -112,7 +112,7 @@ static void reads(const Asked& a, const std::string& layout) {
     const u64 n = a.size();
     line("header" + layout, calls, 1, each(a.places, [=](u32) { return peer::open(t, n, v) + v.block[0]; }), each(a.places, [=](u32 p) { return bt_byte(t, n, p + 100000000, &x, &y); }));
     line("byte" + layout, calls, 1, each(a.places, [=](u32 p) { return peer::open(t, n, v), peer::byte(v, p).value; }), each(a.places, [=](u32 p) { return bt_byte(t, n, p, &x, &y), x; }));
-    line("run" + layout, calls, 1, each(a.places, [=](u32 p) { peer::Run run; return peer::open(t, n, v), peer::walk(v, p, run), run.length; }), each(a.places, [=](u32 p) { return bt_run(t, n, p, &w, &x), x; }));
+    line("run" + layout, calls, 1, each(a.places, [=](u32 p) { peer::Run run; return peer::open(t, n, v), peer::walk(v, p, run), run.length; }), each(a.places, [=](u32 p) { return bt_run_range(t, n, p, &w, &x), x; }));
     for (u32 length : {8u, 32u, 100u})
         line("span of " + std::to_string(length) + " bytes" + layout, calls, 1, each(a.places, [=](u32 p) { return peer::open(t, n, v), peer::span(v, p, length, out, sizeof out, y), out[0]; }),
              each(a.places, [=](u32 p) { return bt_span(t, n, p, length, out, sizeof out, &y), out[0]; }));
@@ -154,7 +154,7 @@ static void built(const Bytes& text, const Bytes& tree, Settings s) {
     const u32 n = (u32)text.size();
     u64 room = 0, windows = 0;
     u32 size = 0, number = 0;
-    demand(bt_enough(n, s.leaf, s.arity, s.levels, 1, &room) == 0, "enough");
+    demand(bt_size_bound(n, s.leaf, s.arity, s.levels, 1, &room) == 0, "enough");
     Bytes out(room);
     std::vector<u32> work(bt_scan_words(n, s.leaf));
     const u64 own = peer::build(text.data(), n, s.leaf, s.arity, s.levels, &newline, 1, out.data(), room, windows);
@@ -233,8 +233,8 @@ static void columns(const Asked& a) {
     std::vector<u32> rows;
     for (u32 p : a.places) rows.push_back(p / width);
     demand(peer::open(t, n, v) == 0, "open");
-    for (u32 r : rows) demand(peer::row_by_columns(v, width, r, theirs, 16) == 0 && bt_column_row(t, n, width, r, mine, 16) == 0 && std::memcmp(mine, theirs, 16) == 0, "row by columns");
-    line("row by columns, width 16", calls, 6, each(rows, [=](u32 r) { return peer::open(t, n, v), peer::row_by_columns(v, width, r, theirs, 16), theirs[0]; }), each(rows, [=](u32 r) { return bt_column_row(t, n, width, r, mine, 16), mine[0]; }));
+    for (u32 r : rows) demand(peer::row_by_columns(v, width, r, theirs, 16) == 0 && bt_row_by_columns(t, n, width, r, mine, 16) == 0 && std::memcmp(mine, theirs, 16) == 0, "row by columns");
+    line("row by columns, width 16", calls, 6, each(rows, [=](u32 r) { return peer::open(t, n, v), peer::row_by_columns(v, width, r, theirs, 16), theirs[0]; }), each(rows, [=](u32 r) { return bt_row_by_columns(t, n, width, r, mine, 16), mine[0]; }));
     Bytes out(size), own(size);
     peer::to_columns(a.text.data(), size, width, own.data());
     demand(bt_to_columns(a.text.data(), size, width, out.data(), size) == 0 && out == own, "columns");
@@ -245,10 +245,10 @@ static void orders(const Asked& a) {
     const Bytes other = tree_of(a.text, {128, 4, 3});
     u32 where, shared, first;
     peer::View v, w;
-    demand(bt_order(a.t(), a.size(), other.data(), other.size(), &where, &shared, &first) == 0 && where == 2 && shared == a.text.size(), "order");
+    demand(bt_compare(a.t(), a.size(), other.data(), other.size(), &where, &shared, &first) == 0 && where == 2 && shared == a.text.size(), "order");
     demand(peer::open(a.t(), a.size(), v) == 0 && peer::open(other.data(), other.size(), w) == 0 && peer::order(v, w, shared) == 2, "order");
     line("order, beside 128/4/3", a.text.size(), 6, [&] { peer::open(a.t(), a.size(), v), peer::open(other.data(), other.size(), w), sink = peer::order(v, w, shared); },
-         [&] { bt_order(a.t(), a.size(), other.data(), other.size(), &where, &shared, &first), sink = where; });
+         [&] { bt_compare(a.t(), a.size(), other.data(), other.size(), &where, &shared, &first), sink = where; });
 }
 
 static void digests(const Asked& a) {

@@ -11,7 +11,7 @@ from pathlib import Path
 
 ROOT = Path(__file__).resolve().parents[1]
 CRATES = ROOT / "crates"
-COMMON = {"Lib", "Demands", "lib", "main", "Proof"}
+COMMON = {"Lib", "Theorems", "lib", "main", "Proof"}
 
 
 def long_lines():

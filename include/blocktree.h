@@ -7,7 +7,7 @@
  *
  * What all calls have in common
  *
- *  - A call returns BT_OK (0), or the number of the first question that failed (enum bt_number): it is refused with that number. A refused call sets every
+ *  - A call returns BT_OK (0), or the number of the first question that failed (enum bt_refusal): it is refused with that number. A refused call sets every
  *    figure to 0.
  *  - A slice is a pointer and a length in bytes; a table of words has its length in words. A call keeps no pointer, allocates nothing and has no state: calls
  *    may run at the same time in several threads if what they write does not overlap.
@@ -24,7 +24,7 @@
  *  - bt_check shows that a tree represents a text, not which one: a tree with a changed leaf byte, and the counts and edges that depend on it changed too, is a
  *    valid tree of another text, and gives a wrong key. So the office publishes the SHA-256 of the book, 32 bytes, and the machine compares it with the output
  *    of bt_digest (examples/c/check_digest.c). A digest is as good as the way it came: store it where whoever can change the tree cannot write.
- *  - Places in the text start at 0; occurrences and rows are numbered from 1, but bt_column_row numbers rows from 0.
+ *  - Places in the text start at 0; occurrences and rows are numbered from 1, but bt_row_by_columns numbers rows from 0.
  *
  * At each call: `reads` lists the slices that it reads, `writes` what it writes, `returns` the numbers in the order of the questions.
  */
@@ -49,16 +49,16 @@ extern "C" {
 #define BT_LIST_LENGTH 352u /* bytes of a buffer that is enough for bt_list */
 #define BT_FIGURES 23u     /* figures that bt_info writes */
 #define BT_DIGEST 32u      /* bytes of a SHA-256, which bt_digest and bt_digest_text write */
-/* Bytes of the largest tree, the most that bt_enough returns: 1,111,359,588. It is the tree of the longest text with leaf 1, arity 2, BT_MAX_LEVELS levels and
+/* Bytes of the largest tree, the most that bt_size_bound returns: 1,111,359,588. It is the tree of the longest text with leaf 1, arity 2, BT_MAX_LEVELS levels and
  * BT_MAX_COUNTED counted bytes: a header of 100 bytes, 2 - 1/128 blocks for each byte of text, a record of 66 bytes for each block, and the text. */
 #define BT_MAX_TREE (100u + BT_MAX_TEXT / 128u * 255u * 66u + BT_MAX_TEXT)
 
 /* The version of this header: major * 10000 + minor * 100 + patch. bt_version returns that of the archive. */
-#define BT_VERSION 11700u
+#define BT_VERSION 20000u
 uint32_t bt_version(void);
 
 /* What the numbers mean. */
-enum bt_number {
+enum bt_refusal {
     BT_OK = 0,
     BT_TEXT = 1,        /* the text has more than BT_MAX_TEXT bytes */
     BT_SETTINGS = 2,    /* leaf is not 1 to 256, arity not 2 to 16, levels not 1 to 8, or leaf * arity^(levels-1) is above BT_MAX_TEXT */
@@ -147,7 +147,7 @@ uint32_t bt_build_scanned(const uint8_t *text, uint64_t text_len, uint32_t leaf,
 uint64_t bt_scan_words(uint32_t n, uint32_t leaf);
 
 /* Write a tree in layout 1, without its edges. It is never larger; bt_check accepts it if it accepts the tree, and every question then has the same answer,
- * with two exceptions: bt_run returns an offset into the written tree, and bt_span finds each byte by its path and reports 0 blocks entered.
+ * with two exceptions: bt_run_range returns an offset into the written tree, and bt_span finds each byte by its path and reports 0 blocks entered.
  *   reads     tree: any bytes
  *   writes    out: the tree in its first *size bytes, the rest unchanged; unchanged if the call is refused
  *             *size: its size; a buffer of tree_len bytes is always large enough. A tree of layout 1 is copied
@@ -159,7 +159,7 @@ uint32_t bt_without_edges(const uint8_t *tree, uint64_t tree_len, uint8_t *out, 
  * layout that bt_check accepts.
  *   writes    *size: the size in bytes
  *   returns   0, 1, 2, 3 */
-uint32_t bt_enough(uint32_t n, uint32_t leaf, uint32_t arity, uint32_t levels, uint32_t counted, uint64_t *size);
+uint32_t bt_size_bound(uint32_t n, uint32_t leaf, uint32_t arity, uint32_t levels, uint32_t counted, uint64_t *size);
 
 /* Check a tree: whether its layout, header and blocks are right, and its counts and edges are those of its text. It need not be the tree that bt_build makes.
  *   reads     tree
@@ -197,7 +197,7 @@ uint32_t bt_byte(const uint8_t *tree, uint64_t tree_len, uint32_t place, uint32_
  *   reads     tree
  *   writes    *offset: where the range starts in the tree's bytes; *length: its length, at least 1
  *   returns   0, 5, 6, 7, 10, 14 */
-uint32_t bt_run(const uint8_t *tree, uint64_t tree_len, uint32_t place, uint64_t *offset, uint32_t *length);
+uint32_t bt_run_range(const uint8_t *tree, uint64_t tree_len, uint32_t place, uint64_t *offset, uint32_t *length);
 
 /* Copy `length` bytes of the text from a place on. If the tree has layout 2 and `length` is 1 to leaf, one short walk reads them from edges or leaf bytes.
  *   reads     tree
@@ -295,7 +295,7 @@ uint32_t bt_from_columns(const uint8_t *text, uint64_t text_len, uint32_t width,
  *   writes    buffer: the row in its first width bytes, the rest unchanged. BT_PATH leaves zeros in the first width bytes; any other refusal leaves it
  *             unchanged
  *   returns   0, 5, 6, 7, 20 (by the tree's text length), 10 (a is not below the number of rows), 13, 14 (the path of one of the row's bytes breaks) */
-uint32_t bt_column_row(const uint8_t *tree, uint64_t tree_len, uint32_t width, uint32_t a, uint8_t *buffer, uint64_t buffer_len);
+uint32_t bt_row_by_columns(const uint8_t *tree, uint64_t tree_len, uint32_t width, uint32_t a, uint8_t *buffer, uint64_t buffer_len);
 
 /* The SHA-256 (FIPS 180-4) of a tree's text, read part by part: of the bytes that the tree's paths give, which are the one text that fits a tree that
  * bt_check accepts. Check first: on other trees the paths can give bytes of no text.
@@ -354,8 +354,8 @@ uint32_t bt_row_guided(const uint8_t *tree, uint64_t tree_len, const uint8_t *gu
 uint32_t bt_next_with_prefix_guided(const uint8_t *tree, uint64_t tree_len, const uint8_t *guide, uint64_t guide_len, const uint8_t *prefix,
                                     uint64_t prefix_len, uint32_t *mark, uint32_t *row);
 
-/* The order of the first of two trees, by bt_order. */
-enum bt_standing { BT_BEFORE = 1, BT_SAME = 2, BT_AFTER = 3 };
+/* The order of the first of two trees, by bt_compare. */
+enum bt_ordering { BT_BEFORE = 1, BT_SAME = 2, BT_AFTER = 3 };
 
 /* The lexicographic order of two trees' texts, byte by byte as unsigned numbers; a text that is a prefix of the other comes first. The trees may have any
  * settings and layouts, and may be the same memory.
@@ -365,7 +365,7 @@ enum bt_standing { BT_BEFORE = 1, BT_SAME = 2, BT_AFTER = 3 };
  *   returns   0, 5, 6, 7 of one, 5, 6, 7 of other, 14
  * On trees that bt_check accepts it is a total order on the texts, so trees can be sorted by it. Both are read from their start until they differ or one
  * ends, and no further: a path that breaks after that gives no BT_PATH. */
-uint32_t bt_order(const uint8_t *one, uint64_t one_len, const uint8_t *other, uint64_t other_len, uint32_t *order, uint32_t *shared, uint32_t *first);
+uint32_t bt_compare(const uint8_t *one, uint64_t one_len, const uint8_t *other, uint64_t other_len, uint32_t *order, uint32_t *shared, uint32_t *first);
 
 /* The lines of the list program: one for each level, "level blocks kept pointing".
  *   reads     tree

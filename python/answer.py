@@ -59,7 +59,7 @@ def prefix_guided(tree, guide, lent, mark):
 
 
 def order(one, other):
-    number, where, shared, first = _call("bt_order", one.bytes, other.bytes)
+    number, where, shared, first = _call("bt_compare", one.bytes, other.bytes)
     return number, ["-", "before", "same", "after"][where], shared, first
 
 
@@ -87,7 +87,7 @@ ASKED = {
     "check": lambda tree: _call("bt_check", tree.bytes),
     "list": levels,
     "byte": lambda tree, p: _call("bt_byte", tree.bytes, int(p)),
-    "run": lambda tree, p: _call("bt_run", tree.bytes, int(p)),
+    "run": lambda tree, p: _call("bt_run_range", tree.bytes, int(p)),
     "count": lambda tree, c, i: _call("bt_count", tree.bytes, int(c), int(i)),
     "find": lambda tree, c, j: _call("bt_find", tree.bytes, int(c), int(j)),
     "span": lambda tree, p, length: span(tree, int(p), int(length)),

@@ -26,10 +26,10 @@ import shutil
 import sys
 from typing import Any, Dict, Iterable, Iterator, List, Optional, Tuple, Union, overload
 
-__version__ = "1.17.0"
+__version__ = "2.0.0"
 
 __all__ = [
-    "RefusedError", "Tree", "build", "enough", "scan_words", "to_columns", "from_columns", "digest_text", "open_on", "days_left", "renew", "version",
+    "RefusedError", "Tree", "build", "size_bound", "scan_words", "to_columns", "from_columns", "digest_text", "open_on", "days_left", "renew", "version",
 ]
 
 Bytes = Union[bytes, bytearray, memoryview]
@@ -91,10 +91,10 @@ Refused = RefusedError
 _CALLS = {
     "bt_build": "bytes n32 n32 n32 bytes buffer out32",
     "bt_build_scanned": "bytes n32 n32 n32 bytes words buffer out32 out32",
-    "bt_enough": "n32 n32 n32 n32 n32 out64",
+    "bt_size_bound": "n32 n32 n32 n32 n32 out64",
     "bt_check": "bytes",
     "bt_byte": "bytes n32 out32 out32",
-    "bt_run": "bytes n32 out64 out32",
+    "bt_run_range": "bytes n32 out64 out32",
     "bt_span": "bytes n32 n32 buffer out32",
     "bt_count": "bytes n32 n32 out64 out32",
     "bt_find": "bytes n32 n32 out32 out32",
@@ -107,7 +107,7 @@ _CALLS = {
     "bt_next_with_prefix": "bytes bytes mark out32",
     "bt_to_columns": "bytes n32 buffer",
     "bt_from_columns": "bytes n32 buffer",
-    "bt_column_row": "bytes n32 n32 buffer",
+    "bt_row_by_columns": "bytes n32 n32 buffer",
     "bt_digest": "bytes buffer",
     "bt_digest_text": "bytes buffer",
     "bt_guide_words": "bytes out64",
@@ -116,7 +116,7 @@ _CALLS = {
     "bt_find_guided": "bytes bytes n32 n32 out32 out32 out32",
     "bt_row_guided": "bytes bytes n32 buffer out32",
     "bt_next_with_prefix_guided": "bytes bytes bytes mark out32",
-    "bt_order": "bytes bytes out32 out32 out32",
+    "bt_compare": "bytes bytes out32 out32 out32",
     "bt_list": "bytes buffer out32",
     "bt_without_edges": "bytes buffer out64",
     "bt_open_on": "bytes bytes bytes out32",
@@ -217,9 +217,9 @@ def version() -> Tuple[int, int, int]:
     return number // 10000, number // 100 % 100, number % 100
 
 
-def enough(n: int, leaf: int, arity: int, levels: int, counted: Bytes = b"\n") -> int:
+def size_bound(n: int, leaf: int, arity: int, levels: int, counted: Bytes = b"\n") -> int:
     """A size that is enough for the tree of any text of n bytes."""
-    return _ask("bt_enough", n, leaf, arity, levels, len(_bytes(counted)))
+    return _ask("bt_size_bound", n, leaf, arity, levels, len(_bytes(counted)))
 
 
 def scan_words(n: int, leaf: int) -> int:
@@ -239,7 +239,7 @@ def build(text: Bytes, leaf: Optional[int] = None, arity: Optional[int] = None, 
 
 def _build(text: Bytes, leaf: int, arity: int, levels: int, counted: Bytes) -> bytes:
     text = _bytes(text)
-    room = bytearray(enough(min(len(text), 0xFFFFFFFF), leaf, arity, levels, counted))
+    room = bytearray(size_bound(min(len(text), 0xFFFFFFFF), leaf, arity, levels, counted))
     table = _words(scan_words(len(text), leaf))
     if len(table) > 0:
         table[0] = int.from_bytes(os.urandom(4), "little")  # the seed of the fingerprints: unpredictable, so no text can be made to be slow
@@ -345,7 +345,7 @@ class Tree:
 
     def run(self, place: int) -> bytes:
         """The longest contiguous range of leaf bytes that is the text from a place on."""
-        offset, length = _ask("bt_run", self.bytes, place)
+        offset, length = _ask("bt_run_range", self.bytes, place)
         return self.bytes[offset : offset + length]
 
     def span(self, place: int, length: int) -> bytes:
@@ -384,14 +384,14 @@ class Tree:
 
     def iter_rows(self, first: int = 1, last: Optional[int] = None) -> Iterator[bytes]:
         """The rows from `first` to `last`, both included, in row order; to the last row if `last` is None."""
-        for number in range(first, (self.rows() if last is None else last) + 1):
+        for number in range(first, (self.row_count() if last is None else last) + 1):
             yield self.row(number)
 
     def row_length(self, number: int) -> int:
         """The length of row `number`, from 1, without its end."""
         return _ask("bt_row_length", self.bytes, number)
 
-    def rows(self) -> int:
+    def row_count(self) -> int:
         """The number of rows."""
         return _ask("bt_row_count", self.bytes)
 
@@ -437,7 +437,7 @@ class Tree:
     def row_by_columns(self, width: int, a: int) -> bytes:
         """Row a, from 0, all `width` bytes of it, from the tree of a text by columns."""
         room = bytearray(min(width, len(self), MAX_TEXT))
-        _ask("bt_column_row", self.bytes, width, a, room)
+        _ask("bt_row_by_columns", self.bytes, width, a, room)
         return bytes(room)
 
     def digest(self) -> bytes:
@@ -468,5 +468,5 @@ class Tree:
 
     def compare(self, other: "Tree") -> Tuple[int, int]:
         """BEFORE, SAME or AFTER: the lexicographic order of this tree's text and the other's; and the length of their longest common prefix."""
-        order, shared, _ = _ask("bt_order", self.bytes, other.bytes)
+        order, shared, _ = _ask("bt_compare", self.bytes, other.bytes)
         return order, shared

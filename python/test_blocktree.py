@@ -93,12 +93,12 @@ def make_guide(tree, words):
 
 
 def column(tree, width, a, room):
-    number, left = with_buffer("bt_column_row", tree, width, a, room=room)
+    number, left = with_buffer("bt_row_by_columns", tree, width, a, room=room)
     return number, 0 if number else width, left
 
 
 def order(one, other):
-    number, where, shared, first = _call("bt_order", one, other)
+    number, where, shared, first = _call("bt_compare", one, other)
     return number, ["-", "before", "same", "after"][where], shared, first
 
 
@@ -115,7 +115,7 @@ ASKED = {
     "check": lambda named, t: _call("bt_check", named[t]),
     "list": lambda named, t: listed(named[t]),
     "byte": lambda named, t, p: _call("bt_byte", named[t], int(p)),
-    "run": lambda named, t, p: _call("bt_run", named[t], int(p)),
+    "run": lambda named, t, p: _call("bt_run_range", named[t], int(p)),
     "count": lambda named, t, b, i: _call("bt_count", named[t], int(b), int(i)),
     "find": lambda named, t, b, j: _call("bt_find", named[t], int(b), int(j)),
     "span": lambda named, t, p, n, room: with_buffer("bt_span", named[t], int(p), int(n), room=int(room)),
@@ -167,10 +167,10 @@ def own_functions():
     text = open(os.path.join(HERE, "../books/small.txt"), "rb").read()
     rows = text.split(b"\n")[:-1]
     book = blocktree.Tree(blocktree.build(text, 24, 8, 3))
-    assert (len(book), len(book.bytes), book.rows(), book.text()) == (2800, 5884, 200, text)
+    assert (len(book), len(book.bytes), book.row_count(), book.text()) == (2800, 5884, 200, text)
     assert book.info() == {"layout": 2, "length": 2800, "leaf": 24, "arity": 8, "levels": 3, "leaf_bytes": 1072, "totals": {10: 200}, "blocks": [2, 15, 45]}
     assert [book.row_length(number) for number in (1, 40, 200)] == [13, 13, 13]
-    assert blocktree.version() == (1, 17, 0)
+    assert blocktree.version() == (2, 0, 0)
     guide = book.make_guide()
     book.check_guide(guide)
     for number in range(1, 201, 7):
@@ -300,7 +300,7 @@ def other_types():
             lambda: blocktree.Tree(wrong),
             lambda: blocktree.build(wrong, 2, 2, 2),
             lambda: blocktree.build(b"", 2, 2, 2, wrong),
-            lambda: blocktree.enough(5, 2, 2, 2, wrong),
+            lambda: blocktree.size_bound(5, 2, 2, 2, wrong),
             lambda: blocktree.to_columns(wrong, 1),
             lambda: blocktree.from_columns(wrong, 1),
             lambda: blocktree.open_on(wrong, b"20240101", b"20240101"),

@@ -24,11 +24,11 @@ static uint8_t day[] = "20240229";
 static void nothing(void) {}
 static void build(void) { bt_build(text, 20000, 2, 3, 8, counted, 4, tree, TREE, &size); }
 static void build_scanned(void) { bt_build_scanned(text, TEXT, 2, 3, 8, counted, 4, table, words32, tree, TREE, &size, &number); }
-static void enough(void) { bt_enough(TEXT, 2, 3, 8, 4, &large); }
+static void size_bound(void) { bt_size_bound(TEXT, 2, 3, 8, 4, &large); }
 static void scan_words(void) { words32 = (uint32_t)bt_scan_words(TEXT, 2); }
 static void check(void) { number = bt_check(tree, size); }
 static void byte(void) { for (uint32_t p = 0; p < TEXT; p += 7) bt_byte(tree, size, p, &place, &third); }
-static void run(void) { for (uint32_t p = 0; p < TEXT; p += 7) bt_run(tree, size, p, &large, &third); }
+static void run(void) { for (uint32_t p = 0; p < TEXT; p += 7) bt_run_range(tree, size, p, &large, &third); }
 static void span(void) { for (uint32_t p = 0; p < TEXT - 40; p += 7) bt_span(tree, size, p, 1 + p % 40, row, TEXT, &third); }
 static void count(void) { for (uint32_t p = 0; p < TEXT; p += 7) bt_count(tree, size, 49, p, &large, &third); }
 static void find(void) { for (uint32_t j = 1; j < 6000; j += 7) bt_find(tree, size, 10, j, &place, &third); }
@@ -43,7 +43,7 @@ static void next_match(void) { uint32_t mark = 0; do bt_next_match(tree, size, r
 static void next_with_prefix(void) { uint32_t mark = 0; do bt_next_with_prefix(tree, size, (const uint8_t *)"K0", 2, &mark, &number); while (number && mark < 500); }
 static void to_columns(void) { bt_to_columns(text, TEXT, 10, turned, TEXT); }
 static void from_columns(void) { bt_from_columns(text, TEXT, 10, turned, TEXT); }
-static void column_row(void) { bt_column_row(tree, size, 10, 5, row, TEXT); }
+static void column_row(void) { bt_row_by_columns(tree, size, 10, 5, row, TEXT); }
 static void digest(void) { uint8_t out[BT_DIGEST]; bt_digest(tree, size, out, sizeof out); }
 static void digest_text(void) { uint8_t out[BT_DIGEST]; bt_digest_text(text, TEXT, out, sizeof out); }
 static void guide_words(void) { bt_guide_words(tree, size, &words); }
@@ -52,7 +52,7 @@ static void check_guide(void) { bt_check_guide(tree, size, guide, 4 * words); }
 static void find_guided(void) { for (uint32_t j = 1; j < 6000; j += 7) bt_find_guided(tree, size, guide, 4 * words, 10, j, &place, &third, &number); }
 static void row_guided(void) { for (uint32_t q = 1; q < 6000; q += 7) bt_row_guided(tree, size, guide, 4 * words, q, row, TEXT, &third); }
 static void next_with_prefix_guided(void) { uint32_t mark = 0; do bt_next_with_prefix_guided(tree, size, guide, 4 * words, (const uint8_t *)"K0", 2, &mark, &number); while (number && mark < 500); }
-static void order(void) { bt_order(tree, size, tree, size, &place, &third, &number); }
+static void order(void) { bt_compare(tree, size, tree, size, &place, &third, &number); }
 static void without_edges(void) { bt_without_edges(tree, size, smaller, TREE, &large); }
 static void list(void) { bt_list(small, small_size, row, TEXT, &third); }
 static void open_on(void) { bt_open_on(day, 8, day, 8, day, 8, &number); }
@@ -102,13 +102,13 @@ static void write_text(void)
 int main(void)
 {
     static const struct { const char *name; void (*function)(void); } calls[] = {
-        {"bt_scan_words", scan_words}, {"bt_enough", enough}, {"bt_build", build}, {"bt_build_scanned", build_scanned}, {"bt_check", check},
-        {"bt_byte", byte}, {"bt_run", run}, {"bt_span", span}, {"bt_count", count}, {"bt_find", find}, {"bt_row", rows}, {"bt_places", places},
+        {"bt_scan_words", scan_words}, {"bt_size_bound", size_bound}, {"bt_build", build}, {"bt_build_scanned", build_scanned}, {"bt_check", check},
+        {"bt_byte", byte}, {"bt_run_range", run}, {"bt_span", span}, {"bt_count", count}, {"bt_find", find}, {"bt_row", rows}, {"bt_places", places},
         {"bt_version", version}, {"bt_info", info}, {"bt_row_length", row_length}, {"bt_row_count", row_count}, {"bt_places_words", places_words},
-        {"bt_next_match", next_match}, {"bt_next_with_prefix", next_with_prefix}, {"bt_to_columns", to_columns}, {"bt_from_columns", from_columns}, {"bt_column_row", column_row},
+        {"bt_next_match", next_match}, {"bt_next_with_prefix", next_with_prefix}, {"bt_to_columns", to_columns}, {"bt_from_columns", from_columns}, {"bt_row_by_columns", column_row},
         {"bt_digest", digest}, {"bt_digest_text", digest_text},
         {"bt_guide_words", guide_words}, {"bt_make_guide", make_guide}, {"bt_check_guide", check_guide}, {"bt_find_guided", find_guided},
-        {"bt_row_guided", row_guided}, {"bt_next_with_prefix_guided", next_with_prefix_guided}, {"bt_order", order}, {"bt_without_edges", without_edges}, {"bt_list", list},
+        {"bt_row_guided", row_guided}, {"bt_next_with_prefix_guided", next_with_prefix_guided}, {"bt_compare", order}, {"bt_without_edges", without_edges}, {"bt_list", list},
         {"bt_open_on", open_on}, {"bt_days_left", days_left}, {"bt_renew", renew},
     };
     tree = (uint8_t *)malloc(TREE);

@@ -270,7 +270,7 @@ fn time_rows(text: &[u8], name: &str) {
     let [mut ours, mut theirs, mut span] = [[0; EVEN_WIDTH]; 3];
     let [library, model] = each(
         &rows,
-        |a| (calls::column_row(by_columns(), width, a, &mut ours), ours),
+        |a| (calls::row_by_columns(by_columns(), width, a, &mut ours), ours),
         |a| (columns::row(by_columns(), width, a, &mut theirs).0, theirs),
     );
     let [plain, _] = each(
@@ -331,7 +331,7 @@ fn time_orders() {
         for other in others {
             let trees = [fast::tree(&text, one, COUNTED), fast::tree(&text, other, b""), fast::tree(&changed, other, b"")];
             let tree = |at: usize| black_box(trees[at].as_slice());
-            let [library, model] = both(9, || calls::order(tree(0), tree(1)), || order::order(tree(0), tree(1)));
+            let [library, model] = both(9, || calls::compare(tree(0), tree(1)), || order::order(tree(0), tree(1)));
             let mut buffer = vec![0; text.len()];
             let spans = [0, 1].map(|at| {
                 fastest(9, &mut || {
@@ -339,7 +339,7 @@ fn time_orders() {
                 })
             });
             let early = fastest(1000, &mut || {
-                black_box(calls::order(tree(0), tree(2)));
+                black_box(calls::compare(tree(0), tree(2)));
             });
             let ratio = library.as_secs_f64() / spans[0].min(spans[1]).as_secs_f64();
             println!(
@@ -379,7 +379,7 @@ fn time_book(text: &[u8], name: &str, shape: Shape) {
     let places: Vec<u32> = (0..4000).map(|_| rng.below(n - 100) as u32).collect();
     let numbers: Vec<u32> = (0..4000).map(|_| rng.within(1, rows) as u32).collect();
     line("byte", each(&places, |p| calls::byte(tree(), p), |p| read::byte(tree(), p)));
-    line("run", each(&places, |p| calls::run(tree(), p), |p| read::run(tree(), p)));
+    line("run", each(&places, |p| calls::run_range(tree(), p), |p| read::run(tree(), p)));
     let [mut ours, mut theirs] = [[0; 100]; 2];
     line(
         "span of 100 bytes",
@@ -580,7 +580,7 @@ fn processor_time() -> Duration {
 
 /// The second builder's time on a text: the median of three, each with another seed.
 fn scan_time(rng: &mut Rng, text: &[u8], shape: Shape) -> Duration {
-    let (number, room) = calls::enough(text.len() as u32, shape.m, shape.r, shape.h, 1);
+    let (number, room) = calls::size_bound(text.len() as u32, shape.m, shape.r, shape.h, 1);
     assert_eq!(number, 0);
     let mut tree = vec![0; room as usize];
     let mut work = vec![0; calls::scan_words(text.len() as u32, shape.m) as usize];

@@ -105,7 +105,7 @@ class Library {
     /** The tree of a text, with byte 10 counted. */
     build(text, { leaf, arity, levels }) {
         return this.lending(() => {
-            const [room] = this.call("bt_enough", [text.length, leaf, arity, levels, 1], ["long"]);
+            const [room] = this.call("bt_size_bound", [text.length, leaf, arity, levels, 1], ["long"]);
             const words = Number(this.calls.bt_scan_words(text.length, leaf));
             const given = [...this.lent(text), leaf, arity, levels, ...this.lent(Uint8Array.of(10))];
             const [work, out] = [this.space(4 * words), this.space(room)];

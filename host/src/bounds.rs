@@ -45,7 +45,7 @@ mod tests {
         for leaf in 1..=256 {
             for arity in 2..=16 {
                 for levels in 1..=8 {
-                    let (number, size) = calls::enough(MAX_TEXT as u32, leaf, arity, levels, 4);
+                    let (number, size) = calls::size_bound(MAX_TEXT as u32, leaf, arity, levels, 4);
                     largest = largest.max(if number == 0 { size } else { 0 });
                 }
             }
@@ -58,7 +58,7 @@ mod tests {
     #[test]
     fn the_longest_text_everywhere() {
         let longest = MAX_TEXT as u32;
-        assert_eq!((calls::enough(longest, 2, 2, 2, 1).0, calls::enough(longest + 1, 2, 2, 2, 1).0), (0, 1));
+        assert_eq!((calls::size_bound(longest, 2, 2, 2, 1).0, calls::size_bound(longest + 1, 2, 2, 2, 1).0), (0, 1));
         assert!(include_str!("../../include/blocktree.h").contains(&format!("#define BT_MAX_TEXT {longest}u ")));
         let page = include_str!("../../docs/FORMAT.md");
         assert!(page.contains(concat!("| n | bytes of the text | 0 to ", longest!(), " |")));

@@ -17,10 +17,10 @@ mod declared {
             out_len: u64,
             size: *mut u32,
         ) -> u32;
-        pub fn bt_enough(n: u32, leaf: u32, arity: u32, levels: u32, counted: u32, size: *mut u64) -> u32;
+        pub fn bt_size_bound(n: u32, leaf: u32, arity: u32, levels: u32, counted: u32, size: *mut u64) -> u32;
         pub fn bt_check(tree: *const u8, tree_len: u64) -> u32;
         pub fn bt_byte(tree: *const u8, tree_len: u64, place: u32, value: *mut u32, entered: *mut u32) -> u32;
-        pub fn bt_run(tree: *const u8, tree_len: u64, place: u32, offset: *mut u64, length: *mut u32) -> u32;
+        pub fn bt_run_range(tree: *const u8, tree_len: u64, place: u32, offset: *mut u64, length: *mut u32) -> u32;
         pub fn bt_span(tree: *const u8, tree_len: u64, place: u32, length: u32, buffer: *mut u8, buffer_len: u64, entered: *mut u32) -> u32;
         pub fn bt_count(tree: *const u8, tree_len: u64, byte: u32, i: u32, count: *mut u64, entered: *mut u32) -> u32;
         pub fn bt_find(tree: *const u8, tree_len: u64, byte: u32, j: u32, place: *mut u32, entered: *mut u32) -> u32;
@@ -30,7 +30,7 @@ mod declared {
         pub fn bt_next_with_prefix(tree: *const u8, tree_len: u64, prefix: *const u8, prefix_len: u64, mark: *mut u32, row: *mut u32) -> u32;
         pub fn bt_to_columns(text: *const u8, text_len: u64, width: u32, out: *mut u8, out_len: u64) -> u32;
         pub fn bt_from_columns(text: *const u8, text_len: u64, width: u32, out: *mut u8, out_len: u64) -> u32;
-        pub fn bt_column_row(tree: *const u8, tree_len: u64, width: u32, a: u32, buffer: *mut u8, buffer_len: u64) -> u32;
+        pub fn bt_row_by_columns(tree: *const u8, tree_len: u64, width: u32, a: u32, buffer: *mut u8, buffer_len: u64) -> u32;
         pub fn bt_digest(tree: *const u8, tree_len: u64, out: *mut u8, out_len: u64) -> u32;
         pub fn bt_digest_text(text: *const u8, text_len: u64, out: *mut u8, out_len: u64) -> u32;
         pub fn bt_guide_words(tree: *const u8, tree_len: u64, words: *mut u64) -> u32;
@@ -67,7 +67,7 @@ mod declared {
             mark: *mut u32,
             row: *mut u32,
         ) -> u32;
-        pub fn bt_order(one: *const u8, one_len: u64, other: *const u8, other_len: u64, order: *mut u32, shared: *mut u32, first: *mut u32) -> u32;
+        pub fn bt_compare(one: *const u8, one_len: u64, other: *const u8, other_len: u64, order: *mut u32, shared: *mut u32, first: *mut u32) -> u32;
         pub fn bt_list(tree: *const u8, tree_len: u64, out: *mut u8, out_len: u64, length: *mut u32) -> u32;
         pub fn bt_build_scanned(
             text: *const u8,
@@ -131,9 +131,9 @@ pub fn build(text: &[u8], leaf: u32, arity: u32, levels: u32, counted: &[u8], ou
 }
 
 /// The number, and a size that is enough.
-pub fn enough(n: u32, leaf: u32, arity: u32, levels: u32, counted: u32) -> (u32, u64) {
+pub fn size_bound(n: u32, leaf: u32, arity: u32, levels: u32, counted: u32) -> (u32, u64) {
     let mut size = 0;
-    let number = unsafe { declared::bt_enough(n, leaf, arity, levels, counted, &mut size) };
+    let number = unsafe { declared::bt_size_bound(n, leaf, arity, levels, counted, &mut size) };
     (number, size)
 }
 
@@ -150,9 +150,9 @@ pub fn byte(tree: &[u8], place: u32) -> (u32, u32, u32) {
 }
 
 /// The number, where the part starts in the tree's bytes, and its length.
-pub fn run(tree: &[u8], place: u32) -> (u32, u64, u32) {
+pub fn run_range(tree: &[u8], place: u32) -> (u32, u64, u32) {
     let (mut offset, mut length) = (0, 0);
-    let number = unsafe { declared::bt_run(tree.as_ptr(), len(tree), place, &mut offset, &mut length) };
+    let number = unsafe { declared::bt_run_range(tree.as_ptr(), len(tree), place, &mut offset, &mut length) };
     (number, offset, length)
 }
 
@@ -217,8 +217,8 @@ pub fn from_columns(text: &[u8], width: u32, out: &mut [u8]) -> u32 {
 }
 
 /// The number; row `a` read by columns.
-pub fn column_row(tree: &[u8], width: u32, a: u32, buffer: &mut [u8]) -> u32 {
-    unsafe { declared::bt_column_row(tree.as_ptr(), len(tree), width, a, buffer.as_mut_ptr(), len(buffer)) }
+pub fn row_by_columns(tree: &[u8], width: u32, a: u32, buffer: &mut [u8]) -> u32 {
+    unsafe { declared::bt_row_by_columns(tree.as_ptr(), len(tree), width, a, buffer.as_mut_ptr(), len(buffer)) }
 }
 
 /// The number; the SHA-256 of the tree's text is in the first 32 bytes.
@@ -275,9 +275,9 @@ pub fn next_with_prefix_guided(tree: &[u8], guide: &[u8], prefix: &[u8], mark: &
 }
 
 /// The number, the order of the first text (1 before, 2 same, 3 after), the length of the longest common prefix, and which tree comes first (1 or 2).
-pub fn order(one: &[u8], other: &[u8]) -> (u32, u32, u32, u32) {
+pub fn compare(one: &[u8], other: &[u8]) -> (u32, u32, u32, u32) {
     let (mut order, mut shared, mut first) = (0, 0, 0);
-    let number = unsafe { declared::bt_order(one.as_ptr(), len(one), other.as_ptr(), len(other), &mut order, &mut shared, &mut first) };
+    let number = unsafe { declared::bt_compare(one.as_ptr(), len(one), other.as_ptr(), len(other), &mut order, &mut shared, &mut first) };
     (number, order, shared, first)
 }
 

@@ -34,7 +34,7 @@ impl Tree<'_> {
     /// Row `a`, from 0, of rows of `width` bytes, end byte included, from the tree of a text by columns. The caller must know that the text is by columns.
     pub fn row_by_columns(&self, width: u32, a: u32) -> Result<Vec<u8>, Refusal> {
         let mut row = vec![0; width.min(self.text_length()) as usize];
-        answer(calls::column_row(self.bytes, width, a, &mut row), ()).map(|()| row)
+        answer(calls::row_by_columns(self.bytes, width, a, &mut row), ()).map(|()| row)
     }
 }
 

@@ -5,7 +5,7 @@ use crate::{calls, Refusal, Tree, MAX_TEXT};
 
 /// A place, the number of blocks on its path, and the number of steps on level 0 to it.
 #[derive(Clone, Copy, Debug, PartialEq, Eq)]
-pub struct Guided {
+pub struct FindGuidedAnswer {
     /// The place of the byte.
     pub place: u32,
     /// Blocks on the path of that place.
@@ -33,9 +33,9 @@ impl Tree<'_> {
     }
 
     /// The place of the j-th `byte`, j from 1. Safe with any bytes as a guide; one that is not the tree's can lead to a wrong place.
-    pub fn find_guided(&self, guide: &[u8], byte: u8, j: u32) -> Result<Guided, Refusal> {
+    pub fn find_guided(&self, guide: &[u8], byte: u8, j: u32) -> Result<FindGuidedAnswer, Refusal> {
         let (number, place, entered, steps) = calls::find_guided(self.bytes, guide, byte.into(), j);
-        answer(number, Guided { place, entered, steps })
+        answer(number, FindGuidedAnswer { place, entered, steps })
     }
 
     /// Row `q`, from 1, as `row` has it. Safe with any bytes as a guide; one that is not the tree's can lead to a wrong row.

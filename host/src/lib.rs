@@ -30,8 +30,8 @@ pub use columns::{from_columns, row_width, to_columns};
 pub use days::{days_left, open_on, renew};
 pub use digest::{digest_text, Digest};
 pub use facts::{version, Info};
-pub use guides::Guided;
-pub use order::Compared;
+pub use guides::FindGuidedAnswer;
+pub use order::CompareAnswer;
 pub use parts::{Block, Level};
 pub use prefix::RowsWithPrefix;
 use refusal::answer;
@@ -60,7 +60,7 @@ pub struct Settings {
 
 /// An answer, and the number of blocks entered for it.
 #[derive(Clone, Copy, Debug, PartialEq, Eq)]
-pub struct Reached<T> {
+pub struct Answer<T> {
     /// The answer.
     pub value: T,
     /// The number of blocks entered.
@@ -77,17 +77,17 @@ pub struct Range {
 }
 
 /// A size that is enough for the tree of any text of `n` bytes.
-pub fn enough(n: usize, settings: &Settings) -> Result<u64, Refusal> {
+pub fn size_bound(n: usize, settings: &Settings) -> Result<u64, Refusal> {
     let n = u32::try_from(n).unwrap_or(u32::MAX);
     let counted = u32::try_from(settings.counted.len()).unwrap_or(u32::MAX);
-    let (number, size) = calls::enough(n, settings.leaf, settings.arity, settings.levels, counted);
+    let (number, size) = calls::size_bound(n, settings.leaf, settings.arity, settings.levels, counted);
     answer(number, size)
 }
 
 /// The tree of `text`. It needs no memory besides the tree, and searches the text once for each block and each pair; for long texts use `build_scanned`.
 pub fn build(text: &[u8], settings: &Settings) -> Result<Vec<u8>, Refusal> {
-    let enough = enough(text.len(), settings)?;
-    let mut tree = vec![0; usize::try_from(enough).expect("a tree fits the memory")];
+    let bound = size_bound(text.len(), settings)?;
+    let mut tree = vec![0; usize::try_from(bound).expect("a tree fits the memory")];
     let (number, size) = calls::build(text, settings.leaf, settings.arity, settings.levels, &settings.counted, &mut tree);
     tree.truncate(size as usize);
     answer(number, tree)
@@ -95,7 +95,7 @@ pub fn build(text: &[u8], settings: &Settings) -> Result<Vec<u8>, Refusal> {
 
 /// A tree, and the number of windows of the text that were looked up to build it.
 #[derive(Clone, Debug, PartialEq, Eq)]
-pub struct Scanned {
+pub struct BuildScannedAnswer {
     /// The tree's bytes.
     pub tree: Vec<u8>,
     /// Windows looked up.
@@ -105,9 +105,9 @@ pub struct Scanned {
 /// The tree of `text`, the same as `build` gives, by one scan of the text for each level: on long texts in a small part of the time. It takes
 /// four words of memory besides for each leaf length of text. The seed of its fingerprints is random in each call, so no text can be made
 /// to be slow.
-pub fn build_scanned(text: &[u8], settings: &Settings) -> Result<Scanned, Refusal> {
-    let enough = enough(text.len(), settings)?;
-    let mut tree = vec![0; usize::try_from(enough).expect("a tree fits the memory")];
+pub fn build_scanned(text: &[u8], settings: &Settings) -> Result<BuildScannedAnswer, Refusal> {
+    let bound = size_bound(text.len(), settings)?;
+    let mut tree = vec![0; usize::try_from(bound).expect("a tree fits the memory")];
     let words = calls::scan_words(text.len() as u32, settings.leaf);
     let mut work = vec![0; usize::try_from(words).expect("the table fits the memory")];
     if let Some(seed) = work.first_mut() {
@@ -115,7 +115,7 @@ pub fn build_scanned(text: &[u8], settings: &Settings) -> Result<Scanned, Refusa
     }
     let (number, size, windows) = calls::build_scanned(text, settings.leaf, settings.arity, settings.levels, &settings.counted, &mut work, &mut tree);
     tree.truncate(size as usize);
-    answer(number, Scanned { tree, windows })
+    answer(number, BuildScannedAnswer { tree, windows })
 }
 
 /// An unpredictable word: the system chooses the keys of std's hash maps at random.
@@ -131,7 +131,7 @@ pub fn scan_words(n: u32, leaf: u32) -> u64 {
 /// The size of the tree of any text of `n` bytes if the settings have one level: no block points, so the size does not depend on the text. None for
 /// settings with more levels.
 pub fn one_level_size(n: usize, settings: &Settings) -> Result<Option<usize>, Refusal> {
-    enough(n, settings)?;
+    size_bound(n, settings)?;
     let (leaf, counted) = (settings.leaf as usize, settings.counted.len());
     let record = 16 + 12 * counted + 2 * leaf;
     Ok((settings.levels == 1).then(|| 100 + n.div_ceil(leaf) * record + n))
@@ -166,39 +166,39 @@ impl<'a> Tree<'a> {
     }
 
     /// The byte at a place, from 0.
-    pub fn byte(&self, place: u32) -> Result<Reached<u8>, Refusal> {
+    pub fn byte(&self, place: u32) -> Result<Answer<u8>, Refusal> {
         let (number, value, entered) = calls::byte(self.bytes, place);
-        answer(number, Reached { value: value as u8, entered })
+        answer(number, Answer { value: value as u8, entered })
     }
 
     /// The longest contiguous range of leaf bytes that is the text from `place` on.
     pub fn run(&self, place: u32) -> Result<&'a [u8], Refusal> {
-        self.run_at(place).map(|(_, run)| run)
+        self.run_range(place).map(|(_, run)| run)
     }
 
     /// The same, with its offset in the tree.
-    pub fn run_at(&self, place: u32) -> Result<(u64, &'a [u8]), Refusal> {
-        let (number, offset, length) = calls::run(self.bytes, place);
+    pub fn run_range(&self, place: u32) -> Result<(u64, &'a [u8]), Refusal> {
+        let (number, offset, length) = calls::run_range(self.bytes, place);
         answer(number, (offset, &self.bytes[offset as usize..][..length as usize]))
     }
 
     /// `length` bytes from `place` on. The blocks entered are those of a short span, of at most the leaf length, in a tree of layout 2; else 0.
-    pub fn span(&self, place: u32, length: u32) -> Result<Reached<Vec<u8>>, Refusal> {
+    pub fn span(&self, place: u32, length: u32) -> Result<Answer<Vec<u8>>, Refusal> {
         let mut buffer = vec![0; MAX_TEXT.min(length as usize)];
         let (number, entered) = calls::span(self.bytes, place, length, &mut buffer);
-        answer(number, Reached { value: buffer, entered })
+        answer(number, Answer { value: buffer, entered })
     }
 
     /// Rank: how often `byte` occurs in the first `i` bytes.
-    pub fn count(&self, byte: u8, i: u32) -> Result<Reached<u64>, Refusal> {
+    pub fn count(&self, byte: u8, i: u32) -> Result<Answer<u64>, Refusal> {
         let (number, value, entered) = calls::count(self.bytes, byte.into(), i);
-        answer(number, Reached { value, entered })
+        answer(number, Answer { value, entered })
     }
 
     /// Select: the place of the j-th occurrence of `byte`, j from 1.
-    pub fn find(&self, byte: u8, j: u32) -> Result<Reached<u32>, Refusal> {
+    pub fn find(&self, byte: u8, j: u32) -> Result<Answer<u32>, Refusal> {
         let (number, value, entered) = calls::find(self.bytes, byte.into(), j);
-        answer(number, Reached { value, entered })
+        answer(number, Answer { value, entered })
     }
 
     /// Row `q`, from 1, without its byte 10 and without one byte 13 directly before that. The bytes after the last byte 10, if any, are a row too.
@@ -207,7 +207,7 @@ impl<'a> Tree<'a> {
     }
 
     /// The number of rows: the total of byte 10, and one more if the text's last byte is another one.
-    pub fn rows(&self) -> Result<u64, Refusal> {
+    pub fn row_count(&self) -> Result<u64, Refusal> {
         let (number, rows) = calls::row_count(self.bytes);
         answer(number, rows)
     }

@@ -6,7 +6,7 @@ use std::cmp::Ordering;
 
 /// The order of a tree's text and another's, and the length of their longest common prefix.
 #[derive(Clone, Copy, Debug, PartialEq, Eq)]
-pub struct Compared {
+pub struct CompareAnswer {
     /// The order of the first and the other.
     pub ordering: Ordering,
     /// The length of the longest common prefix.
@@ -27,8 +27,8 @@ impl Tree<'_> {
     /// assert_eq!((compared.ordering, compared.shared), (Ordering::Less, 10));
     /// # Ok::<(), codebook::Refusal>(())
     /// ```
-    pub fn compare(&self, other: &Tree) -> Result<Compared, Refusal> {
-        let (number, order, shared, _) = calls::order(self.bytes, other.bytes);
-        answer(number, Compared { ordering: order.cmp(&2), shared })
+    pub fn compare(&self, other: &Tree) -> Result<CompareAnswer, Refusal> {
+        let (number, order, shared, _) = calls::compare(self.bytes, other.bytes);
+        answer(number, CompareAnswer { ordering: order.cmp(&2), shared })
     }
 }

@@ -95,7 +95,7 @@ mod tests {
     #[test]
     fn numbers_are_those_of_the_header() {
         let header = include_str!("../../include/blocktree.h");
-        let numbers = header.split("enum bt_number {").nth(1).and_then(|rest| rest.split("};").next()).expect("the numbers");
+        let numbers = header.split("enum bt_refusal {").nth(1).and_then(|rest| rest.split("};").next()).expect("the numbers");
         for number in 1..=25 {
             let refusal = Refusal::from_number(number).expect("a refusal");
             assert_eq!(refusal.number(), number);

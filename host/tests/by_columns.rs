@@ -82,7 +82,7 @@ fn ask(rng: &mut Rng, tree: &[u8], reached: &mut BTreeSet<u32>) {
         let room = (width.min(200) as usize + rng.below(3)).saturating_sub(rng.below(3));
         let (mut expected, mut got) = (vec![FILL; room].into_boxed_slice(), vec![FILL; room].into_boxed_slice());
         let (number, _) = row(tree, width, a, &mut expected);
-        assert_eq!(calls::column_row(tree, width, a, &mut got), number, "column {width} {a} in {room} {}", to_hex(tree));
+        assert_eq!(calls::row_by_columns(tree, width, a, &mut got), number, "column {width} {a} in {room} {}", to_hex(tree));
         assert!(got == expected, "column {width} {a} in {room} {}", to_hex(tree));
         reached.insert(number);
     }
@@ -103,7 +103,7 @@ fn rows_of_trees() {
             if columns_of(&text, width).is_some() {
                 for (a, expected) in text.chunks(width as usize).enumerate() {
                     let mut buffer = vec![FILL; width as usize];
-                    assert_eq!(calls::column_row(tree, width, a as u32, &mut buffer), 0);
+                    assert_eq!(calls::row_by_columns(tree, width, a as u32, &mut buffer), 0);
                     assert!(buffer == expected);
                 }
             }

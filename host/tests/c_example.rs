@@ -96,7 +96,7 @@ fn words_for_numbers() {
     }
 }
 
-/// BT_MAX_TREE is the largest size that bt_enough returns over all settings, and is that of the longest text.
+/// BT_MAX_TREE is the largest size that bt_size_bound returns over all settings, and is that of the longest text.
 #[test]
 fn the_largest_tree() {
     let program = "\
@@ -107,8 +107,8 @@ int main(void)
         for (uint32_t arity = BT_MIN_ARITY; arity <= BT_MAX_ARITY; arity++)
             for (uint32_t levels = 1; levels <= BT_MAX_LEVELS; levels++)
                 for (uint32_t counted = 0; counted <= BT_MAX_COUNTED; counted++) {
-                    if (bt_enough(BT_MAX_TEXT, leaf, arity, levels, counted, &size) != BT_OK) continue;
-                    if (bt_enough(BT_MAX_TEXT - 1, leaf, arity, levels, counted, &shorter) != BT_OK || shorter > size) return 1;
+                    if (bt_size_bound(BT_MAX_TEXT, leaf, arity, levels, counted, &size) != BT_OK) continue;
+                    if (bt_size_bound(BT_MAX_TEXT - 1, leaf, arity, levels, counted, &shorter) != BT_OK || shorter > size) return 1;
                     if (size > largest) largest = size;
                 }
     printf(\"%d\\n\", largest == BT_MAX_TREE);

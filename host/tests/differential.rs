@@ -39,7 +39,7 @@ fn builds() {
             assert_eq!(library_build(&text, shape, &counted, &mut got), answer, "{shape:?} {counted:?} {}", to_hex(&text));
             assert!(got == expected, "{shape:?} {counted:?} {} in {length}", to_hex(&text));
         }
-        let (number, enough) = calls::enough(text.len() as u32, shape.m, shape.r, shape.h, counted.len() as u32);
+        let (number, enough) = calls::size_bound(text.len() as u32, shape.m, shape.r, shape.h, counted.len() as u32);
         assert_eq!(number, 0);
         assert!(enough >= tree.len() as u64);
     });
@@ -60,7 +60,7 @@ fn build_refusals() {
         let rising = counted.windows(2).all(|pair| pair[0] < pair[1]);
         if answer.0 < 3 || counted.len() > 4 || rising {
             let expected = if answer.0 == 4 { 0 } else { answer.0 };
-            let (number, size) = calls::enough(text.len() as u32, shape.m, shape.r, shape.h, counted.len() as u32);
+            let (number, size) = calls::size_bound(text.len() as u32, shape.m, shape.r, shape.h, counted.len() as u32);
             assert_eq!((number, size == 0), (expected, expected != 0));
         }
     });
@@ -406,7 +406,7 @@ fn key_row(rng: &mut Rng) -> Vec<u8> {
 
 fn ask_at(rng: &mut Rng, tree: &[u8], p: u32) {
     assert_eq!(calls::byte(tree, p), read::byte(tree, p), "byte {p} {}", to_hex(tree));
-    assert_eq!(calls::run(tree, p), read::run(tree, p), "run {p} {}", to_hex(tree));
+    assert_eq!(calls::run_range(tree, p), read::run(tree, p), "run {p} {}", to_hex(tree));
 
     let length = if rng.one_in(20) { rng.next() as u32 } else { rng.below(12) as u32 };
     let space = (length.min(40) as usize + rng.below(3)).saturating_sub(rng.below(3));
@@ -559,7 +559,7 @@ fn past_the_longest() {
         (1, Shape::new(129, 16, 5), (2, 0)),
         (1, Shape::new(256, 16, 5), (2, 0)),
     ] {
-        assert_eq!(calls::enough(n, shape.m, shape.r, shape.h, 4), answer, "{n} {shape:?}");
+        assert_eq!(calls::size_bound(n, shape.m, shape.r, shape.h, 4), answer, "{n} {shape:?}");
     }
 }
 
@@ -571,7 +571,7 @@ fn ask_book(rng: &mut Rng, text: &[u8], shape: Shape, counted: &[u8], tree: &[u8
         let (number, value, entered) = calls::byte(tree, p);
         assert_eq!((number, value), (0, u32::from(text[p as usize])));
         assert_eq!(entered, read::byte(tree, p).2);
-        assert_eq!(calls::run(tree, p), read::run(tree, p));
+        assert_eq!(calls::run_range(tree, p), read::run(tree, p));
         let length = rng.below(200.min(text.len() - p as usize));
         let mut span = lent(length);
         let (number, entered) = calls::span(tree, p, length as u32, &mut span);

@@ -103,7 +103,7 @@ fn told_in_words() {
     let info = tree.info().expect("figures");
     assert_eq!((info.layout, info.length, &info.settings, &info.totals[..]), (2, 9, &settings, &[2, 3][..]));
     assert_eq!((info.leaf_bytes, info.blocks.len()), (tree.leaf_bytes(), 3));
-    assert_eq!((tree.rows(), tree.row_length(1), tree.row_length(2), tree.row_length(3)), (Ok(3), Ok(2), Ok(3), Ok(1)));
+    assert_eq!((tree.row_count(), tree.row_length(1), tree.row_length(2), tree.row_length(3)), (Ok(3), Ok(2), Ok(3), Ok(1)));
     assert_eq!((tree.places_words(1), tree.places_words(9), tree.places_words(10)), (Ok(9), Ok(1), Ok(0)));
     assert_eq!(Tree::unchecked(&bytes[..99]).info().map_err(|refusal| refusal.number()), Err(5));
 }

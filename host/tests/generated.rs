@@ -34,7 +34,7 @@ fn script_succeeds(script: &str, option: &str) {
 /// The drawings and tables are those that their scripts make, what comments and documents cite is there, and the crates keep the conventions.
 #[test]
 fn drawings_tables_citations_and_conventions() {
-    for script in ["drawings/draw.py", "lines.py", "check_citations.py", "check_conventions.py"] {
+    for script in ["drawings/draw.py", "lines.py", "check_citations.py", "check_conventions.py", "check_names.py"] {
         script_succeeds(script, "--check");
     }
 }

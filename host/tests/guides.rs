@@ -26,7 +26,7 @@ fn guided_agrees(expected: Answer<(u32, u32, u32, u32)>, got: (u32, u32, u32, u3
 }
 
 /// Make the guide into tables of no byte, of just enough, of one byte less and of some other length; its size; and check it.
-fn ask_guide(rng: &mut Rng, tree: &[u8]) {
+fn query_guide(rng: &mut Rng, tree: &[u8]) {
     assert_eq!(calls::guide_words(tree), guides::words(tree), "size {}", to_hex(tree));
     let size = guides::guide(tree).map_or(8, |guide| guide.len());
     for length in [0, size, size.saturating_sub(1), rng.below(size + 9)] {
@@ -82,7 +82,7 @@ fn ask_with(rng: &mut Rng, tree: &[u8], guide: &[u8]) {
 }
 
 fn ask(rng: &mut Rng, tree: &[u8]) {
-    ask_guide(rng, tree);
+    query_guide(rng, tree);
     for _ in 0..4 {
         let guide = some_guide(rng, tree);
         for _ in 0..4 {

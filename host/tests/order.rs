@@ -52,7 +52,7 @@ fn beside(rng: &mut Rng, text: &[u8]) -> Vec<u8> {
 
 /// The library's answer, which is the model's.
 fn ask(one: &[u8], other: &[u8]) -> (u32, u32, u32, u32) {
-    let got = calls::order(one, other);
+    let got = calls::compare(one, other);
     assert_eq!(got, order(one, other), "order {} {}", to_hex(one), to_hex(other));
     got
 }
@@ -156,7 +156,7 @@ fn shelves() {
             texts.push(beside(rng, &near));
         }
         let mut shelf: Vec<(Vec<u8>, Vec<u8>)> = texts.iter().map(|text| (tree_of(rng, text), text.clone())).collect();
-        shelf.sort_by(|(one, _), (other, _)| calls::order(one, other).1.cmp(&SAME));
+        shelf.sort_by(|(one, _), (other, _)| calls::compare(one, other).1.cmp(&SAME));
         texts.sort();
         assert!(shelf.iter().map(|(_, text)| text).eq(&texts));
     });
@@ -170,14 +170,14 @@ fn long_books() {
         let text = book(kind, 300_000, seed);
         let one = fast::tree(&text, Shape::new(64, 2, 4), b"\n");
         let same = fast::tree(&text, Shape::new(48, 3, 2), b"");
-        assert_eq!(calls::order(&one, &same), (0, SAME, text.len() as u32, 1));
+        assert_eq!(calls::compare(&one, &same), (0, SAME, text.len() as u32, 1));
         for _ in 0..4 {
             let mut other = text.clone();
             let at = rng.below(other.len());
             other[at] ^= 1 << rng.below(8);
             let tree = fast::tree(&other, Shape::new(100, 4, 3), b"01");
-            assert_eq!(calls::order(&one, &tree), order_of_texts(&text, &other));
-            assert_eq!(calls::order(&tree, &one), order_of_texts(&other, &text));
+            assert_eq!(calls::compare(&one, &tree), order_of_texts(&text, &other));
+            assert_eq!(calls::compare(&tree, &one), order_of_texts(&other, &text));
         }
     }
 }

@@ -59,7 +59,7 @@ fn library() {
         check: calls::check,
         list: |tree| codebook::list(tree).0,
         byte: calls::byte,
-        run: calls::run,
+        run: calls::run_range,
         span: calls::span,
         count: calls::count,
         find: |tree, byte, j| Answer::Settled(calls::find(tree, byte, j)),
@@ -78,7 +78,7 @@ fn library() {
         to_columns: calls::to_columns,
         from_columns: calls::from_columns,
         // the call reports no length: it is the width
-        column_row: |tree, width, a, buffer| match calls::column_row(tree, width, a, buffer) {
+        column_row: |tree, width, a, buffer| match calls::row_by_columns(tree, width, a, buffer) {
             0 => (0, width),
             number => (number, 0),
         },
@@ -94,7 +94,7 @@ fn library() {
         make_guide: calls::make_guide,
         check_guide: calls::check_guide,
         find_guided: |tree, guide, byte, j| Answer::Settled(calls::find_guided(tree, guide, byte, j)),
-        order: calls::order,
+        order: calls::compare,
         without_edges: calls::without_edges,
     });
 }

@@ -114,7 +114,7 @@ fn long_books() {
             assert_eq!(one.row(place % 1000 + 1), other.row(place % 1000 + 1));
         }
         assert_eq!((one.places(b"55"), one.make_guide()), (other.places(b"55"), other.make_guide()));
-        assert_eq!(read::rows_of(&text).len() as u64, other.rows().expect("rows"));
+        assert_eq!(read::rows_of(&text).len() as u64, other.row_count().expect("rows"));
         assert!(one.compare(&other).is_ok_and(|compared| compared.ordering.is_eq()));
     }
 }

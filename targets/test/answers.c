@@ -94,7 +94,7 @@ static void ask_byte(char **word)
 }
 static void ask_run(char **word)
 {
-    const uint32_t number = bt_run(tree, tree_len, number_of(word[0]), &large, &second);
+    const uint32_t number = bt_run_range(tree, tree_len, number_of(word[0]), &large, &second);
     say_figures(number, large, second);
 }
 static void ask_count(char **word)
@@ -124,7 +124,7 @@ static void ask_row(char **word)
 static void ask_column(char **word)
 {
     const uint32_t width = number_of(word[0]);
-    say_bytes(bt_column_row(tree, tree_len, width, number_of(word[1]), buffer, ROOM), width);
+    say_bytes(bt_row_by_columns(tree, tree_len, width, number_of(word[1]), buffer, ROOM), width);
 }
 static void ask_places(char **word)
 {
@@ -146,7 +146,7 @@ static void ask_prefix(char **word)
     say_figures(number, second, first);
 }
 static void ask_digest(char **word) { (void)word, say_bytes(bt_digest(tree, tree_len, buffer, ROOM), BT_DIGEST); }
-static void ask_guide(char **word)
+static void query_guide(char **word)
 {
     const uint32_t number = bt_make_guide(tree, tree_len, buffer, ROOM, &large);
     (void)word;
@@ -157,7 +157,7 @@ static void ask_guide(char **word)
     say_words(number, table, large);
 }
 static void ask_guidecheck(char **word) { say_number(bt_check_guide(tree, tree_len, lent, from_list(word[0], 4))); }
-static void ask_guided(char **word)
+static void query_guided(char **word)
 {
     const uint32_t n = from_list(word[0], 4);
     say_figures(bt_find_guided(tree, tree_len, lent, n, number_of(word[1]), number_of(word[2]), &first, &second, &third), first, second);
@@ -172,11 +172,11 @@ static void ask_prefix_guided(char **word)
     const uint32_t number = bt_next_with_prefix_guided(tree, tree_len, buffer, guide_len, lent, n, &first, &second);
     say_figures(number, second, first);
 }
-static void ask_order(char **word)
+static void query_compare(char **word)
 {
     static const char *const standings[] = {" -", " before", " same", " after"};
     const uint64_t n = file(word[0], other);
-    say_number(bt_order(tree, tree_len, other, n, &first, &second, &third));
+    say_number(bt_compare(tree, tree_len, other, n, &first, &second, &third));
     say(standings[first & 3]);
     say_figure(second);
     say_figure(third);
@@ -206,8 +206,8 @@ static const struct {
 } questions[] = {
     {"check", 0, ask_check}, {"byte", 1, ask_byte}, {"run", 1, ask_run}, {"count", 2, ask_count}, {"find", 2, ask_find}, {"span", 2, ask_span},
     {"row", 1, ask_row}, {"column", 2, ask_column}, {"places", 1, ask_places}, {"match", 2, ask_match}, {"prefix", 2, ask_prefix},
-    {"digest", 0, ask_digest}, {"guide", 0, ask_guide}, {"guidecheck", 1, ask_guidecheck}, {"guided", 3, ask_guided},
-    {"prefix_guided", 3, ask_prefix_guided}, {"order", 1, ask_order},
+    {"digest", 0, ask_digest}, {"guide", 0, query_guide}, {"guidecheck", 1, ask_guidecheck}, {"guided", 3, query_guided},
+    {"prefix_guided", 3, ask_prefix_guided}, {"order", 1, query_compare},
     {"without_edges", 0, ask_without_edges}, {"list", 0, ask_list},
 };
 

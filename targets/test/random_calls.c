@@ -175,7 +175,7 @@ static uint32_t ask_enough(const uint8_t *lent, uint64_t length)
     const uint32_t n = extreme(), m = below(8) ? 1 + below(256) : extreme(), r = below(8) ? 2 + below(15) : extreme();
     const uint32_t h = below(8) ? 1 + below(8) : extreme(), k = below(8) ? below(5) : extreme();
     (void)lent, (void)length;
-    return CALL(bt_enough(n, m, r, h, k, &large));
+    return CALL(bt_size_bound(n, m, r, h, k, &large));
 }
 static uint32_t ask_scan_words(const uint8_t *lent, uint64_t length)
 {
@@ -202,7 +202,7 @@ static uint32_t ask_byte(const uint8_t *lent, uint64_t length)
 static uint32_t ask_run(const uint8_t *lent, uint64_t length)
 {
     const uint32_t place = extreme();
-    return CALL(bt_run(lent, length, place, &large, &second));
+    return CALL(bt_run_range(lent, length, place, &large, &second));
 }
 static uint32_t ask_span(const uint8_t *lent, uint64_t length)
 {
@@ -290,7 +290,7 @@ static uint32_t ask_from_columns(const uint8_t *lent, uint64_t length)
 static uint32_t ask_column_row(const uint8_t *lent, uint64_t length)
 {
     const uint32_t width = any_width(), a = below(3) ? below(50) : extreme(), room = any_room();
-    return CALL(bt_column_row(lent, length, width, a, buffer, room));
+    return CALL(bt_row_by_columns(lent, length, width, a, buffer, room));
 }
 static uint32_t ask_digest(const uint8_t *lent, uint64_t length)
 {
@@ -334,11 +334,11 @@ static uint32_t ask_row_guided(const uint8_t *lent, uint64_t length)
     const uint32_t q = row_number(), room = any_room();
     return CALL(bt_row_guided(lent, length, beside, beside_len, q, buffer, room, &first));
 }
-static uint32_t ask_order(const uint8_t *lent, uint64_t length)
+static uint32_t query_compare(const uint8_t *lent, uint64_t length)
 {
     const int turned = below(2) != 0;
-    return turned ? CALL(bt_order(other, other_len, lent, length, &first, &second, &third))
-                  : CALL(bt_order(lent, length, other, other_len, &first, &second, &third));
+    return turned ? CALL(bt_compare(other, other_len, lent, length, &first, &second, &third))
+                  : CALL(bt_compare(lent, length, other, other_len, &first, &second, &third));
 }
 static uint32_t ask_without_edges(const uint8_t *lent, uint64_t length)
 {
@@ -419,15 +419,15 @@ static const struct {
     const char *name;
     question *ask;
 } functions[] = {
-    {"bt_build", ask_build}, {"bt_build_scanned", ask_build_scanned}, {"bt_scan_words", ask_scan_words}, {"bt_enough", ask_enough},
+    {"bt_build", ask_build}, {"bt_build_scanned", ask_build_scanned}, {"bt_scan_words", ask_scan_words}, {"bt_size_bound", ask_enough},
     {"bt_version", ask_version}, {"bt_without_edges", ask_without_edges}, {"bt_check", ask_check}, {"bt_info", ask_info}, {"bt_byte", ask_byte},
-    {"bt_run", ask_run}, {"bt_span", ask_span}, {"bt_count", ask_count}, {"bt_find", ask_find}, {"bt_row", ask_row},
+    {"bt_run_range", ask_run}, {"bt_span", ask_span}, {"bt_count", ask_count}, {"bt_find", ask_find}, {"bt_row", ask_row},
     {"bt_row_length", ask_row_length}, {"bt_row_count", ask_row_count}, {"bt_places", ask_places}, {"bt_places_words", ask_places_words},
     {"bt_next_match", ask_next_match}, {"bt_next_with_prefix", ask_next_with_prefix},
     {"bt_next_with_prefix_guided", ask_next_with_prefix_guided}, {"bt_to_columns", ask_to_columns}, {"bt_from_columns", ask_from_columns},
-    {"bt_column_row", ask_column_row}, {"bt_digest", ask_digest}, {"bt_digest_text", ask_digest_text}, {"bt_guide_words", ask_guide_words},
+    {"bt_row_by_columns", ask_column_row}, {"bt_digest", ask_digest}, {"bt_digest_text", ask_digest_text}, {"bt_guide_words", ask_guide_words},
     {"bt_make_guide", ask_make_guide}, {"bt_check_guide", ask_check_guide}, {"bt_find_guided", ask_find_guided},
-    {"bt_row_guided", ask_row_guided}, {"bt_order", ask_order}, {"bt_list", ask_list}, {"bt_open_on", ask_open_on},
+    {"bt_row_guided", ask_row_guided}, {"bt_compare", query_compare}, {"bt_list", ask_list}, {"bt_open_on", ask_open_on},
     {"bt_days_left", ask_days_left}, {"bt_renew", ask_renew},
 };
 enum { FUNCTIONS = sizeof functions / sizeof *functions, BUILDERS = 2, NUMBERS = 26 };

@@ -9,4 +9,4 @@ pub mod GuideExportsLaws
 pub mod OrderExportsLaws
 pub mod WithoutEdgesExportsLaws
 pub mod FigureExportsLaws
-pub mod Demands
+pub mod Theorems

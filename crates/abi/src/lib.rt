@@ -1,37 +1,38 @@
 // The calls exported to C. Each returns 0 or the refusal. Figures are written behind references, 0 if refused. Any bytes may be given as a tree.
 mod column_exports;
+pub mod compare_exports;
 mod digest_exports;
 pub mod figure_exports;
 pub mod guide_exports;
 pub mod licence_exports;
-pub mod order_exports;
 pub mod without_edges_exports;
 
-use ask_access::Answer;
-use ask_access::Copied;
-use ask_access::read_by_header::Ran;
-use ask_patterns::PlacesWritten;
-use ask_rank::Counted;
-use ask_rows::RowCopied;
-use ask_select::Found;
-use list_lines::Listed;
+use list_lines::ListAnswer;
+use query_access::ByteAnswer;
+use query_access::SpanAnswer;
+use query_access::read_by_header::RunRangeAnswer;
+use query_places::PlacesAnswer;
+use query_rank::CountAnswer;
 use query_row_filter::NextRowAnswer;
+use query_rows::RowAnswer;
+use query_select::FindAnswer;
 use text::TextPlace;
-use tree::Built;
-use tree::Room;
-use tree::Scanned;
+use tree::BuildAnswer;
+use tree::BuildScannedAnswer;
+use tree::SizeBoundAnswer;
 ghost use mathlib.Core.Path.{_≡_};
 ghost use lib.ListN.{length};
-ghost use Rattle.format.specs.Answers.{buildNumber, buildSize, buildLeaves, byteSays, runSays, spanSays, spanLeaves, countSays, FindBy, RowBy, saying};
-ghost use Rattle.format.specs.TreeReading.{verdict};
+ghost use Rattle.format.specs.Answers.{buildRefusal, buildSize, buildBuffer, byteAnswer, runAnswer};
+ghost use Rattle.format.specs.Answers.{spanAnswer, spanBuffer, countAnswer, FindBy, RowBy, answerWith};
+ghost use Rattle.format.specs.TreeReading.{checkResult};
 ghost use Rattle.format.specs.Layout.{given};
-ghost use Rattle.build_enough.specs.Enough.{enoughSays};
-ghost use Rattle.list_lines.specs.ListedLines.{listSays, listLeaves};
-ghost use Rattle.ask_patterns.specs.Places.{placesSays, placesLeaves, patternOk};
-ghost use Rattle.build_by_scan.specs.ScanAnswers.{tableWords, scanNumber, scanSize, scanWindows, scanLeaves, TableLeft};
+ghost use Rattle.build_size_bound.specs.SizeBound.{sizeBoundAnswer};
+ghost use Rattle.list_lines.specs.ListedLines.{listAnswer, listBuffer};
+ghost use Rattle.query_places.specs.Places.{placesAnswer, placesBuffer, patternOk};
+ghost use Rattle.build_by_scan.specs.ScanAnswers.{tableWords, buildScannedRefusal, scanSize, scanWindows, buildScannedBuffer, TableLeft};
 ghost use Rattle.row_filter.specs.SelectedRows.{startsWith};
 ghost use Rattle.query_row_filter.specs.AllowedRows.{AllowedOutcome, queryRefusal};
-ghost use Rattle.ask_worn_keys.specs.MatchAnswer.{MatchSays};
+ghost use Rattle.query_key_match.specs.MatchAnswer.{MatchOutcome};
 
 // Builds the tree of a text.
 #[no_mangle]
@@ -44,17 +45,17 @@ pub extern "C" fn bt_build(
     out: &mut [u8],
     size: &mut u32,
 ) -> u32
-    ensures number { λ r. ⌜ r ≡ buildNumber (given leaf arity levels (now (counted .entry))) (now (text .entry)) (now (out .entry)) ⌝ }
+    ensures number { λ r. ⌜ r ≡ buildRefusal (given leaf arity levels (now (counted .entry))) (now (text .entry)) (now (out .entry)) ⌝ }
     ensures written { λ _. ⌜ now (size .exit) ≡ buildSize (given leaf arity levels (now (counted .entry))) (now (text .entry)) (now (out .entry)) ⌝ }
-    ensures buffer { λ _. ⌜ now (out .exit) ≡ buildLeaves (given leaf arity levels (now (counted .entry))) (now (text .entry)) (now (out .entry)) ⌝ }
+    ensures buffer { λ _. ⌜ now (out .exit) ≡ buildBuffer (given leaf arity levels (now (counted .entry))) (now (text .entry)) (now (out .entry)) ⌝ }
 {
     let built = tree::build(text, leaf, arity, levels, counted, out);
     match built {
-        Built::Size(n) => {
+        BuildAnswer::Size(n) => {
             *size = n;
             0
         }
-        Built::Refused(number) => {
+        BuildAnswer::Refused(number) => {
             *size = 0;
             number
         }
@@ -75,23 +76,23 @@ pub extern "C" fn bt_build_scanned(
     windows: &mut u32,
 ) -> u32
     ensures number { λ r. ⌜ r
-        ≡ scanNumber (given leaf arity levels (now (counted .entry))) (now (text .entry)) (now (out .entry)) (length (now (work .entry))) ⌝ }
+        ≡ buildScannedRefusal (given leaf arity levels (now (counted .entry))) (now (text .entry)) (now (out .entry)) (length (now (work .entry))) ⌝ }
     ensures written { λ _. ⌜ now (size .exit)
         ≡ scanSize (given leaf arity levels (now (counted .entry))) (now (text .entry)) (now (out .entry)) (length (now (work .entry))) ⌝ }
     ensures looked { λ _. ⌜ now (windows .exit)
         ≡ scanWindows (given leaf arity levels (now (counted .entry))) (now (text .entry)) (now (out .entry)) (length (now (work .entry))) ⌝ }
     ensures buffer { λ _. ⌜ now (out .exit)
-        ≡ scanLeaves (given leaf arity levels (now (counted .entry))) (now (text .entry)) (now (out .entry)) (length (now (work .entry))) ⌝ }
+        ≡ buildScannedBuffer (given leaf arity levels (now (counted .entry))) (now (text .entry)) (now (out .entry)) (length (now (work .entry))) ⌝ }
     ensures table { λ r. ⌜ TableLeft r (now (work .entry)) (now (work .exit)) ⌝ }
 {
     let scanned = tree::build_scanned(text, leaf, arity, levels, counted, work, out);
     match scanned {
-        Scanned::Size(n, w) => {
+        BuildScannedAnswer::Size(n, w) => {
             *size = n;
             *windows = w;
             0
         }
-        Scanned::Refused(number) => {
+        BuildScannedAnswer::Refused(number) => {
             *size = 0;
             *windows = 0;
             number
@@ -109,7 +110,7 @@ pub extern "C" fn bt_scan_words(n: u32, leaf: u32) -> u64
 
 // A size that is enough for the tree of any text of n bytes.
 #[no_mangle]
-pub extern "C" fn bt_enough(
+pub extern "C" fn bt_size_bound(
     n: u32,
     leaf: u32,
     arity: u32,
@@ -117,15 +118,15 @@ pub extern "C" fn bt_enough(
     counted: u32,
     size: &mut u64,
 ) -> u32
-    ensures { λ r. ⌜ saying r (now (size .exit)) 0 ≡ enoughSays n leaf arity levels counted ⌝ }
+    ensures { λ r. ⌜ answerWith r (now (size .exit)) 0 ≡ sizeBoundAnswer n leaf arity levels counted ⌝ }
 {
-    let room = tree::enough(n, leaf, arity, levels, counted);
+    let room = tree::size_bound(n, leaf, arity, levels, counted);
     match room {
-        Room::Bytes(bytes) => {
+        SizeBoundAnswer::Bytes(bytes) => {
             *size = bytes;
             0
         }
-        Room::Refused(number) => {
+        SizeBoundAnswer::Refused(number) => {
             *size = 0;
             number
         }
@@ -135,7 +136,7 @@ pub extern "C" fn bt_enough(
 // Checks a tree: questions 5 to 9.
 #[no_mangle]
 pub extern "C" fn bt_check(tree: &[u8]) -> u32
-    ensures { λ r. ⌜ r ≡ verdict (now (tree .entry)) ⌝ }
+    ensures { λ r. ⌜ r ≡ checkResult (now (tree .entry)) ⌝ }
 {
     tree::check(tree)
 }
@@ -143,16 +144,16 @@ pub extern "C" fn bt_check(tree: &[u8]) -> u32
 // The byte at a place, and the number of blocks entered.
 #[no_mangle]
 pub extern "C" fn bt_byte(tree: &[u8], place: u32, value: &mut u32, entered: &mut u32) -> u32
-    ensures { λ r. ⌜ saying r (now (value .exit)) (now (entered .exit)) ≡ byteSays (now (tree .entry)) place ⌝ }
+    ensures { λ r. ⌜ answerWith r (now (value .exit)) (now (entered .exit)) ≡ byteAnswer (now (tree .entry)) place ⌝ }
 {
-    let answer = ask_access::byte(tree, TextPlace(place));
+    let answer = query_access::byte(tree, TextPlace(place));
     match answer {
-        Answer::Byte(byte, blocks) => {
+        ByteAnswer::Byte(byte, blocks) => {
             *value = byte as u32;
             *entered = blocks;
             0
         }
-        Answer::Refused(number) => {
+        ByteAnswer::Refused(number) => {
             *value = 0;
             *entered = 0;
             number
@@ -162,19 +163,19 @@ pub extern "C" fn bt_byte(tree: &[u8], place: u32, value: &mut u32, entered: &mu
 
 // Where the run of a place starts in the bytes of the tree, and its length.
 #[no_mangle]
-pub extern "C" fn bt_run(tree: &[u8], place: u32, offset: &mut u64, len: &mut u32) -> u32
-    ensures { λ r. ⌜ r ≡ byteSays (now (tree .entry)) place .number ⌝ }
-    ensures { λ _. ⌜ now (offset .exit) ≡ runSays (now (tree .entry)) place .0 ⌝ }
-    ensures { λ _. ⌜ now (len .exit) ≡ runSays (now (tree .entry)) place .1 ⌝ }
+pub extern "C" fn bt_run_range(tree: &[u8], place: u32, offset: &mut u64, len: &mut u32) -> u32
+    ensures { λ r. ⌜ r ≡ byteAnswer (now (tree .entry)) place .number ⌝ }
+    ensures { λ _. ⌜ now (offset .exit) ≡ runAnswer (now (tree .entry)) place .0 ⌝ }
+    ensures { λ _. ⌜ now (len .exit) ≡ runAnswer (now (tree .entry)) place .1 ⌝ }
 {
-    let ran = ask_access::run_part(tree, TextPlace(place));
+    let ran = query_access::run_range(tree, TextPlace(place));
     match ran {
-        Ran::At(part) => {
+        RunRangeAnswer::At(part) => {
             *offset = part.from as u64;
             *len = part.length as u32;
             0
         }
-        Ran::Refused(number) => {
+        RunRangeAnswer::Refused(number) => {
             *offset = 0;
             *len = 0;
             number
@@ -191,17 +192,17 @@ pub extern "C" fn bt_span(
     buffer: &mut [u8],
     entered: &mut u32,
 ) -> u32
-    ensures { λ r. ⌜ r ≡ spanSays (now (tree .entry)) place len (length (now (buffer .entry))) .number ⌝ }
-    ensures { λ _. ⌜ now (entered .exit) ≡ spanSays (now (tree .entry)) place len (length (now (buffer .entry))) .entered ⌝ }
-    ensures { λ _. ⌜ now (buffer .exit) ≡ spanLeaves (now (tree .entry)) place len (now (buffer .entry)) ⌝ }
+    ensures { λ r. ⌜ r ≡ spanAnswer (now (tree .entry)) place len (length (now (buffer .entry))) .number ⌝ }
+    ensures { λ _. ⌜ now (entered .exit) ≡ spanAnswer (now (tree .entry)) place len (length (now (buffer .entry))) .entered ⌝ }
+    ensures { λ _. ⌜ now (buffer .exit) ≡ spanBuffer (now (tree .entry)) place len (now (buffer .entry)) ⌝ }
 {
-    let copied = ask_access::span(tree, TextPlace(place), len, buffer);
+    let copied = query_access::span(tree, TextPlace(place), len, buffer);
     match copied {
-        Copied::Bytes(_, blocks) => {
+        SpanAnswer::Bytes(_, blocks) => {
             *entered = blocks;
             0
         }
-        Copied::Refused(number) => {
+        SpanAnswer::Refused(number) => {
             *entered = 0;
             number
         }
@@ -217,21 +218,21 @@ pub extern "C" fn bt_count(
     times: &mut u64,
     entered: &mut u32,
 ) -> u32
-    ensures { λ r. ⌜ saying r (now (times .exit)) (now (entered .exit)) ≡ countSays (now (tree .entry)) byte i ⌝ }
+    ensures { λ r. ⌜ answerWith r (now (times .exit)) (now (entered .exit)) ≡ countAnswer (now (tree .entry)) byte i ⌝ }
 {
     if 255 < byte {
         *times = 0;
         *entered = 0;
-        return ask_rank::uncounted::uncounted(tree, i);
+        return query_rank::uncounted::uncounted(tree, i);
     }
-    let counted = ask_rank::count(tree, byte as u8, i);
+    let counted = query_rank::count(tree, byte as u8, i);
     match counted {
-        Counted::Times(count, visits) => {
+        CountAnswer::Times(count, visits) => {
             *times = count;
             *entered = visits;
             0
         }
-        Counted::Refused(number) => {
+        CountAnswer::Refused(number) => {
             *times = 0;
             *entered = 0;
             number
@@ -242,21 +243,21 @@ pub extern "C" fn bt_count(
 // The place of the j-th occurrence of a counted byte, and the number of blocks on its path.
 #[no_mangle]
 pub extern "C" fn bt_find(tree: &[u8], byte: u32, j: u32, place: &mut u32, entered: &mut u32) -> u32
-    ensures { λ r. ⌜ FindBy (now (tree .entry)) (verdict (now (tree .entry))) byte j (saying r (now (place .exit)) (now (entered .exit))) ⌝ }
+    ensures { λ r. ⌜ FindBy (now (tree .entry)) (checkResult (now (tree .entry))) byte j (answerWith r (now (place .exit)) (now (entered .exit))) ⌝ }
 {
     if 255 < byte {
         *place = 0;
         *entered = 0;
-        return ask_rank::uncounted::uncounted(tree, 0);
+        return query_rank::uncounted::uncounted(tree, 0);
     }
-    let found = ask_select::find(tree, byte as u8, j);
+    let found = query_select::find(tree, byte as u8, j);
     match found {
-        Found::At(at, path) => {
+        FindAnswer::At(at, path) => {
             *place = at.0;
             *entered = path;
             0
         }
-        Found::Refused(number) => {
+        FindAnswer::Refused(number) => {
             *place = 0;
             *entered = 0;
             number
@@ -267,15 +268,15 @@ pub extern "C" fn bt_find(tree: &[u8], byte: u32, j: u32, place: &mut u32, enter
 // Copies row q and returns its length.
 #[no_mangle]
 pub extern "C" fn bt_row(tree: &[u8], q: u32, buffer: &mut [u8], len: &mut u32) -> u32
-    ensures { λ r. ⌜ RowBy (now (tree .entry)) (verdict (now (tree .entry))) q (now (buffer .entry)) r (now (len .exit)) (now (buffer .exit)) ⌝ }
+    ensures { λ r. ⌜ RowBy (now (tree .entry)) (checkResult (now (tree .entry))) q (now (buffer .entry)) r (now (len .exit)) (now (buffer .exit)) ⌝ }
 {
-    let copied = ask_rows::row(tree, q, buffer);
+    let copied = query_rows::row(tree, q, buffer);
     match copied {
-        RowCopied::Bytes(size) => {
+        RowAnswer::Bytes(size) => {
             *len = size;
             0
         }
-        RowCopied::Refused(number) => {
+        RowAnswer::Refused(number) => {
             *len = 0;
             number
         }
@@ -285,16 +286,16 @@ pub extern "C" fn bt_row(tree: &[u8], q: u32, buffer: &mut [u8], len: &mut u32) 
 // Writes all places of a pattern and returns their number.
 #[no_mangle]
 pub extern "C" fn bt_places(tree: &[u8], pattern: &[u8], table: &mut [u32], number: &mut u32) -> u32
-    ensures { λ r. ⌜ saying r (now (number .exit)) 0 ≡ placesSays (now (tree .entry)) (now (pattern .entry)) (length (now (table .entry))) ⌝ }
-    ensures { λ _. ⌜ now (table .exit) ≡ placesLeaves (now (tree .entry)) (now (pattern .entry)) (now (table .entry)) ⌝ }
+    ensures { λ r. ⌜ answerWith r (now (number .exit)) 0 ≡ placesAnswer (now (tree .entry)) (now (pattern .entry)) (length (now (table .entry))) ⌝ }
+    ensures { λ _. ⌜ now (table .exit) ≡ placesBuffer (now (tree .entry)) (now (pattern .entry)) (now (table .entry)) ⌝ }
 {
-    let written = ask_patterns::places(tree, pattern, table);
+    let written = query_places::places(tree, pattern, table);
     match written {
-        PlacesWritten::Number(n) => {
+        PlacesAnswer::Number(n) => {
             *number = n;
             0
         }
-        PlacesWritten::Refused(q) => {
+        PlacesAnswer::Refused(q) => {
             *number = 0;
             q
         }
@@ -304,11 +305,11 @@ pub extern "C" fn bt_places(tree: &[u8], pattern: &[u8], table: &mut [u32], numb
 // Moves the mark to the next row that matches and returns that row, 0 for none. If refused, the mark is unchanged.
 #[no_mangle]
 pub extern "C" fn bt_next_match(tree: &[u8], ranges: &[u8], mark: &mut u32, row: &mut u32) -> u32
-    ensures { λ r. ⌜ MatchSays
+    ensures { λ r. ⌜ MatchOutcome
         (now (tree .entry)) (now (ranges .entry)) (now (mark .entry)) (record { refusal = r; row = now (row .exit); mark = now (mark .exit) }) ⌝ }
 {
     let at = *mark;
-    let shown = ask_worn_keys::next_match(tree, ranges, at);
+    let shown = query_key_match::next_match(tree, ranges, at);
     match shown {
         NextRowAnswer::Row(q) => {
             *row = q;
@@ -335,11 +336,12 @@ pub extern "C" fn bt_next_with_prefix(
     mark: &mut u32,
     row: &mut u32,
 ) -> u32
-    ensures { λ r. ⌜ AllowedOutcome (now (tree .entry)) (verdict (now (tree .entry))) (queryRefusal (now (tree .entry)) 16 (patternOk (now (prefix .entry))))
+    ensures { λ r. ⌜ AllowedOutcome (now (tree .entry)) (checkResult (now (tree .entry)))
+        (queryRefusal (now (tree .entry)) 16 (patternOk (now (prefix .entry))))
         (startsWith (now (prefix .entry))) (now (mark .entry)) (record { refusal = r; row = now (row .exit); mark = now (mark .exit) }) ⌝ }
 {
     let at = *mark;
-    let answer = query_prefix::next_row_with_prefix(tree, prefix, at);
+    let answer = query_prefix::next_with_prefix(tree, prefix, at);
     match answer {
         NextRowAnswer::Row(q) => {
             *row = q;
@@ -361,16 +363,16 @@ pub extern "C" fn bt_next_with_prefix(
 // Writes a line for each level of a tree.
 #[no_mangle]
 pub extern "C" fn bt_list(tree: &[u8], out: &mut [u8], len: &mut u32) -> u32
-    ensures { λ r. ⌜ saying r (now (len .exit)) 0 ≡ listSays (now (tree .entry)) (length (now (out .entry))) ⌝ }
-    ensures { λ _. ⌜ now (out .exit) ≡ listLeaves (now (tree .entry)) (now (out .entry)) ⌝ }
+    ensures { λ r. ⌜ answerWith r (now (len .exit)) 0 ≡ listAnswer (now (tree .entry)) (length (now (out .entry))) ⌝ }
+    ensures { λ _. ⌜ now (out .exit) ≡ listBuffer (now (tree .entry)) (now (out .entry)) ⌝ }
 {
     let listed = list_lines::list(tree, out);
     match listed {
-        Listed::Bytes(n) => {
+        ListAnswer::Bytes(n) => {
             *len = n;
             0
         }
-        Listed::Refused(number) => {
+        ListAnswer::Refused(number) => {
             *len = 0;
             number
         }

@@ -1,6 +1,6 @@
 pub mod TableRoom
 pub mod ScannedFillLaws
 pub mod WindowsCounted
-pub mod TableTold
+pub mod TableGivesMarking
 pub mod ScannedLevelsLaws
 pub mod ScannedOutcomes

@@ -8,7 +8,7 @@ use lib.ListN.{length}
 use Rattle.format.specs.Layout.{Settings, pieces}
 use Rattle.format.specs.PieceLaws.{lt-pieces}
 use Rattle.format.specs.SizeLaws.{length-falls}
-use Rattle.theory_built.specs.BlockSizes.{Taken, Bounds, bounds, size-falls, size-last}
+use Rattle.theory_built.specs.BlockSizes.{Taken, BuiltBounds, bounds, size-falls, size-last}
 use Rattle.theory_built.specs.LevelBlocks.{Level as InOrder}
 use Rattle.theory_built.specs.Structure.{size, count, start, level-at}
 use Rattle.build_by_scan.specs.ScanAnswers.{tableWords}
@@ -23,7 +23,7 @@ unfolding pieces
 pieces-few n m = omega (arith, div-le-self (n + (m - 1)) m)
 
 module _ (S : Settings) (T : List ℕ) (h : Taken S T) (l : ℕ) (k : suc l < S .levels) where
-  limits : Bounds S T
+  limits : BuiltBounds S T
   limits = bounds S T h
 
   pub order : InOrder (length T) (size S T l) (count S T l) (start S T l)

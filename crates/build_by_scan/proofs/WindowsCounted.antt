@@ -16,15 +16,15 @@ use Rattle.format.specs.Layout.{Settings, blockLength, maxText}
 use Rattle.format.specs.Blocks.{recordBytes, startsAt, pairAt}
 use Rattle.theory_built.specs.Structure.{count, start, bytesIn}
 use Rattle.build_records.specs.declared.level_written.Level.{Level}
-use Rattle.build_records.specs.State.{settingsOf}
-use Rattle.build_levels.specs.Trees.{Ready}
-use Rattle.scan_windows.specs.Windows.{placesOf}
-use Rattle.scan_windows.proofs.WindowLaws.{places-none, places-some}
-use Rattle.scan_entries.specs.declared.Items.{Items}
-use Rattle.scan_entries.specs.Entries.{startAt, lengthAt}
-use Rattle.scan_passes.specs.declared.Lengths.{Lengths}
-use Rattle.scan_passes.specs.Passes.{Present, Ordered, Among, Has, Noted, Counted}
-use Rattle.scan_passes.proofs.ItemLengths.{length-low, length-high, length-most, next-in}
+use Rattle.build_records.specs.State.{recordSettingsOf}
+use Rattle.build_levels.specs.Trees.{LevelReady}
+use Rattle.scan_rolling_hash.specs.Windows.{placesOf}
+use Rattle.scan_rolling_hash.proofs.WindowLaws.{places-none, places-some}
+use Rattle.scan_hash_table.specs.declared.Items.{Items}
+use Rattle.scan_hash_table.specs.Entries.{startAt, lengthAt}
+use Rattle.scan_pass.specs.declared.Lengths.{Lengths}
+use Rattle.scan_pass.specs.Passes.{Present, Ordered, Among, Has, LengthNoted, Counted}
+use Rattle.scan_pass.proofs.ItemLengths.{length-low, length-high, length-most, next-in}
 use Rattle.build_by_scan.specs.ScanAnswers.{anyBelow, hasLength, windowsAt}
 use Rattle.build_by_scan.specs.ItemTable.{itemsSay, pairBytes}
 use Rattle.build_by_scan.proofs.ScannedFillLaws as lev
@@ -102,9 +102,9 @@ sum-add zero f g = refl
 sum-add (suc k) f g = omega (arith, sum-add k f g)
 
 module _ (seed : ℕ) (T out cs : List ℕ) (level : Level)
-    (r : Ready (settingsOf (level .settings) cs) T out level) (k : level .number + 1 < level .settings .levels) (some : 1 ≤ level .count) where
+    (r : LevelReady (recordSettingsOf (level .settings) cs) T out level) (k : level .number + 1 < level .settings .levels) (some : 1 ≤ level .count) where
   abbrev S : Settings
-  S = settingsOf (level .settings) cs
+  S = recordSettingsOf (level .settings) cs
 
   abbrev l : ℕ
   l = level .number
@@ -183,7 +183,7 @@ module _ (seed : ℕ) (T out cs : List ℕ) (level : Level)
       go (i, il, t) = by i il (or-cases (eqb (bytesIn S T l i) n) (pairAt T (blockLength S l) (startsAt S T l) i && eqb (pairBytes S T l i) n) t)
 
   -- The lengths noted.
-  module _ (g : Lengths) (s : Noted T out it (it .items) g) where
+  module _ (g : Lengths) (s : LengthNoted T out it (it .items) g) where
     abbrev n : ℕ
     n = length T
 

@@ -10,9 +10,9 @@ use Rattle.format.specs.Blocks.{startsAt, pairAt}
 use Rattle.theory_built.specs.Structure.{count, start}
 use Rattle.theory_built.specs.BuiltTargets.{placeOf}
 use Rattle.build_records.specs.declared.level_written.Level.{Level}
-use Rattle.scan_entries.specs.declared.Items.{Items}
-use Rattle.scan_entries.specs.Entries.{placeIn}
-use Rattle.scan_passes.specs.Passes.{placeOut}
+use Rattle.scan_hash_table.specs.declared.Items.{Items}
+use Rattle.scan_hash_table.specs.Entries.{itemPlaceIn}
+use Rattle.scan_pass.specs.Passes.{placeOut}
 
 -- The items of a level of a text of n bytes, with records of `step` bytes, and the number of chains that the table has room for.
 abbrev pub itemsSay : ℕ → ℕ → Level → ℕ → Items
@@ -31,12 +31,12 @@ module _ (S : Settings) (T : List ℕ) (l : ℕ) where
   pairBytes i = min (blockLength S l + blockLength S l) (length T - start S T l i)
 
   -- The results in the table for the blocks and pairs of level l, which is above the last.
-  pub record Told (W : List ℕ) : Type 0 where
+  pub record TableGivesMarking (W : List ℕ) : Type 0 where
     pub upper : suc l < S .levels
     pub room : 6 * count S T l ≤ length W + 3
     pub place : (i : ℕ) → i < count S T l → placeOut (length T) W (2 * i) ≡ placeOf S T l i
-    pub twins : (i : ℕ) → i < count S T l → length T ≤ placeIn W (2 * i) → placeIn W (2 * i) < length T + 2 * i
-    pub first : (i : ℕ) → i < count S T l → pairAt T (blockLength S l) (startsAt S T l) i ≡ true → placeIn W (2 * i + 1) ≡ start S T l i
+    pub twins : (i : ℕ) → i < count S T l → length T ≤ itemPlaceIn W (2 * i) → itemPlaceIn W (2 * i) < length T + 2 * i
+    pub first : (i : ℕ) → i < count S T l → pairAt T (blockLength S l) (startsAt S T l) i ≡ true → itemPlaceIn W (2 * i + 1) ≡ start S T l i
         → leftmost T (start S T l i) (pairBytes i) ≡ start S T l i
-    pub again : (i : ℕ) → i < count S T l → pairAt T (blockLength S l) (startsAt S T l) i ≡ true → (placeIn W (2 * i + 1) ≡ start S T l i → ⊥)
+    pub again : (i : ℕ) → i < count S T l → pairAt T (blockLength S l) (startsAt S T l) i ≡ true → (itemPlaceIn W (2 * i + 1) ≡ start S T l i → ⊥)
         → leftmost T (start S T l i) (pairBytes i) ≡ start S T l i → ⊥

@@ -11,8 +11,8 @@ use Rattle.format.specs.Layout.{Settings, blockLength, pieces, lengthOk, sizesO
 use Rattle.format.specs.Blocks.{treeOf, startsAt, startOf, lengthOf, pairAt}
 use Rattle.format.specs.TreeReading.{asks}
 use Rattle.format.specs.Answers.{Reply, figures, refusal}
-use Rattle.build_by_scan.specs.declared.Scanned.{Scanned}
-use Rattle.build_by_scan.specs.declared.Scanned.the-variants.{Size, Refused}
+use Rattle.build_by_scan.specs.declared.BuildScannedAnswer.{BuildScannedAnswer}
+use Rattle.build_by_scan.specs.declared.BuildScannedAnswer.the-variants.{Size, Refused}
 
 -- What build_scanned returns, and what the caller's buffer and table contain afterwards.
 -- docs/FORMAT.md: "Two builders", "What is left in lent buffers".
@@ -45,24 +45,24 @@ tableWords n m = 4 * pieces n m
 -- The arguments, with a table of `words` words.
 module _ (S : Settings) (T out : List ℕ) (words : ℕ) where
   -- The refusal: questions 1 to 3, then 18 and 4; 0 if all pass.
-  unfoldable pub scanNumber : ℕ
-  scanNumber =
+  unfoldable pub buildScannedRefusal : ℕ
+  buildScannedRefusal =
       asks ((1, lengthOk (length T)) ∷ (2, sizesOk S) ∷ (3, countedOk (S .counted))
       ∷ (18, leb (tableWords (length T) (S .leaf)) words) ∷ (4, leb (length (treeOf S T)) (length out)) ∷ [])
 
   -- The size of the tree; 0 if refused.
   unfoldable pub scanSize : ℕ
-  scanSize = cond (eqb scanNumber 0) (length (treeOf S T)) 0
+  scanSize = cond (eqb buildScannedRefusal 0) (length (treeOf S T)) 0
 
   -- The number of windows looked up; 0 if refused.
   unfoldable pub scanWindows : ℕ
-  scanWindows = cond (eqb scanNumber 0) (windowsOf S T) 0
+  scanWindows = cond (eqb buildScannedRefusal 0) (windowsOf S T) 0
 
   -- The buffer afterwards: the tree, then its old bytes; all zeros if the tree does not fit (4); unchanged for any other refusal.
-  unfoldable pub scanLeaves : List ℕ
-  scanLeaves =
-      cond (eqb scanNumber 0) (treeOf S T ++ drop (length (treeOf S T)) out)
-      (cond (eqb scanNumber 4) (replicate (length out) 0) out)
+  unfoldable pub buildScannedBuffer : List ℕ
+  buildScannedBuffer =
+      cond (eqb buildScannedRefusal 0) (treeOf S T ++ drop (length (treeOf S T)) out)
+      (cond (eqb buildScannedRefusal 4) (replicate (length out) 0) out)
 
 -- The table afterwards: unchanged by every refusal but 4, else any words.
 pub record TableLeft (number : ℕ) (old new : List ℕ) : Type 0 where
@@ -72,6 +72,6 @@ pub record TableLeft (number : ℕ) (old new : List ℕ) : Type 0 where
 -- The answer of build_scanned by its refusal and figures.
 
 -- The tree's size and the windows looked up.
-abbrev pub scannedReply : Scanned → Reply
-scannedReply (Size n w) = figures n w
-scannedReply (Refused q) = refusal q
+abbrev pub buildScannedReply : BuildScannedAnswer → Reply
+buildScannedReply (Size n w) = figures n w
+buildScannedReply (Refused q) = refusal q

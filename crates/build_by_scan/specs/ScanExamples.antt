@@ -8,40 +8,41 @@ use Rattle.format.specs.Layout.{wordsBytes, wordBytes, Settings, blockLength, p
 use Rattle.format.specs.Layout.{edgesOf, filledOut}
 use Rattle.format.specs.Blocks.{treeOf, header, leafBytes, levelPairs, recordBytes, levelBytes, recordIn, recordOf, target, occurrence, width, isKept}
 use Rattle.format.specs.Blocks.{startsAt, cut, keptByPairs, firstPairAt, pairAt, lengthOf, startOf}
-use Rattle.build_by_scan.specs.ScanAnswers.{anyBelow, hasLength, windowsAt, windowsOf, tableWords, scanNumber, scanSize, scanWindows}
+use Rattle.build_by_scan.specs.ScanAnswers.{anyBelow, hasLength, windowsAt, windowsOf, tableWords, buildScannedRefusal, scanSize, scanWindows}
 
-book : List ℕ
-book = 81 ∷ 65 ∷ 66 ∷ 67 ∷ 68 ∷ 65 ∷ 66 ∷ 67 ∷ 68 ∷ 69 ∷ 70 ∷ 71 ∷ 65 ∷ 66 ∷ 67 ∷ 68 ∷ 65 ∷ 66 ∷ 67 ∷ 68 ∷ []
+scan-book : List ℕ
+scan-book = 81 ∷ 65 ∷ 66 ∷ 67 ∷ 68 ∷ 65 ∷ 66 ∷ 67 ∷ 68 ∷ 69 ∷ 70 ∷ 71 ∷ 65 ∷ 66 ∷ 67 ∷ 68 ∷ 65 ∷ 66 ∷ 67 ∷ 68 ∷ []
 
-abcd : List ℕ
-abcd = 65 ∷ 66 ∷ 67 ∷ 68 ∷ 65 ∷ 66 ∷ 67 ∷ 68 ∷ 65 ∷ []
+scan-abcd : List ℕ
+scan-abcd = 65 ∷ 66 ∷ 67 ∷ 68 ∷ 65 ∷ 66 ∷ 67 ∷ 68 ∷ 65 ∷ []
 
 with-levels : ℕ → List ℕ → Settings
 with-levels H cs = record { leaf = 2; arity = 2; levels = H; counted = cs }
 
 pub record Scans : Type 0 where
   -- Lengths 4 and 8; lengths 4, 1, 8 and 5; one level; three levels, the first with lengths 8, 4, 16 and 12.
-  worked : windowsOf (with-levels 2 (65 ∷ [])) book ≡ 30
-  short : windowsOf (with-levels 2 []) abcd ≡ 22
+  worked : windowsOf (with-levels 2 (65 ∷ [])) scan-book ≡ 30
+  short : windowsOf (with-levels 2 []) scan-abcd ≡ 22
   alike : windowsOf (with-levels 2 []) (replicate 12 65) ≡ 14
-  one-level : windowsOf (with-levels 1 []) book ≡ 0
-  three-levels : windowsOf (with-levels 3 []) book ≡ 74
+  one-level : windowsOf (with-levels 1 []) scan-book ≡ 0
+  three-levels : windowsOf (with-levels 3 []) scan-book ≡ 74
   -- A text shorter than a leaf: four words.
   begun : (tableWords 2 2 ≡ 4) × (windowsOf (with-levels 3 []) (65 ∷ 66 ∷ []) ≡ 2)
   -- A text of no bytes: no words, no windows.
-  no-text : (tableWords 0 2 ≡ 0) × (windowsOf (with-levels 3 []) [] ≡ 0) × (scanNumber (with-levels 3 []) [] (replicate 100 7) 0 ≡ 0)
+  no-text : (tableWords 0 2 ≡ 0) × (windowsOf (with-levels 3 []) [] ≡ 0) × (buildScannedRefusal (with-levels 3 []) [] (replicate 100 7) 0 ≡ 0)
   -- 40 words are required; 18 comes before 4, and 3 before 18.
-  table-short : scanNumber (with-levels 2 (65 ∷ [])) book (replicate 531 7) 39 ≡ 18
-  buffer-short : scanNumber (with-levels 2 (65 ∷ [])) book (replicate 531 7) 40 ≡ 4
-  both-fit : (scanNumber (with-levels 2 (65 ∷ [])) book (replicate 532 7) 40 ≡ 0) × (scanSize (with-levels 2 (65 ∷ [])) book (replicate 532 7) 40 ≡ 532)
-      × (scanWindows (with-levels 2 (65 ∷ [])) book (replicate 532 7) 40 ≡ 30)
-  counted-twice : scanNumber (with-levels 2 (65 ∷ 65 ∷ [])) book [] 0 ≡ 3
+  table-short : buildScannedRefusal (with-levels 2 (65 ∷ [])) scan-book (replicate 531 7) 39 ≡ 18
+  buffer-short : buildScannedRefusal (with-levels 2 (65 ∷ [])) scan-book (replicate 531 7) 40 ≡ 4
+  both-fit : (buildScannedRefusal (with-levels 2 (65 ∷ [])) scan-book (replicate 532 7) 40 ≡ 0)
+      × (scanSize (with-levels 2 (65 ∷ [])) scan-book (replicate 532 7) 40 ≡ 532)
+      × (scanWindows (with-levels 2 (65 ∷ [])) scan-book (replicate 532 7) 40 ≡ 30)
+  counted-twice : buildScannedRefusal (with-levels 2 (65 ∷ 65 ∷ [])) scan-book [] 0 ≡ 3
 
 pub scans : Scans
-unfolding book abcd with-levels tabulate concat sumBelow
+unfolding scan-book scan-abcd with-levels tabulate concat sumBelow
     countBelow sameList stretch leftmost firstFrom countIn wordsBytes wordBytes blockLength pieces lengthOk sizesOk countedOk rising risingAfter
     treeOf header leafBytes levelPairs recordBytes recordLength edgesOf filledOut levelBytes recordIn recordOf target occurrence width isKept
-    startsAt cut keptByPairs firstPairAt pairAt lengthOf startOf anyBelow hasLength windowsAt windowsOf tableWords scanNumber scanSize scanWindows
+    startsAt cut keptByPairs firstPairAt pairAt lengthOf startOf anyBelow hasLength windowsAt windowsOf tableWords buildScannedRefusal scanSize scanWindows
 scans = record {
   worked = refl;
   short = refl;

@@ -4,15 +4,16 @@ mod scanned_fill;
 mod scanned_levels;
 mod table;
 
-use layout::settings::Checked;
 use layout::settings::Settings;
+use layout::settings::SettingsAnswer;
 ghost use mathlib.Core.Path.{_≡_};
 ghost use lib.ListN.{length};
 ghost use Rattle.format.specs.Answers.{replied};
 ghost use Rattle.theory_built.specs.BlockSizes.{Taken};
 ghost use Rattle.format.specs.Layout.{given};
-ghost use Rattle.build_records.specs.State.{settingsOf};
-ghost use Rattle.build_by_scan.specs.ScanAnswers.{scannedReply, tableWords, scanNumber, scanSize, scanWindows, scanLeaves, TableLeft};
+ghost use Rattle.build_records.specs.State.{recordSettingsOf};
+ghost use Rattle.build_by_scan.specs.ScanAnswers.{buildScannedReply, tableWords, buildScannedRefusal};
+ghost use Rattle.build_by_scan.specs.ScanAnswers.{scanSize, scanWindows, buildScannedBuffer, TableLeft};
 
 // The number of words that the table must have for a text of n bytes.
 pub fn scan_words(n: u32, leaf: u32) -> u64
@@ -25,7 +26,7 @@ pub fn scan_words(n: u32, leaf: u32) -> u64
 }
 
 // The size of the tree and the number of windows looked up, or the refusal.
-pub enum Scanned {
+pub enum BuildScannedAnswer {
     Size(u32, u32),
     Refused(u32),
 }
@@ -41,47 +42,54 @@ pub fn build_scanned(
     counted: &[u8],
     words: &mut [u32],
     out: &mut [u8],
-) -> Scanned
-    ensures number { λ r. ⌜ replied (scannedReply r) .number
-        ≡ scanNumber (given leaf arity levels (now (counted .entry))) (now (text .entry)) (now (out .entry)) (length (now (words .entry))) ⌝ }
-    ensures size { λ r. ⌜ replied (scannedReply r) .value
+) -> BuildScannedAnswer
+    ensures number { λ r. ⌜ replied (buildScannedReply r) .number
+        ≡ buildScannedRefusal (given leaf arity levels (now (counted .entry))) (now (text .entry)) (now (out .entry)) (length (now (words .entry))) ⌝ }
+    ensures size { λ r. ⌜ replied (buildScannedReply r) .value
         ≡ scanSize (given leaf arity levels (now (counted .entry))) (now (text .entry)) (now (out .entry)) (length (now (words .entry))) ⌝ }
-    ensures windows { λ r. ⌜ replied (scannedReply r) .entered
+    ensures windows { λ r. ⌜ replied (buildScannedReply r) .entered
         ≡ scanWindows (given leaf arity levels (now (counted .entry))) (now (text .entry)) (now (out .entry)) (length (now (words .entry))) ⌝ }
     ensures buffer { λ _. ⌜ now (out .exit)
-        ≡ scanLeaves (given leaf arity levels (now (counted .entry))) (now (text .entry)) (now (out .entry)) (length (now (words .entry))) ⌝ }
-    ensures table { λ r. ⌜ TableLeft (replied (scannedReply r) .number) (now (words .entry)) (now (words .exit)) ⌝ }
+        ≡ buildScannedBuffer (given leaf arity levels (now (counted .entry))) (now (text .entry)) (now (out .entry)) (length (now (words .entry))) ⌝ }
+    ensures table { λ r. ⌜ TableLeft (replied (buildScannedReply r) .number) (now (words .entry)) (now (words .exit)) ⌝ }
 {
     if (Settings::MAX_TEXT as usize) < text.len() {
-        return Scanned::Refused(1);
+        return BuildScannedAnswer::Refused(1);
     }
     let checked = Settings::new(leaf, arity, levels, counted);
     match checked {
-        Checked::Fine(s) => scan_with(text, counted, s, words, out),
-        Checked::Refused(q) => Scanned::Refused(q),
+        SettingsAnswer::Fine(s) => scan_with(text, counted, s, words, out),
+        SettingsAnswer::Refused(q) => BuildScannedAnswer::Refused(q),
     }
 }
 
 // The same, for settings that pass questions 1 to 3.
-fn scan_with(text: &[u8], counted: &[u8], s: Settings, words: &mut [u32], out: &mut [u8]) -> Scanned
-    requires { ⌜ Taken (settingsOf s (now counted)) (now text) ⌝ }
-    ensures { λ r. ⌜ replied (scannedReply r) .number
-        ≡ scanNumber (settingsOf s (now (counted .entry))) (now (text .entry)) (now (out .entry)) (length (now (words .entry))) ⌝ }
-    ensures { λ r. ⌜ replied (scannedReply r) .value
-        ≡ scanSize (settingsOf s (now (counted .entry))) (now (text .entry)) (now (out .entry)) (length (now (words .entry))) ⌝ }
-    ensures { λ r. ⌜ replied (scannedReply r) .entered
-        ≡ scanWindows (settingsOf s (now (counted .entry))) (now (text .entry)) (now (out .entry)) (length (now (words .entry))) ⌝ }
-    ensures { λ _. ⌜ now (out .exit) ≡ scanLeaves (settingsOf s (now (counted .entry))) (now (text .entry)) (now (out .entry)) (length (now (words .entry))) ⌝ }
-    ensures { λ r. ⌜ TableLeft (replied (scannedReply r) .number) (now (words .entry)) (now (words .exit)) ⌝ }
+fn scan_with(
+    text: &[u8],
+    counted: &[u8],
+    s: Settings,
+    words: &mut [u32],
+    out: &mut [u8],
+) -> BuildScannedAnswer
+    requires { ⌜ Taken (recordSettingsOf s (now counted)) (now text) ⌝ }
+    ensures { λ r. ⌜ replied (buildScannedReply r) .number
+        ≡ buildScannedRefusal (recordSettingsOf s (now (counted .entry))) (now (text .entry)) (now (out .entry)) (length (now (words .entry))) ⌝ }
+    ensures { λ r. ⌜ replied (buildScannedReply r) .value
+        ≡ scanSize (recordSettingsOf s (now (counted .entry))) (now (text .entry)) (now (out .entry)) (length (now (words .entry))) ⌝ }
+    ensures { λ r. ⌜ replied (buildScannedReply r) .entered
+        ≡ scanWindows (recordSettingsOf s (now (counted .entry))) (now (text .entry)) (now (out .entry)) (length (now (words .entry))) ⌝ }
+    ensures { λ _. ⌜ now (out .exit) ≡ buildScannedBuffer (recordSettingsOf s (now (counted .entry))) (now (text .entry)) (now (out .entry))
+        (length (now (words .entry))) ⌝ }
+    ensures { λ r. ⌜ TableLeft (replied (buildScannedReply r) .number) (now (words .entry)) (now (words .exit)) ⌝ }
 {
     if (words.len() as u64) < scan_words(text.len() as u32, s.leaf) {
-        return Scanned::Refused(18);
+        return BuildScannedAnswer::Refused(18);
     }
     let wrote = scanned_levels::write_tree(out, words, text, counted, s);
     if wrote.size == 0 {
         let all = out.len();
-        stretches::clear(out, all);
-        return Scanned::Refused(4);
+        byte_slices::clear(out, all);
+        return BuildScannedAnswer::Refused(4);
     }
-    Scanned::Size(wrote.size, wrote.windows)
+    BuildScannedAnswer::Size(wrote.size, wrote.windows)
 }

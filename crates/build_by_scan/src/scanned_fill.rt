@@ -16,14 +16,14 @@ ghost use lib.ListN.{length};
 ghost use Rattle.format.specs.Blocks.{treeOf};
 ghost use Rattle.format.specs.Layout.{maxText, pieces};
 ghost use Rattle.build_marking.specs.MarkingRule.{Next, pairOf};
-ghost use Rattle.build_records.specs.Grown.{Grown};
-ghost use Rattle.build_records.specs.State.{settingsOf, On, BlockIs};
-ghost use Rattle.build_levels.specs.Trees.{Ready, Written};
+ghost use Rattle.build_records.specs.WritesOnlyTree.{WritesOnlyTree};
+ghost use Rattle.build_records.specs.State.{recordSettingsOf, On, BlockIs};
+ghost use Rattle.build_levels.specs.Trees.{LevelReady, LevelWritten};
 ghost use Rattle.build_by_scan.specs.ScanAnswers.{windowsAt};
-ghost use Rattle.build_by_scan.specs.ItemTable.{Told};
+ghost use Rattle.build_by_scan.specs.ItemTable.{TableGivesMarking};
 
 // The number of blocks of the next level, and the number of windows looked up for this one.
-pub struct Put {
+pub struct LevelPut {
     pub below: u32,
     pub windows: u32,
 }
@@ -37,9 +37,9 @@ fn pair_in(
     level: Level,
     i: BlockNumber,
 ) -> Pair
-    requires { ⌜ On (settingsOf (level .settings) (now counted)) (now text) (now out) level (i .0)
-        × Told (settingsOf (level .settings) (now counted)) (now text) (level .number) (now words) ⌝ }
-    ensures { λ r. ⌜ r ≡ pairOf (settingsOf (level .settings) (now (counted .entry))) (now (text .entry)) (level .number) (i .0) ⌝ }
+    requires { ⌜ On (recordSettingsOf (level .settings) (now counted)) (now text) (now out) level (i .0)
+        × TableGivesMarking (recordSettingsOf (level .settings) (now counted)) (now text) (level .number) (now words) ⌝ }
+    ensures { λ r. ⌜ r ≡ pairOf (recordSettingsOf (level .settings) (now (counted .entry))) (now (text .entry)) (level .number) (i .0) ⌝ }
 {
     if i.0 + 1 == level.count {
         return Pair::Apart;
@@ -64,25 +64,26 @@ fn block_in(
     level: Level,
     b: Marked,
 ) -> Block
-    requires { ⌜ Next (settingsOf (level .settings) (now counted)) (now text) (now out) level (b .number .0) (b .kept) (b .link .0)
-        × Told (settingsOf (level .settings) (now counted)) (now text) (level .number) (now words) ⌝ }
-    ensures { λ r. ⌜ BlockIs (settingsOf (level .settings) (now (counted .entry))) (now (text .entry)) (level .number) (b .number .0) r ⌝ }
+    requires { ⌜ Next (recordSettingsOf (level .settings) (now counted)) (now text) (now out) level (b .number .0) (b .kept) (b .link .0)
+        × TableGivesMarking (recordSettingsOf (level .settings) (now counted)) (now text) (level .number) (now words) ⌝ }
+    ensures { λ r. ⌜ BlockIs (recordSettingsOf (level .settings) (now (counted .entry))) (now (text .entry)) (level .number) (b .number .0) r ⌝ }
 {
     let i = b.number;
     if b.kept {
         let link = b.link;
         return target::kept_block(text, counted, out, level, i, link);
     }
-    let place = scan_passes::place_of(words, text.len() as u32, 2 * i.0);
+    let place = scan_pass::place_of(words, text.len() as u32, 2 * i.0);
     target::pointing_block(text, counted, out, level, i, place)
 }
 
 // Writes the records of a level whose starts have been written. Returns the number of blocks of the next level.
 fn fill_scanned(out: &mut [u8], words: &[u32], text: &[u8], counted: &[u8], level: Level) -> u32
-    requires { ⌜ Ready (settingsOf (level .settings) (now counted)) (now text) (now out) level
-        × Told (settingsOf (level .settings) (now counted)) (now text) (level .number) (now words) ⌝ }
-    ensures { λ _. ⌜ Grown (treeOf (settingsOf (level .settings) (now (counted .entry))) (now (text .entry))) (now (out .entry)) (now (out .exit)) ⌝ }
-    ensures { λ r. ⌜ Written (settingsOf (level .settings) (now (counted .entry))) (now (text .entry)) (now (out .exit)) level r ⌝ }
+    requires { ⌜ LevelReady (recordSettingsOf (level .settings) (now counted)) (now text) (now out) level
+        × TableGivesMarking (recordSettingsOf (level .settings) (now counted)) (now text) (level .number) (now words) ⌝ }
+    ensures { λ _. ⌜ WritesOnlyTree (treeOf (recordSettingsOf (level .settings) (now (counted .entry))) (now (text .entry))) (now (out .entry))
+        (now (out .exit)) ⌝ }
+    ensures { λ r. ⌜ LevelWritten (recordSettingsOf (level .settings) (now (counted .entry))) (now (text .entry)) (now (out .exit)) level r ⌝ }
 {
     let mut left = Pair::Apart;
     let mut link: u32 = 0;
@@ -112,16 +113,16 @@ fn scan_level(
     level: Level,
     seed: u32,
 ) -> u32
-    requires { ⌜ Ready (settingsOf (level .settings) (now counted)) (now text) (now out) level × (level .number + 1 < level .settings .levels)
+    requires { ⌜ LevelReady (recordSettingsOf (level .settings) (now counted)) (now text) (now out) level × (level .number + 1 < level .settings .levels)
         × (4 * pieces (length (now text)) (level .settings .leaf) ≤ length (now words)) ⌝ }
-    ensures { λ _. ⌜ Told (settingsOf (level .settings) (now (counted .entry))) (now (text .entry)) (level .number) (now (words .exit)) ⌝ }
-    ensures { λ r. ⌜ (r ≡ windowsAt (settingsOf (level .settings) (now (counted .entry))) (now (text .entry)) (level .number)) × (r ≤ 4 * maxText) ⌝ }
+    ensures { λ _. ⌜ TableGivesMarking (recordSettingsOf (level .settings) (now (counted .entry))) (now (text .entry)) (level .number) (now (words .exit)) ⌝ }
+    ensures { λ r. ⌜ (r ≡ windowsAt (recordSettingsOf (level .settings) (now (counted .entry))) (now (text .entry)) (level .number)) × (r ≤ 4 * maxText) ⌝ }
 {
     if level.count == 0 {
         return 0;
     }
     let it = table::items_of(text, counted, level, seed);
-    scan_passes::scan(words, text, out, it)
+    scan_pass::scan(words, text, out, it)
 }
 
 // Scans for a level above the last and writes its records.
@@ -132,16 +133,17 @@ pub fn put_level(
     counted: &[u8],
     level: Level,
     seed: u32,
-) -> Put
-    requires { ⌜ Ready (settingsOf (level .settings) (now counted)) (now text) (now out) level × (level .number + 1 < level .settings .levels)
+) -> LevelPut
+    requires { ⌜ LevelReady (recordSettingsOf (level .settings) (now counted)) (now text) (now out) level × (level .number + 1 < level .settings .levels)
         × (4 * pieces (length (now text)) (level .settings .leaf) ≤ length (now words)) ⌝ }
-    ensures { λ _. ⌜ Grown (treeOf (settingsOf (level .settings) (now (counted .entry))) (now (text .entry))) (now (out .entry)) (now (out .exit)) ⌝ }
-    ensures { λ r. ⌜ Written (settingsOf (level .settings) (now (counted .entry))) (now (text .entry)) (now (out .exit)) level (r .below) ⌝ }
-    ensures { λ r. ⌜ (r .windows ≡ windowsAt (settingsOf (level .settings) (now (counted .entry))) (now (text .entry)) (level .number))
+    ensures { λ _. ⌜ WritesOnlyTree (treeOf (recordSettingsOf (level .settings) (now (counted .entry))) (now (text .entry))) (now (out .entry))
+        (now (out .exit)) ⌝ }
+    ensures { λ r. ⌜ LevelWritten (recordSettingsOf (level .settings) (now (counted .entry))) (now (text .entry)) (now (out .exit)) level (r .below) ⌝ }
+    ensures { λ r. ⌜ (r .windows ≡ windowsAt (recordSettingsOf (level .settings) (now (counted .entry))) (now (text .entry)) (level .number))
         × (r .windows ≤ 4 * maxText) ⌝ }
 {
     let windows = scan_level(words, text, counted, out, level, seed);
-    Put {
+    LevelPut {
         below: fill_scanned(out, words, text, counted, level),
         windows,
     }

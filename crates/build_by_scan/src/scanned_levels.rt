@@ -11,13 +11,13 @@ ghost use lib.ListN.{length};
 ghost use Rattle.format.specs.Blocks.{treeOf};
 ghost use Rattle.format.specs.Layout.{pieces};
 ghost use Rattle.theory_built.specs.BlockSizes.{Taken};
-ghost use Rattle.build_records.specs.Grown.{Grown};
-ghost use Rattle.build_records.specs.State.{settingsOf};
-ghost use Rattle.build_levels.specs.Trees.{Ready, Finished};
+ghost use Rattle.build_records.specs.WritesOnlyTree.{WritesOnlyTree};
+ghost use Rattle.build_records.specs.State.{recordSettingsOf};
+ghost use Rattle.build_levels.specs.Trees.{LevelReady, TreeComplete};
 ghost use Rattle.build_by_scan.specs.ScanAnswers.{windowsOf};
 
 // The size of the tree, 0 if it does not fit, and the number of windows looked up.
-pub struct Wrote {
+pub struct LevelsPut {
     pub size: u32,
     pub windows: u32,
 }
@@ -30,12 +30,13 @@ fn put_levels(
     counted: &[u8],
     first: Level,
     seed: u32,
-) -> Wrote
-    requires { ⌜ Ready (settingsOf (first .settings) (now counted)) (now text) (now out) first × (first .number ≡ 0)
+) -> LevelsPut
+    requires { ⌜ LevelReady (recordSettingsOf (first .settings) (now counted)) (now text) (now out) first × (first .number ≡ 0)
         × (4 * pieces (length (now text)) (first .settings .leaf) ≤ length (now words)) ⌝ }
-    ensures { λ _. ⌜ Grown (treeOf (settingsOf (first .settings) (now (counted .entry))) (now (text .entry))) (now (out .entry)) (now (out .exit)) ⌝ }
-    ensures { λ r. ⌜ Finished (treeOf (settingsOf (first .settings) (now (counted .entry))) (now (text .entry))) (now (out .exit)) (r .size) ⌝ }
-    ensures { λ r. ⌜ ((r .size ≡ 0 → ⊥) → r .windows ≡ windowsOf (settingsOf (first .settings) (now (counted .entry))) (now (text .entry))) ⌝ }
+    ensures { λ _. ⌜ WritesOnlyTree (treeOf (recordSettingsOf (first .settings) (now (counted .entry))) (now (text .entry))) (now (out .entry))
+        (now (out .exit)) ⌝ }
+    ensures { λ r. ⌜ TreeComplete (treeOf (recordSettingsOf (first .settings) (now (counted .entry))) (now (text .entry))) (now (out .exit)) (r .size) ⌝ }
+    ensures { λ r. ⌜ ((r .size ≡ 0 → ⊥) → r .windows ≡ windowsOf (recordSettingsOf (first .settings) (now (counted .entry))) (now (text .entry))) ⌝ }
 {
     let mut level = first;
     let mut windows: u32 = 0;
@@ -44,7 +45,7 @@ fn put_levels(
         windows = windows + put.windows;
         let step = level_step::go_down(out, text, counted, level, put.below);
         let Step::To(next) = step else {
-            return Wrote {
+            return LevelsPut {
                 size: 0,
                 windows: 0,
             };
@@ -52,7 +53,7 @@ fn put_levels(
         level = next;
     }
     let count = build_by_search::level_fill::fill_level(out, text, counted, level);
-    Wrote {
+    LevelsPut {
         size: level_step::finish(out, text, counted, level, count),
         windows,
     }
@@ -65,16 +66,16 @@ pub fn write_tree(
     text: &[u8],
     counted: &[u8],
     s: Settings,
-) -> Wrote
-    requires { ⌜ Taken (settingsOf s (now counted)) (now text) × (4 * pieces (length (now text)) (s .leaf) ≤ length (now words)) ⌝ }
-    ensures { λ _. ⌜ Grown (treeOf (settingsOf s (now (counted .entry))) (now (text .entry))) (now (out .entry)) (now (out .exit)) ⌝ }
-    ensures { λ r. ⌜ Finished (treeOf (settingsOf s (now (counted .entry))) (now (text .entry))) (now (out .exit)) (r .size) ⌝ }
-    ensures { λ r. ⌜ ((r .size ≡ 0 → ⊥) → r .windows ≡ windowsOf (settingsOf s (now (counted .entry))) (now (text .entry))) ⌝ }
+) -> LevelsPut
+    requires { ⌜ Taken (recordSettingsOf s (now counted)) (now text) × (4 * pieces (length (now text)) (s .leaf) ≤ length (now words)) ⌝ }
+    ensures { λ _. ⌜ WritesOnlyTree (treeOf (recordSettingsOf s (now (counted .entry))) (now (text .entry))) (now (out .entry)) (now (out .exit)) ⌝ }
+    ensures { λ r. ⌜ TreeComplete (treeOf (recordSettingsOf s (now (counted .entry))) (now (text .entry))) (now (out .exit)) (r .size) ⌝ }
+    ensures { λ r. ⌜ ((r .size ≡ 0 → ⊥) → r .windows ≡ windowsOf (recordSettingsOf s (now (counted .entry))) (now (text .entry))) ⌝ }
 {
     let seed = table::seed_of(words);
     let step = level_step::begin(out, text, counted, s);
     let Step::To(first) = step else {
-        return Wrote {
+        return LevelsPut {
             size: 0,
             windows: 0,
         };

@@ -2,13 +2,13 @@
 use build_records::level_written;
 use build_records::level_written::Level;
 use layout::settings;
-use scan_entries::Items;
+use scan_hash_table::Items;
 ghost use mathlib.Core.Path.{_≡_};
 ghost use Prim.Native.Nat.{_+_, _*_, _≤_};
 ghost use lib.ListN.{length};
 ghost use Rattle.format.specs.Layout.{maxText, pieces, maxLeaf, maxCounted};
 ghost use Rattle.format.specs.Blocks.{recordBytes};
-ghost use Rattle.build_records.specs.State.{settingsOf};
+ghost use Rattle.build_records.specs.State.{recordSettingsOf};
 ghost use Rattle.build_by_scan.specs.ItemTable.{itemsSay};
 
 // The items of a level. With more than 16 heads for an item they would only spread over more memory.
@@ -16,7 +16,7 @@ pub fn items_of(text: &[u8], counted: &[u8], level: Level, seed: u32) -> Items
     requires { ⌜ (length (now counted) ≤ maxCounted)
         × (1 ≤ level .count) × (1 ≤ level .settings .leaf) × (level .settings .leaf ≤ maxLeaf) × (length (now text) ≤ maxText)
         × (level .count + level .count ≤ pieces (length (now text)) (level .settings .leaf) + 1) ⌝ }
-    ensures { λ r. ⌜ r ≡ itemsSay (length (now (text .entry))) (recordBytes (settingsOf (level .settings) (now (counted .entry)))) level seed ⌝ }
+    ensures { λ r. ⌜ r ≡ itemsSay (length (now (text .entry))) (recordBytes (recordSettingsOf (level .settings) (now (counted .entry)))) level seed ⌝ }
 {
     let items = level.count + level.count - 1;
     let words = 4 * settings::pieces(text.len() as u32, level.settings.leaf);
@@ -25,7 +25,7 @@ pub fn items_of(text: &[u8], counted: &[u8], level: Level, seed: u32) -> Items
         step: level_written::record_size(counted, level.settings) as u32,
         size: level.size,
         items,
-        heads: stretches::shorter(words - 3 * items, 16 * items),
+        heads: byte_slices::min(words - 3 * items, 16 * items),
         seed,
     }
 }

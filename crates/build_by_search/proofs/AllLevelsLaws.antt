@@ -7,23 +7,23 @@ use native.Mathlib.Omega.{arith}
 use Rattle.format.specs.Blocks.{treeOf}
 use Rattle.layout.specs.declared.settings.Settings as code
 use Rattle.build_records.specs.declared.level_written.Level.{Level}
-use Rattle.build_records.specs.Grown.{Grown}
-use Rattle.build_records.specs.State.{settingsOf}
+use Rattle.build_records.specs.WritesOnlyTree.{WritesOnlyTree}
+use Rattle.build_records.specs.State.{recordSettingsOf}
 use Rattle.build_records.proofs.Growth.{grown-then}
 use Rattle.build_levels.specs.declared.level_step.Step.{Step}
 use Rattle.build_levels.specs.declared.level_step.Step.the-variants.{To, Full}
-use Rattle.build_levels.specs.Trees.{Ready, StepIs, Finished}
+use Rattle.build_levels.specs.Trees.{LevelReady, StepIs, TreeComplete}
 
 -- Before a level: it has the settings of the first, and the tree is written up to it.
 pub record Reached (first : code.Settings) (cs T out₀ out : List ℕ) (level : Level) : Type 0 where
   pub same : level .settings ≡ first
-  pub ready : Ready (settingsOf first cs) T out level
-  pub grown : Grown (treeOf (settingsOf first cs) T) out₀ out
+  pub ready : LevelReady (recordSettingsOf first cs) T out level
+  pub grown : WritesOnlyTree (treeOf (recordSettingsOf first cs) T) out₀ out
 
 -- A step came to a level, or found no room for it.
-module _ (first : code.Settings) (cs T out₀ new : List ℕ) (g : Grown (treeOf (settingsOf first cs) T) out₀ new) (number : ℕ) (x : Step)
-    (is : StepIs (settingsOf first cs) T new first number x) where
-  pub step-full : x ≡ Full → Finished (treeOf (settingsOf first cs) T) new 0
+module _ (first : code.Settings) (cs T out₀ new : List ℕ) (g : WritesOnlyTree (treeOf (recordSettingsOf first cs) T) out₀ new) (number : ℕ) (x : Step)
+    (is : StepIs (recordSettingsOf first cs) T new first number x) where
+  pub step-full : x ≡ Full → TreeComplete (treeOf (recordSettingsOf first cs) T) new 0
   step-full e = inl (refl, is .full e)
 
   module _ (next : Level) (e : x ≡ To next) where
@@ -34,8 +34,8 @@ module _ (first : code.Settings) (cs T out₀ new : List ℕ) (g : Grown (treeOf
     step-reached = record { same = is .to next e .0; ready = is .to next e .2; grown = g }
 
 module _ (first : code.Settings) (cs T out₀ out : List ℕ) (level : Level) (r : Reached first cs T out₀ out level) where
-  pub ready-here : Ready (settingsOf (level .settings) cs) T out level
-  ready-here = subst (λ (s : code.Settings). Ready (settingsOf s cs) T out level) (sym (r .same)) (r .ready)
+  pub ready-here : LevelReady (recordSettingsOf (level .settings) cs) T out level
+  ready-here = subst (λ (s : code.Settings). LevelReady (recordSettingsOf s cs) T out level) (sym (r .same)) (r .ready)
 
   pub upper-here : level .number + 1 < first .levels → level .number + 1 < level .settings .levels
   upper-here k = omega (arith, ap (λ (s : code.Settings). s .levels) (r .same))
@@ -45,13 +45,15 @@ module _ (first : code.Settings) (cs T out₀ out : List ℕ) (level : Level) (r
 
   -- What holds of the settings of the level holds of those of the first.
   module _ (new : List ℕ) where
-    pub grown-here : Grown (treeOf (settingsOf (level .settings) cs) T) out new → Grown (treeOf (settingsOf first cs) T) out₀ new
+    pub grown-here : WritesOnlyTree (treeOf (recordSettingsOf (level .settings) cs) T) out new → WritesOnlyTree (treeOf (recordSettingsOf first cs) T) out₀ new
     grown-here g = grown-then
-        (treeOf (settingsOf first cs) T) out₀ out new (r .grown) (subst (λ (s : code.Settings). Grown (treeOf (settingsOf s cs) T) out new) (r .same) g)
+        (treeOf (recordSettingsOf first cs) T) out₀ out new (r .grown)
+        (subst (λ (s : code.Settings). WritesOnlyTree (treeOf (recordSettingsOf s cs) T) out new) (r .same) g)
 
-    pub finished-here : (n : ℕ) → Finished (treeOf (settingsOf (level .settings) cs) T) new n → Finished (treeOf (settingsOf first cs) T) new n
-    finished-here n f = subst (λ (s : code.Settings). Finished (treeOf (settingsOf s cs) T) new n) (r .same) f
+    pub finished-here : (n : ℕ) → TreeComplete (treeOf (recordSettingsOf (level .settings) cs) T) new n
+        → TreeComplete (treeOf (recordSettingsOf first cs) T) new n
+    finished-here n f = subst (λ (s : code.Settings). TreeComplete (treeOf (recordSettingsOf s cs) T) new n) (r .same) f
 
     pub step-here : (number : ℕ) (x : Step)
-        → StepIs (settingsOf (level .settings) cs) T new (level .settings) number x → StepIs (settingsOf first cs) T new first number x
-    step-here number x is = subst (λ (s : code.Settings). StepIs (settingsOf s cs) T new s number x) (r .same) is
+        → StepIs (recordSettingsOf (level .settings) cs) T new (level .settings) number x → StepIs (recordSettingsOf first cs) T new first number x
+    step-here number x is = subst (λ (s : code.Settings). StepIs (recordSettingsOf s cs) T new s number x) (r .same) is

@@ -10,16 +10,16 @@ use Rattle.text.specs.ListLaws.{sumBelow-suc}
 use Rattle.format.specs.Layout.{Settings, maxText, countAt, headerLength}
 use Rattle.format.specs.Blocks.{treeOf}
 use Rattle.theory_built.specs.Structure.{widthOf}
-use Rattle.theory_built.specs.BlockSizes.{Bounds, bounds}
-use Rattle.theory_built.specs.BuiltLeaves.{widths-le}
+use Rattle.theory_built.specs.BlockSizes.{BuiltBounds, bounds}
+use Rattle.theory_built.specs.BuiltLeafBytes.{widths-le}
 use Rattle.theory_built.specs.Pairs.{offset}
 use Rattle.build_records.specs.declared.level_written.Level.{Level}
 use Rattle.build_records.specs.declared.record_written.Block.{Block}
-use Rattle.build_records.specs.Grown.{Grown, Within}
-use Rattle.build_records.specs.State.{LevelIs, Filled, On, BlockIs, Writing, placeAt}
+use Rattle.build_records.specs.WritesOnlyTree.{WritesOnlyTree, AgreesOn}
+use Rattle.build_records.specs.State.{LevelIs, RecordsUpTo, On, BlockIs, Writing, placeAt}
 use Rattle.build_records.proofs.Growth.{grown-none, grown-then, within-grown, within-part}
 use Rattle.build_records.proofs.StateLaws.{filled-grown, place-end}
-use Rattle.build_levels.specs.Trees.{Written}
+use Rattle.build_levels.specs.Trees.{LevelWritten}
 use Rattle.build_marking.specs.declared.pair.Pair.{Pair}
 use Rattle.build_marking.specs.declared.pair.Pair.the-variants.{Apart}
 use Rattle.build_marking.specs.MarkingRule.{keptBy, pairOf, pairBefore, Next}
@@ -28,8 +28,8 @@ use Rattle.build_marking.proofs.PairLaws.{kept-rule}
 -- The loop over the blocks of a level, before block i.
 pub record Going (S : Settings) (T : List ℕ) (level : Level) (out₀ out : List ℕ) (left : Pair) (link i : ℕ) : Type 0 where
   pub within : i ≤ level .count
-  pub grown : Grown (treeOf S T) out₀ out
-  pub filled : Filled S T out (level .number) i
+  pub grown : WritesOnlyTree (treeOf S T) out₀ out
+  pub filled : RecordsUpTo S T out (level .number) i
   pub left-is : left ≡ pairBefore S T (level .number) i
   pub link-is : link ≡ sumBelow i (widthOf S T (level .number))
 
@@ -40,10 +40,10 @@ module _ (S : Settings) (T : List ℕ) (level : Level) (h : LevelIs S T level) w
   abbrev D : List ℕ
   D = treeOf S T
 
-  limits : Bounds S T
+  limits : BuiltBounds S T
   limits = bounds S T (h .taken)
 
-  pub going-first : (out : List ℕ) → Filled S T out l 0 → Going S T level out out Apart 0 0
+  pub going-first : (out : List ℕ) → RecordsUpTo S T out l 0 → Going S T level out out Apart 0 0
   unfolding pairBefore sumBelow
   going-first out f = record { within = omega arith; grown = grown-none D out; filled = f; left-is = refl; link-is = refl }
 
@@ -59,7 +59,7 @@ module _ (S : Settings) (T : List ℕ) (level : Level) (h : LevelIs S T level) w
       going-writing block is = record { level-is = h; filled = g .filled; block-in = il; block-is = is }
 
       module _ (new : List ℕ) (wide : ℕ)
-          (wide-is : wide ≡ widthOf S T l i) (more : Grown D out new) (body : Within D new headerLength (placeAt S T l (i + 1))) where
+          (wide-is : wide ≡ widthOf S T l i) (more : WritesOnlyTree D out new) (body : AgreesOn D new headerLength (placeAt S T l (i + 1))) where
         link-next : link + wide ≡ sumBelow (i + 1) (widthOf S T l)
         link-next = rw (g .link-is, wide-is) (sym (sumBelow-suc i (widthOf S T l)))
 
@@ -86,7 +86,7 @@ module _ (S : Settings) (T : List ℕ) (level : Level) (h : LevelIs S T level) w
     last : i ≡ level .count
     last = omega (arith, g .within)
 
-    pub all-written : Within D out₀ 0 (countAt l) → Written S T out level link
+    pub all-written : AgreesOn D out₀ 0 (countAt l) → LevelWritten S T out level link
     all-written header = record {
       level-is = h;
       room = g .filled .room;

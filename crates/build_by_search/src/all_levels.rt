@@ -7,15 +7,16 @@ use layout::settings::Settings;
 ghost use Prim.Native.Nat.{_+_, _<_};
 ghost use Rattle.format.specs.Blocks.{treeOf};
 ghost use Rattle.theory_built.specs.BlockSizes.{Taken};
-ghost use Rattle.build_records.specs.Grown.{Grown};
-ghost use Rattle.build_records.specs.State.{settingsOf};
-ghost use Rattle.build_levels.specs.Trees.{Ready, Finished};
+ghost use Rattle.build_records.specs.WritesOnlyTree.{WritesOnlyTree};
+ghost use Rattle.build_records.specs.State.{recordSettingsOf};
+ghost use Rattle.build_levels.specs.Trees.{LevelReady, TreeComplete};
 
 // Writes the levels from `first` on. Returns the size of the tree, 0 if it does not fit.
 fn put_levels(out: &mut [u8], text: &[u8], counted: &[u8], first: Level) -> u32
-    requires { ⌜ Ready (settingsOf (first .settings) (now counted)) (now text) (now out) first ⌝ }
-    ensures { λ _. ⌜ Grown (treeOf (settingsOf (first .settings) (now (counted .entry))) (now (text .entry))) (now (out .entry)) (now (out .exit)) ⌝ }
-    ensures { λ r. ⌜ Finished (treeOf (settingsOf (first .settings) (now (counted .entry))) (now (text .entry))) (now (out .exit)) r ⌝ }
+    requires { ⌜ LevelReady (recordSettingsOf (first .settings) (now counted)) (now text) (now out) first ⌝ }
+    ensures { λ _. ⌜ WritesOnlyTree (treeOf (recordSettingsOf (first .settings) (now (counted .entry))) (now (text .entry))) (now (out .entry))
+        (now (out .exit)) ⌝ }
+    ensures { λ r. ⌜ TreeComplete (treeOf (recordSettingsOf (first .settings) (now (counted .entry))) (now (text .entry))) (now (out .exit)) r ⌝ }
 {
     let mut level = first;
     while level.number + 1 < first.settings.levels {
@@ -32,9 +33,9 @@ fn put_levels(out: &mut [u8], text: &[u8], counted: &[u8], first: Level) -> u32
 
 // Writes the tree. Returns its size, 0 if it does not fit.
 pub fn write_tree(out: &mut [u8], text: &[u8], counted: &[u8], s: Settings) -> u32
-    requires { ⌜ Taken (settingsOf s (now counted)) (now text) ⌝ }
-    ensures { λ _. ⌜ Grown (treeOf (settingsOf s (now (counted .entry))) (now (text .entry))) (now (out .entry)) (now (out .exit)) ⌝ }
-    ensures { λ r. ⌜ Finished (treeOf (settingsOf s (now (counted .entry))) (now (text .entry))) (now (out .exit)) r ⌝ }
+    requires { ⌜ Taken (recordSettingsOf s (now counted)) (now text) ⌝ }
+    ensures { λ _. ⌜ WritesOnlyTree (treeOf (recordSettingsOf s (now (counted .entry))) (now (text .entry))) (now (out .entry)) (now (out .exit)) ⌝ }
+    ensures { λ r. ⌜ TreeComplete (treeOf (recordSettingsOf s (now (counted .entry))) (now (text .entry))) (now (out .exit)) r ⌝ }
 {
     let step = level_step::begin(out, text, counted, s);
     let Step::To(first) = step else {

@@ -14,17 +14,18 @@ use Rattle.text.specs.ListLaws.{bool-clash, lt-or-ge, eq-sameList, ne-sameList}
 use Rattle.format.specs.Layout.{wordAt, wordsBytes, setWord, maxText}
 use Rattle.format.specs.WordLaws.{length-setWord}
 use Rattle.format.specs.Layout as at
-use Rattle.format.specs.TreeReading.{ask, readable, verdict}
-use Rattle.format.specs.VerdictLaws.{accepted-readable}
+use Rattle.format.specs.TreeReading.{ask, headerResult, checkResult}
+use Rattle.format.specs.CheckResultLaws.{accepted-header}
 use Rattle.format.specs.Answers.{refused, total}
-use Rattle.format.specs.SaidLaws.{unless-refused}
-use Rattle.ask_select.specs.Seeks.{LastBefore}
-use Rattle.ask_select.proofs.SeekLaws.{last-here}
-use Rattle.ask_guide.specs.Guides.{entriesOf, entriesBefore, guideWords, guideOf, guideBytes, guideNumber, makeNumber, makeSays, makeLeaves, listedEvery}
-use Rattle.build_guide.specs.EntriesWritten.{written, Puts, Compared}
+use Rattle.format.specs.AnswerLaws.{unless-refused}
+use Rattle.query_select.specs.Seeks.{LastBefore}
+use Rattle.query_select.proofs.SeekLaws.{last-here}
+use Rattle.query_guide.specs.Guides.{entriesOf, entriesBefore, guideWords, guideOf, guideBytes}
+use Rattle.query_guide.specs.Guides.{guideRefusal, makeGuideRefusal, makeGuideAnswer, makeGuideBuffer, listedEvery}
+use Rattle.build_guide.specs.EntriesWritten.{guide-written, Puts, GuideCompared}
 use Rattle.build_guide.proofs.WordLists.{words-are, put-word}
-use Rattle.ask_guide.proofs.Holders.{total-few, block-in, first-low, block-is}
-use Rattle.ask_guide.proofs.GuideList.{guide-length, guide-size, guide-entry, entry-below, entry-stands, entry-word}
+use Rattle.query_guide.proofs.Holders.{total-few, block-in, first-low, block-is}
+use Rattle.query_guide.proofs.GuideList.{guide-length, guide-size, guide-entry, entry-below, entry-stands, entry-word}
 
 pub false-not {ℓ} : {A : Type ℓ} → false ≡ true → A
 false-not e = bool-clash false e refl
@@ -33,7 +34,7 @@ pub true-not {ℓ} : {A : Type ℓ} → true ≡ false → A
 true-not e = bool-clash true refl e
 
 -- The block of entry e of counted byte number c, looked for from a block with fewer before it.
-module _ (t : List ℕ) (c e : ℕ) (v : verdict t ≡ 0) (hc : c < at.countedCount t) (he : e < entriesOf t c) where
+module _ (t : List ℕ) (c e : ℕ) (v : checkResult t ≡ 0) (hc : c < at.countedCount t) (he : e < entriesOf t c) where
   rank : listedEvery * e + 1 ≤ total t c
   rank = entry-stands t c e hc he
 
@@ -69,7 +70,7 @@ module _ (t : List ℕ) where
       (from i w : ℕ) (p : Puts t before table from i) (is : w ≡ getD (guideOf t) i 0) (l : i < length (guideOf t)) (room : 4 * i + 4 ≤ length table)
       (new-is : new ≡ setWord table (4 * i) w) where
     puts-one : Puts t before new from (i + 1)
-    unfolding written
+    unfolding guide-written
     puts-one = record {
       same-length = rw new-is (length-setWord table (4 * i) w) ∙ p .same-length;
       puts = λ old n b. new-is ∙ rw (is, p .puts old n b) (put-word (guideOf t) old i l (omega (arith, p .same-length)));
@@ -95,49 +96,49 @@ module _ (t : List ℕ) where
   }
 
   -- All of them.
-  written-none : (old : List ℕ) → old ≡ written t 0 old
-  unfolding written wordsBytes concat
+  written-none : (old : List ℕ) → old ≡ guide-written t 0 old
+  unfolding guide-written wordsBytes concat
   written-none old = refl
 
-  written-all : (old : List ℕ) → written t (guideWords t) old ≡ guideBytes t ++ drop (4 * guideWords t) old
-  unfolding written guideBytes
+  written-all : (old : List ℕ) → guide-written t (guideWords t) old ≡ guideBytes t ++ drop (4 * guideWords t) old
+  unfolding guide-written guideBytes
   written-all old = rw (take-all (guideWords t) (guideOf t) (omega (arith, guide-length t)))
 
 -- The ways out of making.
 module _ (t old : List ℕ) where
-  module _ (v : verdict t ≡ 0) where
-    number-by-room : (y : Bool) → leb (length (guideBytes t)) (length old) ≡ y → makeNumber t old ≡ ask 25 y 0
-    unfolding makeNumber
-    number-by-room y e = rw (eq-eqb (verdict t) 0 v, e)
+  module _ (v : checkResult t ≡ 0) where
+    number-by-room : (y : Bool) → leb (length (guideBytes t)) (length old) ≡ y → makeGuideRefusal t old ≡ ask 25 y 0
+    unfolding makeGuideRefusal
+    number-by-room y e = rw (eq-eqb (checkResult t) 0 v, e)
 
-    pub made-short : length old < 4 * guideWords t → (refused 25 ≡ makeSays t old) × (old ≡ makeLeaves t old)
-    unfolding makeSays makeLeaves
+    pub made-short : length old < 4 * guideWords t → (refused 25 ≡ makeGuideAnswer t old) × (old ≡ makeGuideBuffer t old)
+    unfolding makeGuideAnswer makeGuideBuffer
     made-short l =
-        let e : makeNumber t old ≡ 25 = number-by-room false (lt-leb (length (guideBytes t)) (length old) (omega (arith, guide-size t))) in
+        let e : makeGuideRefusal t old ≡ 25 = number-by-room false (lt-leb (length (guideBytes t)) (length old) (omega (arith, guide-size t))) in
         (rw e, rw e)
 
-    makes : 4 * guideWords t ≤ length old → makeNumber t old ≡ 0
+    makes : 4 * guideWords t ≤ length old → makeGuideRefusal t old ≡ 0
     makes l = number-by-room true (le-leb (length (guideBytes t)) (length old) (omega (arith, guide-size t)))
 
-    pub made-leaves : 4 * guideWords t ≤ length old → makeLeaves t old ≡ guideBytes t ++ drop (4 * guideWords t) old
-    unfolding makeLeaves
+    pub made-leaves : 4 * guideWords t ≤ length old → makeGuideBuffer t old ≡ guideBytes t ++ drop (4 * guideWords t) old
+    unfolding makeGuideBuffer
     made-leaves l = rw (makes l, guide-size t)
 
-    pub made-all : 4 * guideWords t ≤ length old → (record { number = 0; value = guideWords t; entered = 0 } ≡ makeSays t old)
-        × ((new : List ℕ) → Puts t old new 0 (guideWords t) → new ≡ makeLeaves t old)
-    unfolding makeSays
+    pub made-all : 4 * guideWords t ≤ length old → (record { number = 0; value = guideWords t; entered = 0 } ≡ makeGuideAnswer t old)
+        × ((new : List ℕ) → Puts t old new 0 (guideWords t) → new ≡ makeGuideBuffer t old)
+    unfolding makeGuideAnswer
     made-all l = (rw (makes l), λ new p. p .puts old refl (written-none t old) ∙ written-all t old ∙ sym (made-leaves l))
 
-  unmade-number : (n : ℕ) → n ≡ verdict t → (n ≡ 0 → ⊥) → makeNumber t old ≡ n
-  unfolding makeNumber
+  unmade-number : (n : ℕ) → n ≡ checkResult t → (n ≡ 0 → ⊥) → makeGuideRefusal t old ≡ n
+  unfolding makeGuideRefusal
   unmade-number n e low = rw (← e, ne-eqb n 0 low)
 
-  pub unmade : (n : ℕ) → n ≡ verdict t → (n ≡ 0 → ⊥) → (refused n ≡ makeSays t old) × (old ≡ makeLeaves t old)
-  unfolding makeSays makeLeaves
+  pub unmade : (n : ℕ) → n ≡ checkResult t → (n ≡ 0 → ⊥) → (refused n ≡ makeGuideAnswer t old) × (old ≡ makeGuideBuffer t old)
+  unfolding makeGuideAnswer makeGuideBuffer
   unmade n e low =
       let f = unmade-number n e low in
       let s = pos-suc n low in
-      (unless-refused (makeNumber t old) (s .0) n (record { number = 0; value = guideWords t; entered = 0 }) (f ∙ s .1) (s .1), rw (f, ne-eqb n 0 low))
+      (unless-refused (makeGuideRefusal t old) (s .0) n (record { number = 0; value = guideWords t; entered = 0 }) (f ∙ s .1) (s .1), rw (f, ne-eqb n 0 low))
     where
       pos-suc : (n : ℕ) → (n ≡ 0 → ⊥) → (k : ℕ) × (n ≡ suc k)
       pos-suc zero l = absurd (l refl)
@@ -148,11 +149,12 @@ module _ (t guide : List ℕ) where
   pub wrong-length : (length guide ≡ 4 * guideWords t → ⊥) → false ≡ sameList guide (guideBytes t)
   wrong-length n = sym (ne-sameList guide (guideBytes t) (λ e. n (ap (λ (l : List ℕ). length l) e ∙ guide-size t)))
 
-  pub wrong-entry : (from to : ℕ) (r : Bool) → Compared t guide from to r → r ≡ false → false ≡ sameList guide (guideBytes t)
+  pub wrong-entry : (from to : ℕ) (r : Bool) → GuideCompared t guide from to r → r ≡ false → false ≡ sameList guide (guideBytes t)
   wrong-entry from to r c e = sym (ne-sameList guide (guideBytes t) (c .no e))
 
   -- An entry other than the guide's.
-  pub entry-wrong : verdict t ≡ 0 → (i w : ℕ) → i < length (guideOf t) → w ≡ getD (guideOf t) i 0 → (wordAt guide (4 * i) ≡ w → ⊥) → guide ≡ guideBytes t → ⊥
+  pub entry-wrong : checkResult t ≡ 0 → (i w : ℕ) → i < length (guideOf t) → w ≡ getD (guideOf t) i 0 → (wordAt guide (4 * i) ≡ w → ⊥) → guide
+      ≡ guideBytes t → ⊥
   entry-wrong v i w l is n e = n (ap (λ (g : List ℕ). wordAt g (4 * i)) e ∙ entry-word t v i l ∙ sym is)
 
   pub right-all : length guide ≡ 4 * guideWords t → ((k : ℕ) → getD guide k 0 < 256)
@@ -163,7 +165,7 @@ module _ (t guide : List ℕ) where
       (words-are (guideOf t) guide (size ∙ ap (λ (k : ℕ). 4 * k) (sym (guide-length t))) byte (λ i l. is i (omega (arith, guide-length t)))))
 
   -- What is compared from one number on joins what was before it.
-  pub right-more : (from to : ℕ) (r : Bool) → ((i : ℕ) → i < from → wordAt guide (4 * i) ≡ getD (guideOf t) i 0) → Compared t guide from to r → r ≡ true
+  pub right-more : (from to : ℕ) (r : Bool) → ((i : ℕ) → i < from → wordAt guide (4 * i) ≡ getD (guideOf t) i 0) → GuideCompared t guide from to r → r ≡ true
       → (i : ℕ) → i < to → wordAt guide (4 * i) ≡ getD (guideOf t) i 0
   right-more from to r before c e i l = go (lt-or-ge i from)
     where
@@ -172,12 +174,12 @@ module _ (t guide : List ℕ) where
       go (inr m) = c .yes e i m l
 
   -- A guide compared.
-  pub compared : verdict t ≡ 0 → (r : Bool) → r ≡ sameList guide (guideBytes t) → ask 24 r 0 ≡ guideNumber t guide
-  unfolding guideNumber
-  compared v r e = rw (eq-eqb (verdict t) 0 v, e)
+  pub compared : checkResult t ≡ 0 → (r : Bool) → r ≡ sameList guide (guideBytes t) → ask 24 r 0 ≡ guideRefusal t guide
+  unfolding guideRefusal
+  compared v r e = rw (eq-eqb (checkResult t) 0 v, e)
 
-  pub unchecked : (n : ℕ) → n ≡ verdict t → (n ≡ 0 → ⊥) → n ≡ guideNumber t guide
-  unfolding guideNumber
+  pub unchecked : (n : ℕ) → n ≡ checkResult t → (n ≡ 0 → ⊥) → n ≡ guideRefusal t guide
+  unfolding guideRefusal
   unchecked n e low = rw (← e, ne-eqb n 0 low)
 
 -- The next entry compared.
@@ -191,5 +193,5 @@ next-right t guide from e w before read is i low high = go (lt-or-ge i (from + e
     go (inr m) = let q : from + e ≡ i = omega arith in rw q at (read ∙ is)
 
 -- An accepted tree's header is not refused.
-pub not-refused : (t : List ℕ) (k : ℕ) → verdict t ≡ 0 → readable t ≡ suc k → ⊥
-not-refused t k v e = let q : readable t ≡ 0 = accepted-readable t v in omega (arith, e, q)
+pub guide-not-refused : (t : List ℕ) (k : ℕ) → checkResult t ≡ 0 → headerResult t ≡ suc k → ⊥
+guide-not-refused t k v e = let q : headerResult t ≡ 0 = accepted-header t v in omega (arith, e, q)

@@ -1,3 +1,3 @@
 pub mod WordLists
 pub mod GuideWrittenLaws
-pub mod Demands
+pub mod Theorems

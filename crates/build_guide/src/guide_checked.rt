@@ -1,25 +1,25 @@
 // Compares a guide with that of an accepted tree: each entry with the block that make_guide would write, in the same pass.
-use ask_guide::entry_words;
 use layout::header;
 use layout::header::Header;
-use layout::header::HeaderRead;
+use layout::header::HeaderAnswer;
 use layout::place::BlockNumber;
 use layout::word;
+use query_guide::entry_words;
 ghost use mathlib.Core.Path.{_≡_};
 ghost use Prim.Native.Nat.{_+_, _*_, _≤_, _<_};
 ghost use lib.ListN.{length};
 ghost use Rattle.text.specs.Text.{sameList};
 ghost use Rattle.format.specs.Layout as at;
-ghost use Rattle.format.specs.TreeReading.{verdict};
-ghost use Rattle.layout.specs.HeaderSays.{HeaderOf};
-ghost use Rattle.ask_guide.specs.Guides.{entriesOf, entriesBefore, guideBytes};
-ghost use Rattle.build_guide.specs.EntriesWritten.{Compared};
+ghost use Rattle.format.specs.TreeReading.{checkResult};
+ghost use Rattle.layout.specs.HeaderFields.{HeaderOf};
+ghost use Rattle.query_guide.specs.Guides.{entriesOf, entriesBefore, guideBytes};
+ghost use Rattle.build_guide.specs.EntriesWritten.{GuideCompared};
 
 // Whether the guide has the entries of a counted byte; `place` is the number of entries of the counted bytes before it.
 fn entries_right(guide: &[u8], t: &[u8], h: Header, number: u32, place: usize, count: u64) -> bool
-    requires { ⌜ (HeaderOf (now t) h) × (verdict (now t) ≡ 0) × (number < at.countedCount (now t)) × (place ≡ entriesBefore (now t) number) ⌝ }
+    requires { ⌜ (HeaderOf (now t) h) × (checkResult (now t) ≡ 0) × (number < at.countedCount (now t)) × (place ≡ entriesBefore (now t) number) ⌝ }
     requires { ⌜ (count ≡ entriesOf (now t) number) × (4 * (place + count) ≤ length (now guide)) ⌝ }
-    ensures { λ r. ⌜ Compared (now (t .entry)) (now (guide .entry)) place (place + count) r ⌝ }
+    ensures { λ r. ⌜ GuideCompared (now (t .entry)) (now (guide .entry)) place (place + count) r ⌝ }
 {
     let mut block: u32 = 0;
     let mut e: u64 = 0;
@@ -42,7 +42,7 @@ fn entries_right(guide: &[u8], t: &[u8], h: Header, number: u32, place: usize, c
 
 // Whether a guide is that of an accepted tree, by its header.
 fn right_by(t: &[u8], h: Header, guide: &[u8]) -> bool
-    requires { ⌜ (HeaderOf (now t) h) × (verdict (now t) ≡ 0) ⌝ }
+    requires { ⌜ (HeaderOf (now t) h) × (checkResult (now t) ≡ 0) ⌝ }
     ensures { λ r. ⌜ r ≡ sameList (now (guide .entry)) (guideBytes (now (t .entry))) ⌝ }
 {
     let all = entry_words::entries_before(t, h, h.settings.counted);
@@ -64,12 +64,12 @@ fn right_by(t: &[u8], h: Header, guide: &[u8]) -> bool
 
 // Whether a guide is that of an accepted tree.
 pub fn guide_right(t: &[u8], guide: &[u8]) -> bool
-    requires { ⌜ verdict (now t) ≡ 0 ⌝ }
+    requires { ⌜ checkResult (now t) ≡ 0 ⌝ }
     ensures { λ r. ⌜ r ≡ sameList (now (guide .entry)) (guideBytes (now (t .entry))) ⌝ }
 {
     let read = header::read_header(t);
     match read {
-        HeaderRead::Good(h) => right_by(t, h, guide),
-        HeaderRead::Refused(_) => false,
+        HeaderAnswer::Good(h) => right_by(t, h, guide),
+        HeaderAnswer::Refused(_) => false,
     }
 }

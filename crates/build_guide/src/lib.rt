@@ -2,26 +2,26 @@
 mod guide_checked;
 mod guide_written;
 
-use ask_guide::Size;
+use query_guide::GuideWordsAnswer;
 ghost use mathlib.Core.Path.{_≡_};
 ghost use Rattle.format.specs.Answers.{NeverZero, replied};
-ghost use Rattle.ask_guide.specs.Guides.{guideNumber, makeSays, makeLeaves, sizeReply};
+ghost use Rattle.query_guide.specs.Guides.{guideRefusal, makeGuideAnswer, makeGuideBuffer, guideWordsReply};
 
 // Writes the guide of a tree to the start of a table: questions 5 to 9 of the tree, then 25. Refused, the table is unchanged.
-pub fn make_guide(t: &[u8], table: &mut [u8]) -> Size
-    ensures { λ r. ⌜ (replied (sizeReply r) ≡ makeSays (now (t .entry)) (now (table .entry))) × (NeverZero (sizeReply r)) ⌝ }
-    ensures { λ _. ⌜ now (table .exit) ≡ makeLeaves (now (t .entry)) (now (table .entry)) ⌝ }
+pub fn make_guide(t: &[u8], table: &mut [u8]) -> GuideWordsAnswer
+    ensures { λ r. ⌜ (replied (guideWordsReply r) ≡ makeGuideAnswer (now (t .entry)) (now (table .entry))) × (NeverZero (guideWordsReply r)) ⌝ }
+    ensures { λ _. ⌜ now (table .exit) ≡ makeGuideBuffer (now (t .entry)) (now (table .entry)) ⌝ }
 {
     let number = tree::check(t);
     if number != 0 {
-        return Size::Refused(number);
+        return GuideWordsAnswer::Refused(number);
     }
     guide_written::put_guide(t, table)
 }
 
 // Questions 5 to 9 of the tree, then 24: 0 for the guide of an accepted tree, else the number of the first that fails.
 pub fn check_guide(t: &[u8], guide: &[u8]) -> u32
-    ensures { λ r. ⌜ r ≡ guideNumber (now (t .entry)) (now (guide .entry)) ⌝ }
+    ensures { λ r. ⌜ r ≡ guideRefusal (now (t .entry)) (now (guide .entry)) ⌝ }
 {
     let number = tree::check(t);
     if number != 0 {

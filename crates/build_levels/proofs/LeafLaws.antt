@@ -10,15 +10,15 @@ use Rattle.format.specs.Layout.{Settings, headerLength}
 use Rattle.format.specs.Blocks.{treeOf}
 use Rattle.theory_built.specs.BlockSizes.{Taken, maxTree}
 use Rattle.theory_built.specs.Structure.{count, widthOf}
-use Rattle.theory_built.specs.BuiltLeaves.{width-last, leaf-count, leaf-at}
+use Rattle.theory_built.specs.BuiltLeafBytes.{width-last, leaf-count, leaf-at}
 use Rattle.theory_built.specs.Pairs.{offset}
 use Rattle.theory_built.specs.Shape.{leaf-place, tree-length}
 use Rattle.theory_built.specs.Built.{tree-small}
-use Rattle.stretches.specs.Stretches.{bytesWritten}
+use Rattle.byte_slices.specs.ByteSlices.{bytesWritten}
 use Rattle.build_records.specs.declared.level_written.Level.{Level}
 use Rattle.build_records.specs.declared.level_written.Stretch.{Stretch}
-use Rattle.build_records.specs.Grown.{Grown, Within}
-use Rattle.build_levels.specs.LeavesWritten.{Leafing}
+use Rattle.build_records.specs.WritesOnlyTree.{WritesOnlyTree, AgreesOn}
+use Rattle.build_levels.specs.LeafBytesWritten.{Leafing}
 use Rattle.build_records.specs.State.{On, StretchIs}
 use Rattle.build_records.proofs.Growth.{within-grown, within-part, within-join, bytes-grown, bytes-within}
 use Rattle.build_records.proofs.RecordsRead.{on-written}
@@ -72,14 +72,14 @@ module _ (S : Settings) (T out : List ℕ) (level : Level) (to i : ℕ) (w : Lea
           ∙ leaf-at S T taken l i j (w .last) i-in (omega (arith, own-is .length-is)))
 
       module _ (new : List ℕ) (new-is : new ≡ bytesWritten out to T s len) where
-        pub leaf-grown : Grown D out new
+        pub leaf-grown : WritesOnlyTree D out new
         leaf-grown = rw new-is (bytes-grown D out T to s len leaf-fits in-tree bytes-are len (omega arith))
 
-        pub leaf-within : Within D new to (to + len)
+        pub leaf-within : AgreesOn D new to (to + len)
         leaf-within = rw new-is (bytes-within D out T to s len leaf-fits in-tree bytes-are)
 
     -- The next block.
-    module _ (new : List ℕ) (len : ℕ) (len-is : len ≡ widthOf S T l i) (g : Grown D out new) (here : Within D new to (to + len)) where
+    module _ (new : List ℕ) (len : ℕ) (len-is : len ≡ widthOf S T l i) (g : WritesOnlyTree D out new) (here : AgreesOn D new to (to + len)) where
       pub leafing-more : Leafing S T new level (to + len) (i + 1)
       leafing-more = record {
         level-is = w .level-is;
@@ -101,7 +101,7 @@ module _ (S : Settings) (T out : List ℕ) (level : Level) (to i : ℕ) (w : Lea
       )
 
   -- All leaf bytes are written.
-  pub leafing-all : i ≡ level .count → Within D out headerLength (length D)
+  pub leafing-all : i ≡ level .count → AgreesOn D out headerLength (length D)
   leafing-all e =
       let all : to ≡ length D = w .to-is ∙ sym (tree-length S T taken ∙ ap (λ (x : ℕ). offset S T (S .levels) + x)
       (leaf-count S T taken l (w .last) ∙ ap (λ (x : ℕ). sumBelow x (widthOf S T l)) (sym (e ∙ w .level-is .count-is)))) in

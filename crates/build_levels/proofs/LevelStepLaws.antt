@@ -9,27 +9,27 @@ use lib.ListN.{length}
 use Rattle.text.specs.Text.{sumBelow}
 use Rattle.format.specs.Layout.{setWord, Settings, blockLength, maxLevels, countAt, leafOffsetAt, leafCountAt, headerLength}
 use Rattle.format.specs.Blocks.{treeOf, leafBytes}
-use Rattle.theory_built.specs.BlockSizes.{Taken, Bounds, bounds, size-pos, size-falls, maxTable, maxTree}
+use Rattle.theory_built.specs.BlockSizes.{Taken, BuiltBounds, bounds, size-pos, size-falls, maxTable, maxTree}
 use Rattle.theory_built.specs.Structure.{count, widthOf, count-below}
-use Rattle.theory_built.specs.BuiltLeaves.{leaf-count}
+use Rattle.theory_built.specs.BuiltLeafBytes.{leaf-count}
 use Rattle.theory_built.specs.Pairs.{offset}
-use Rattle.theory_built.specs.Small.{offset-le}
+use Rattle.theory_built.specs.SizeBounds.{offset-le}
 use Rattle.theory_built.specs.Shape.{tree-length}
 use Rattle.theory_built.specs.Built.{tree-small}
 use Rattle.build_records.specs.declared.level_written.Level.{Level}
 use Rattle.build_levels.specs.declared.level_step.Step.the-variants.{To, Full}
-use Rattle.build_records.specs.Grown.{Grown, Within}
+use Rattle.build_records.specs.WritesOnlyTree.{WritesOnlyTree, AgreesOn}
 use Rattle.build_levels.specs.Head.{pairWritten, unusedWritten}
 use Rattle.build_records.specs.RecordPlaces.{recordPlace}
-use Rattle.build_records.specs.State.{settingsOf, LevelIs, Filled, Below, placeAt}
-use Rattle.build_levels.specs.LeavesWritten.{Leafing}
-use Rattle.build_levels.specs.Trees.{nextOf, Ready, Written, StepIs, Finished}
+use Rattle.build_records.specs.State.{recordSettingsOf, LevelIs, RecordsUpTo, Below, placeAt}
+use Rattle.build_levels.specs.LeafBytesWritten.{Leafing}
+use Rattle.build_levels.specs.Trees.{nextOf, LevelReady, LevelWritten, StepIs, TreeComplete}
 use Rattle.build_records.proofs.Growth.{grown-then, within-grown, within-part, within-join}
 use Rattle.build_levels.proofs.LevelZeroLaws.{divided, step-ready, step-none}
 use Rattle.build_levels.proofs.HeaderWrittenLaws.{level-grown, level-within, end-grown, end-within}
-use Rattle.build_records.proofs.StateLaws.{place-is, place-end, offset-low, table-inside, Few, few}
+use Rattle.build_records.proofs.StateLaws.{place-is, place-end, offset-low, table-inside, RecordFew, record-few}
 
-pub next-made : (level : Level) (count p : ℕ) (cs : List ℕ) → p ≡ recordPlace (level .table) (level .count) (settingsOf (level .settings) cs)
+pub next-made : (level : Level) (count p : ℕ) (cs : List ℕ) → p ≡ recordPlace (level .table) (level .count) (recordSettingsOf (level .settings) cs)
     → record {
       settings = level .settings;
       number = level .number + 1;
@@ -44,15 +44,15 @@ next-made level count p cs e = rw e
 
 -- The preconditions of writing the words of a level in the header.
 pub pair-asks : (S : Settings) (T out : List ℕ) (level : Level) (total : ℕ)
-    → Written S T out level total → (headerLength ≤ length out) × (level .number < maxLevels)
+    → LevelWritten S T out level total → (headerLength ≤ length out) × (level .number < maxLevels)
 pair-asks S T out level total r =
     (omega (arith, r .room, offset-low S T (suc (level .number))), omega (arith, r .level-is .number-in, bounds S T (r .level-is .taken) .levels-high))
 
 -- The records of a level are written, and its words in the header.
-module _ (T cs : List ℕ) (level : Level) (out two : List ℕ) (total : ℕ) (r : Written (settingsOf (level .settings) cs) T out level total)
+module _ (T cs : List ℕ) (level : Level) (out two : List ℕ) (total : ℕ) (r : LevelWritten (recordSettingsOf (level .settings) cs) T out level total)
     (two-is : two ≡ pairWritten out (level .number) (level .count) (level .table)) where
   abbrev S : Settings
-  S = settingsOf (level .settings) cs
+  S = recordSettingsOf (level .settings) cs
 
   abbrev l : ℕ
   l = level .number
@@ -66,14 +66,14 @@ module _ (T cs : List ℕ) (level : Level) (out two : List ℕ) (total : ℕ) (r
   taken : Taken S T
   taken = h .taken
 
-  limits : Bounds S T
+  limits : BuiltBounds S T
   limits = bounds S T taken
 
-  table-end : recordPlace (level .table) (level .count) (settingsOf (level .settings) cs) ≡ offset S T (suc l)
+  table-end : recordPlace (level .table) (level .count) (recordSettingsOf (level .settings) cs) ≡ offset S T (suc l)
   table-end = place-is S T level h (level .count) ∙ ap (placeAt S T l) (h .count-is) ∙ place-end S T l
 
   -- The level's records end where the leaf bytes or the next level begin, which is a word.
-  pub table-small : recordPlace (level .table) (level .count) (settingsOf (level .settings) cs) ≤ maxTable
+  pub table-small : recordPlace (level .table) (level .count) (recordSettingsOf (level .settings) cs) ≤ maxTable
   table-small = rw table-end (offset-le S T taken (suc l) (omega (arith, h .number-in)))
 
   room-out : headerLength ≤ length out
@@ -82,13 +82,13 @@ module _ (T cs : List ℕ) (level : Level) (out two : List ℕ) (total : ℕ) (r
   two-right : two ≡ pairWritten out l (count S T l) (offset S T l)
   two-right = two-is ∙ rw (h .count-is, h .table-is)
 
-  pub pair-grown : Grown D out two
+  pub pair-grown : WritesOnlyTree D out two
   pair-grown = level-grown S T taken out two l room-out (h .number-in) two-right
 
-  header-two : Within D two 0 (countAt (l + 1))
+  header-two : AgreesOn D two 0 (countAt (l + 1))
   header-two = level-within S T taken out two l room-out (h .number-in) two-right (r .header)
 
-  body-two : Within D two headerLength (offset S T (suc l))
+  body-two : AgreesOn D two headerLength (offset S T (suc l))
   body-two = within-grown D out two headerLength (offset S T (suc l)) pair-grown (r .body)
 
   pub room-two : headerLength ≤ length two
@@ -119,15 +119,15 @@ module _ (T cs : List ℕ) (level : Level) (out two : List ℕ) (total : ℕ) (r
       table-is = table-end ∙ ap (offset S T) (sym (add-one l));
     }
 
-    end-next : recordPlace (next .table) (next .count) (settingsOf (next .settings) cs) ≡ offset S T (suc (suc l))
+    end-next : recordPlace (next .table) (next .count) (recordSettingsOf (next .settings) cs) ≡ offset S T (suc (suc l))
     end-next =
         let e : placeAt S T (l + 1) (count S T (l + 1)) ≡ offset S T (suc (suc l)) = place-end S T (l + 1) ∙ ap (λ (k : ℕ). offset S T (suc k)) (add-one l) in
         place-is S T next next-is (next .count) ∙ ap (placeAt S T (l + 1)) count-next ∙ e
 
-    no-room : (p : ℕ) → p ≡ recordPlace (next .table) (next .count) (settingsOf (next .settings) cs) → length two < p → length two < length D
+    no-room : (p : ℕ) → p ≡ recordPlace (next .table) (next .count) (recordSettingsOf (next .settings) cs) → length two < p → length two < length D
     no-room p e k = omega (arith, end-next, table-inside S T taken (suc l) up′)
 
-    below-first : (p : ℕ) → p ≡ recordPlace (next .table) (next .count) (settingsOf (next .settings) cs) → p ≤ length two → Below S T two level next 0
+    below-first : (p : ℕ) → p ≡ recordPlace (next .table) (next .count) (recordSettingsOf (next .settings) cs) → p ≤ length two → Below S T two level next 0
     unfolding sumBelow
     below-first p e k = record {
       level-is = h;
@@ -138,7 +138,7 @@ module _ (T cs : List ℕ) (level : Level) (out two : List ℕ) (total : ℕ) (r
       done = record { starts = λ x a b. absurd (let z : ⊥ = omega arith in z) };
     }
 
-    ready-next : (new : List ℕ) → Grown D two new → Filled S T new (suc l) 0 → Ready S T new next
+    ready-next : (new : List ℕ) → WritesOnlyTree D two new → RecordsUpTo S T new (suc l) 0 → LevelReady S T new next
     ready-next new more filled = record {
       level-is = next-is;
       filled = rw (← add-one l) at filled;
@@ -150,17 +150,17 @@ module _ (T cs : List ℕ) (level : Level) (out two : List ℕ) (total : ℕ) (r
       n-level : LevelIs S T n
       n-level = rw n-is next-is
 
-      pub next-few : Few S T n
-      next-few = few S T n n-level
+      pub next-few : RecordFew S T n
+      next-few = record-few S T n n-level
 
-      pub step-full : (p : ℕ) → p ≡ recordPlace (n .table) (n .count) (settingsOf (n .settings) cs)
+      pub step-full : (p : ℕ) → p ≡ recordPlace (n .table) (n .count) (recordSettingsOf (n .settings) cs)
           → length two < p → StepIs S T two (level .settings) (l + 1) Full
       step-full p e k = step-none S T two (level .settings) (l + 1) (no-room p (rw n-is at e) k)
 
-      pub step-below : (p : ℕ) → p ≡ recordPlace (n .table) (n .count) (settingsOf (n .settings) cs) → p ≤ length two → Below S T two level n 0
+      pub step-below : (p : ℕ) → p ≡ recordPlace (n .table) (n .count) (recordSettingsOf (n .settings) cs) → p ≤ length two → Below S T two level n 0
       step-below p e k = rw n-is (below-first p (rw n-is at e) k)
 
-      pub step-to : (new : List ℕ) → Grown D two new → Filled S T new (suc l) 0 → StepIs S T new (level .settings) (l + 1) (To n)
+      pub step-to : (new : List ℕ) → WritesOnlyTree D two new → RecordsUpTo S T new (suc l) 0 → StepIs S T new (level .settings) (l + 1) (To n)
       step-to new more filled = rw n-is (step-ready S T new (level .settings) (l + 1) next (refl, refl, ready-next new more filled))
 
   -- On the last level.
@@ -171,7 +171,7 @@ module _ (T cs : List ℕ) (level : Level) (out two : List ℕ) (total : ℕ) (r
     total-leaves : total ≡ length (leafBytes S T)
     total-leaves = r .total-is ∙ ap (λ (k : ℕ). sumBelow k (widthOf S T l)) (h .count-is) ∙ sym (leaf-count S T taken l last′)
 
-    module _ (at : ℕ) (at-is : at ≡ recordPlace (level .table) (level .count) (settingsOf (level .settings) cs)) where
+    module _ (at : ℕ) (at-is : at ≡ recordPlace (level .table) (level .count) (recordSettingsOf (level .settings) cs)) where
       at-right : at ≡ offset S T (S .levels)
       at-right = at-is ∙ table-end ∙ ap (offset S T) last′
 
@@ -181,7 +181,7 @@ module _ (T cs : List ℕ) (level : Level) (out two : List ℕ) (total : ℕ) (r
       pub end-small : at + total ≤ maxTree
       end-small = omega (arith, end-is, tree-small S T taken)
 
-      pub not-fits : length two < at + total → Finished D two 0
+      pub not-fits : length two < at + total → TreeComplete D two 0
       not-fits k = inl (refl, omega (arith, end-is))
 
       module _ (fits : at + total ≤ length two) (three : List ℕ)
@@ -190,10 +190,10 @@ module _ (T cs : List ℕ) (level : Level) (out two : List ℕ) (total : ℕ) (r
             (setWord (unusedWritten two (S .levels) (maxLevels - S .levels)) leafOffsetAt (offset S T (S .levels))) leafCountAt (length (leafBytes S T))
         three-right = three-is ∙ rw (at-right, total-leaves)
 
-        pub three-grown : Grown D two three
+        pub three-grown : WritesOnlyTree D two three
         three-grown = end-grown S T taken two room-two three three-right
 
-        header-three : Within D three 0 headerLength
+        header-three : AgreesOn D three 0 headerLength
         header-three =
             let e : l + 1 ≡ S .levels = last in
             end-within S T taken two room-two three three-right (rw e at header-two)
@@ -209,11 +209,11 @@ module _ (T cs : List ℕ) (level : Level) (out two : List ℕ) (total : ℕ) (r
           to-is = omega (arith, at-right);
         }
 
-        module _ (four : List ℕ) (leaves : Grown D three four) (all : Within D four headerLength (length D)) where
-          pub finish-grown : Grown D out four
+        module _ (four : List ℕ) (leaves : WritesOnlyTree D three four) (all : AgreesOn D four headerLength (length D)) where
+          pub finish-grown : WritesOnlyTree D out four
           finish-grown = grown-then D out two four pair-grown (grown-then D two three four three-grown leaves)
 
-          pub finished : Finished D four (at + total)
+          pub finished : TreeComplete D four (at + total)
           finished = inr (
             end-is,
             omega (arith, end-is, three-grown .same-length, leaves .same-length),

@@ -11,27 +11,28 @@ use Rattle.format.specs.SizeLaws.{sizes-alone}
 use Rattle.format.specs.Blocks.{treeOf, recordBytes}
 use Rattle.layout.specs.declared.settings.Settings as code
 use Rattle.layout.specs.SettingsLevel.{Sized}
-use Rattle.theory_built.specs.BuiltBytes.{Stands}
-use Rattle.theory_built.specs.BlockSizes.{Taken, Bounds, bounds, size-falls}
+use Rattle.theory_built.specs.BuiltBytes.{BytesAt}
+use Rattle.theory_built.specs.BlockSizes.{Taken, BuiltBounds, bounds, size-falls}
 use Rattle.theory_built.specs.Structure.{count, start, count-top, start-top}
 use Rattle.theory_built.specs.Pairs.{offset}
 use Rattle.build_records.specs.declared.level_written.Level.{Level}
-use Rattle.build_records.specs.Grown.{Grown, Within}
+use Rattle.build_records.specs.WritesOnlyTree.{WritesOnlyTree, AgreesOn}
 use Rattle.build_records.specs.RecordPlaces.{recordPlace}
 use Rattle.build_records.specs.WrittenStarts.{startsWritten, StartsAsk}
-use Rattle.build_records.specs.State.{settingsOf, LevelIs, Filled, placeAt}
+use Rattle.build_records.specs.State.{recordSettingsOf, LevelIs, RecordsUpTo, placeAt}
 use Rattle.build_levels.specs.declared.level_step.Step.the-variants.{To, Full}
-use Rattle.build_levels.specs.Trees.{firstOf, Ready, StepIs}
+use Rattle.build_levels.specs.Trees.{levelFirstOf, LevelReady, StepIs}
 use Rattle.build_records.proofs.Growth.{grown-then, within-grown, within-none}
 use Rattle.build_records.proofs.BelowLaws.{pieces-most}
 use Rattle.build_records.proofs.WrittenStartsLaws.{starts-grown, starts-within}
-use Rattle.build_records.proofs.StateLaws.{record-size, place-is, place-end, record-inside-table, table-inside, offset-low, size-high, start-stands, Few, few}
+use Rattle.build_records.proofs.StateLaws.{record-size, place-is, place-end, record-inside-table, table-inside}
+use Rattle.build_records.proofs.StateLaws.{offset-low, size-high, start-stands, RecordFew, record-few}
 
 -- A step that came to a level, and one that found no room for it.
 module _ (S : Settings) (T out : List ℕ) (s : code.Settings) (number : ℕ) where
-  pub step-ready : (n : Level) → (n .settings ≡ s) × (n .number ≡ number) × Ready S T out n → StepIs S T out s number (To n)
+  pub step-ready : (n : Level) → (n .settings ≡ s) × (n .number ≡ number) × LevelReady S T out n → StepIs S T out s number (To n)
   step-ready n p = record {
-    to = λ next e. subst (λ (m : Level). (m .settings ≡ s) × (m .number ≡ number) × Ready S T out m) (same next e) p;
+    to = λ next e. subst (λ (m : Level). (m .settings ≡ s) × (m .number ≡ number) × LevelReady S T out m) (same next e) p;
     full = λ e. absurd (differ e);
   }
     where
@@ -54,11 +55,11 @@ table-zero : (S : Settings) (T : List ℕ) → headerLength ≡ offset S T 0
 unfolding offset sumBelow
 table-zero S T = omega arith
 
-module _ (s : code.Settings) (cs T : List ℕ) (h : Taken (settingsOf s cs) T) where
+module _ (s : code.Settings) (cs T : List ℕ) (h : Taken (recordSettingsOf s cs) T) where
   abbrev S₀ : Settings
-  S₀ = settingsOf s cs
+  S₀ = recordSettingsOf s cs
 
-  limits₀ : Bounds S₀ T
+  limits₀ : BuiltBounds S₀ T
   limits₀ = bounds S₀ T h
 
   pub first-sized : Sized s 0
@@ -67,11 +68,11 @@ module _ (s : code.Settings) (cs T : List ℕ) (h : Taken (settingsOf s cs) T) w
     level-in = limits₀ .levels-low;
   }
 
-  size-zero : firstOf s (length T) .size ≡ blockLength S₀ 0
+  size-zero : levelFirstOf s (length T) .size ≡ blockLength S₀ 0
   unfolding blockLength
   size-zero = refl
 
-  first-is : LevelIs S₀ T (firstOf s (length T))
+  first-is : LevelIs S₀ T (levelFirstOf s (length T))
   first-is = record {
     taken = h;
     number-in = limits₀ .levels-low;
@@ -80,7 +81,7 @@ module _ (s : code.Settings) (cs T : List ℕ) (h : Taken (settingsOf s cs) T) w
     above-is = λ k e. absurd (let z : ⊥ = omega arith in z);
     size-is = size-zero;
     below-is = λ up. divided (s .arity)
-        (firstOf s (length T) .size) (blockLength S₀ 1) (omega (arith, limits₀ .arity-low)) (size-zero ∙ size-falls S₀ T h 0 up);
+        (levelFirstOf s (length T) .size) (blockLength S₀ 1) (omega (arith, limits₀ .arity-low)) (size-zero ∙ size-falls S₀ T h 0 up);
     count-is = ap (λ (b : ℕ). pieces (length T) b) size-zero ∙ sym (count-top S₀ T h);
     table-is = table-zero S₀ T;
   }
@@ -93,18 +94,18 @@ pub sized-high : (s : code.Settings) → Sized s 0 → s .leaf * s .arity ^ (s .
 sized-high s z = let e : s .levels - 1 - 0 ≡ s .levels - 1 = omega arith in rw e (z .bounds .top-high)
 
 pub first-made : (s : code.Settings) (n b p : ℕ) → b ≡ s .leaf * s .arity ^ (s .levels - 1 - 0) → p ≡ pieces n b
-    → record { settings = s; number = 0; above = 1; size = b; below = b / s .arity; count = p; table = headerLength } ≡ firstOf s n
+    → record { settings = s; number = 0; above = 1; size = b; below = b / s .arity; count = p; table = headerLength } ≡ levelFirstOf s n
 first-made s n b p e f = rw (f, e)
 
 -- The level that the code makes, and what is written.
-module _ (s : code.Settings) (cs T : List ℕ) (h : Taken (settingsOf s cs) T) (first : Level) (first-eq : first ≡ firstOf s (length T)) where
+module _ (s : code.Settings) (cs T : List ℕ) (h : Taken (recordSettingsOf s cs) T) (first : Level) (first-eq : first ≡ levelFirstOf s (length T)) where
   abbrev S : Settings
-  S = settingsOf s cs
+  S = recordSettingsOf s cs
 
   abbrev D : List ℕ
   D = treeOf S T
 
-  limits : Bounds S T
+  limits : BuiltBounds S T
   limits = bounds S T h
 
   level-first : LevelIs S T first
@@ -116,8 +117,8 @@ module _ (s : code.Settings) (cs T : List ℕ) (h : Taken (settingsOf s cs) T) (
   settings-first : first .settings ≡ s
   settings-first = rw first-eq
 
-  pub few-first : Few S T first
-  few-first = few S T first level-first
+  pub few-first : RecordFew S T first
+  few-first = record-few S T first level-first
 
   count-first : first .count ≡ count S T 0
   count-first = level-first .count-is ∙ ap (count S T) number-first
@@ -125,11 +126,11 @@ module _ (s : code.Settings) (cs T : List ℕ) (h : Taken (settingsOf s cs) T) (
   size-first : first .size ≡ blockLength S 0
   size-first = level-first .size-is ∙ ap (blockLength S) number-first
 
-  end-first : recordPlace (first .table) (first .count) (settingsOf (first .settings) cs) ≡ offset S T 1
+  end-first : recordPlace (first .table) (first .count) (recordSettingsOf (first .settings) cs) ≡ offset S T 1
   end-first =
       place-is S T first level-first (first .count) ∙ rw (number-first, count-first) (place-end S T 0)
 
-  module _ (out : List ℕ) (p : ℕ) (p-is : p ≡ recordPlace (first .table) (first .count) (settingsOf (first .settings) cs)) where
+  module _ (out : List ℕ) (p : ℕ) (p-is : p ≡ recordPlace (first .table) (first .count) (recordSettingsOf (first .settings) cs)) where
     pub no-first : length out < p → StepIs S T out s 0 Full
     no-first k = step-none S T out s 0 (omega (arith, p-is, end-first, table-inside S T h 0 (limits .levels-low)))
 
@@ -140,7 +141,7 @@ module _ (s : code.Settings) (cs T : List ℕ) (h : Taken (settingsOf s cs) T) (
       pub long-first : headerLength ≤ length out
       long-first = omega (arith, room-first, offset-low S T 1)
 
-      module _ (one : List ℕ) (g : Grown D out one) (header : Within D one 0 pairsAt) (step : ℕ) (step-is : step ≡ recordBytes S) where
+      module _ (one : List ℕ) (g : WritesOnlyTree D out one) (header : AgreesOn D one 0 pairsAt) (step : ℕ) (step-is : step ≡ recordBytes S) where
         room-one : offset S T 1 ≤ length one
         room-one = omega (arith, room-first, g .same-length)
 
@@ -161,7 +162,7 @@ module _ (s : code.Settings) (cs T : List ℕ) (h : Taken (settingsOf s cs) T) (
           at-place : (j : ℕ) → headerLength + j * recordBytes S ≡ placeAt S T 0 j
           at-place j = omega (arith, table-zero S T)
 
-          stands : (j : ℕ) → j < count S T 0 → Stands D (headerLength + j * recordBytes S) (0 + j * blockLength S 0)
+          stands : (j : ℕ) → j < count S T 0 → BytesAt D (headerLength + j * recordBytes S) (0 + j * blockLength S 0)
           stands j k =
               let e : start S T 0 j ≡ 0 + j * blockLength S 0 = start-top S T h j k ∙ omega arith in
               rw (at-place j, ← e) (start-stands S T h 0 j (limits .levels-low) k)
@@ -175,18 +176,18 @@ module _ (s : code.Settings) (cs T : List ℕ) (h : Taken (settingsOf s cs) T) (
           inside : (j : ℕ) → j < count S T 0 → headerLength + j * recordBytes S + 4 ≤ length D
           inside j k = omega (arith, in-table j k, table-inside S T h 0 (limits .levels-low))
 
-          grown-two : Grown D one two
+          grown-two : WritesOnlyTree D one two
           grown-two = rw two-right (starts-grown D
               one headerLength (recordBytes S) 0 (blockLength S 0) (count S T 0) stands fits inside (count S T 0) (omega arith))
 
-          pub first-grown : Grown D out two
+          pub first-grown : WritesOnlyTree D out two
           first-grown = grown-then D out one two g grown-two
 
-          started : (x : ℕ) → x < count S T 0 → Within D two (placeAt S T 0 x) (placeAt S T 0 x + 4)
+          started : (x : ℕ) → x < count S T 0 → AgreesOn D two (placeAt S T 0 x) (placeAt S T 0 x + 4)
           started x k = rw (← at-place x, two-right)
               (starts-within D one headerLength (recordBytes S) 0 (blockLength S 0) (count S T 0) stands fits inside (count S T 0) (omega arith) x k)
 
-          filled : Filled S T two 0 0
+          filled : RecordsUpTo S T two 0 0
           filled = record {
             room = omega (arith, room-one, grown-two .same-length);
             body = within-none D two headerLength (placeAt S T 0 0) (omega (arith, table-zero S T));
@@ -199,7 +200,7 @@ module _ (s : code.Settings) (cs T : List ℕ) (h : Taken (settingsOf s cs) T) (
             number-first,
             record {
               level-is = level-first;
-              filled = subst (λ (l : ℕ). Filled S T two l 0) (sym number-first) filled;
-              header = subst (λ (l : ℕ). Within D two 0 (countAt l)) (sym number-first) (within-grown D one two 0 pairsAt grown-two header);
+              filled = subst (λ (l : ℕ). RecordsUpTo S T two l 0) (sym number-first) filled;
+              header = subst (λ (l : ℕ). AgreesOn D two 0 (countAt l)) (sym number-first) (within-grown D one two 0 pairsAt grown-two header);
             },
           )

@@ -1,3 +1,3 @@
 pub mod Head
-pub mod LeavesWritten
+pub mod LeafBytesWritten
 pub mod Trees

@@ -13,13 +13,13 @@ use Rattle.layout.specs.declared.settings.Settings as code
 use Rattle.build_records.specs.declared.level_written.Level.{Level}
 use Rattle.build_levels.specs.declared.level_step.Step.{Step}
 use Rattle.build_levels.specs.declared.level_step.Step.the-variants.{To, Full}
-use Rattle.build_records.specs.Grown.{Within}
+use Rattle.build_records.specs.WritesOnlyTree.{AgreesOn}
 use Rattle.build_records.specs.RecordPlaces.{recordPlace}
-use Rattle.build_records.specs.State.{settingsOf, LevelIs, Filled}
+use Rattle.build_records.specs.State.{recordSettingsOf, LevelIs, RecordsUpTo}
 
 -- Level 0 of a text of n bytes.
-abbrev pub firstOf : code.Settings → ℕ → Level
-firstOf s n = record {
+abbrev pub levelFirstOf : code.Settings → ℕ → Level
+levelFirstOf s n = record {
   settings = s;
   number = 0;
   above = 1;
@@ -38,31 +38,31 @@ nextOf level count cs = record {
   size = level .below;
   below = level .below / level .settings .arity;
   count = count;
-  table = recordPlace (level .table) (level .count) (settingsOf (level .settings) cs);
+  table = recordPlace (level .table) (level .count) (recordSettingsOf (level .settings) cs);
 }
 
 module _ (S : Settings) (T : List ℕ) where
   -- Everything above a level is written, with the words of the levels above it in the header, and the starts of its blocks.
-  pub record Ready (out : List ℕ) (level : Level) : Type 0 where
+  pub record LevelReady (out : List ℕ) (level : Level) : Type 0 where
     pub level-is : LevelIs S T level
-    pub filled : Filled S T out (level .number) 0
-    pub header : Within (treeOf S T) out 0 (countAt (level .number))
+    pub filled : RecordsUpTo S T out (level .number) 0
+    pub header : AgreesOn (treeOf S T) out 0 (countAt (level .number))
 
   -- The records of a level are written too, with `total` blocks or leaf bytes below them.
-  pub record Written (out : List ℕ) (level : Level) (total : ℕ) : Type 0 where
+  pub record LevelWritten (out : List ℕ) (level : Level) (total : ℕ) : Type 0 where
     pub level-is : LevelIs S T level
     pub room : offset S T (suc (level .number)) ≤ length out
-    pub body : Within (treeOf S T) out headerLength (offset S T (suc (level .number)))
-    pub header : Within (treeOf S T) out 0 (countAt (level .number))
+    pub body : AgreesOn (treeOf S T) out headerLength (offset S T (suc (level .number)))
+    pub header : AgreesOn (treeOf S T) out 0 (countAt (level .number))
     pub total-is : total ≡ sumBelow (level .count) (widthOf S T (level .number))
 
   -- A step to the level with this number: it is ready, or the tree does not fit.
   pub record StepIs (out : List ℕ) (s : code.Settings) (number : ℕ) (step : Step) : Type 0 where
-    pub to : (next : Level) → step ≡ To next → (next .settings ≡ s) × (next .number ≡ number) × Ready out next
+    pub to : (next : Level) → step ≡ To next → (next .settings ≡ s) × (next .number ≡ number) × LevelReady out next
     pub full : step ≡ Full → length out < length (treeOf S T)
 
 -- The buffer contains the whole tree, of r bytes; or the tree does not fit, and r is 0.
-abbrev pub Finished : List ℕ → List ℕ → ℕ → Type 0
-Finished D out r =
+abbrev pub TreeComplete : List ℕ → List ℕ → ℕ → Type 0
+TreeComplete D out r =
     ((r ≡ 0) × (length out < length D))
-    ⊎ ((r ≡ length D) × (length D ≤ length out) × Within D out 0 (length D))
+    ⊎ ((r ≡ length D) × (length D ≤ length out) × AgreesOn D out 0 (length D))

@@ -8,10 +8,10 @@ ghost use lib.ListN.{length, getD};
 ghost use Rattle.format.specs.Layout.{setWord, maxLevels, maxCounted, countedAt, pairsAt, leafOffsetAt, leafCountAt, headerLength};
 ghost use Rattle.format.specs.Blocks.{treeOf};
 ghost use Rattle.theory_built.specs.BlockSizes.{Taken};
-ghost use Rattle.build_records.specs.Grown.{Grown, Within};
-ghost use Rattle.stretches.specs.Stretches.{bytesWritten};
+ghost use Rattle.build_records.specs.WritesOnlyTree.{WritesOnlyTree, AgreesOn};
+ghost use Rattle.byte_slices.specs.ByteSlices.{bytesWritten};
 ghost use Rattle.build_levels.specs.Head.{places, pairWritten, unusedWritten};
-ghost use Rattle.build_records.specs.State.{settingsOf};
+ghost use Rattle.build_records.specs.State.{recordSettingsOf};
 
 // The byte at one of the places for counted bytes; 0 if the place is unused.
 fn counted_byte(counted: &[u8], x: usize) -> u8
@@ -37,9 +37,9 @@ fn put_counted(out: &mut [u8], counted: &[u8])
 
 // Writes the header up to the words of the levels.
 pub fn put_head(out: &mut [u8], text: &[u8], counted: &[u8], s: Settings)
-    requires { ⌜ Taken (settingsOf s (now counted)) (now text) × (headerLength ≤ length (now out)) ⌝ }
-    ensures { λ _. ⌜ Grown (treeOf (settingsOf s (now (counted .entry))) (now (text .entry))) (now (out .entry)) (now (out .exit)) ⌝ }
-    ensures { λ _. ⌜ Within (treeOf (settingsOf s (now (counted .entry))) (now (text .entry))) (now (out .exit)) 0 pairsAt ⌝ }
+    requires { ⌜ Taken (recordSettingsOf s (now counted)) (now text) × (headerLength ≤ length (now out)) ⌝ }
+    ensures { λ _. ⌜ WritesOnlyTree (treeOf (recordSettingsOf s (now (counted .entry))) (now (text .entry))) (now (out .entry)) (now (out .exit)) ⌝ }
+    ensures { λ _. ⌜ AgreesOn (treeOf (recordSettingsOf s (now (counted .entry))) (now (text .entry))) (now (out .exit)) 0 pairsAt ⌝ }
 {
     word::put_three(
         out,

@@ -8,9 +8,9 @@ ghost use lib.ListN.{length};
 ghost use Rattle.format.specs.Layout.{headerLength};
 ghost use Rattle.format.specs.Blocks.{treeOf};
 ghost use Rattle.theory_built.specs.Structure.{widthOf};
-ghost use Rattle.build_records.specs.Grown.{Grown, Within};
-ghost use Rattle.build_levels.specs.LeavesWritten.{Leafing};
-ghost use Rattle.build_records.specs.State.{settingsOf};
+ghost use Rattle.build_records.specs.WritesOnlyTree.{WritesOnlyTree, AgreesOn};
+ghost use Rattle.build_levels.specs.LeafBytesWritten.{Leafing};
+ghost use Rattle.build_records.specs.State.{recordSettingsOf};
 
 // Writes the leaf bytes of a block and returns their number.
 fn put_leaf(
@@ -21,13 +21,14 @@ fn put_leaf(
     to: u32,
     i: BlockNumber,
 ) -> u32
-    requires { ⌜ Leafing (settingsOf (level .settings) (now counted)) (now text) (now out) level to (i .0) × (i .0 < level .count) ⌝ }
-    ensures { λ r. ⌜ r ≡ widthOf (settingsOf (level .settings) (now (counted .entry))) (now (text .entry)) (level .number) (i .0) ⌝ }
-    ensures { λ _. ⌜ Grown (treeOf (settingsOf (level .settings) (now (counted .entry))) (now (text .entry))) (now (out .entry)) (now (out .exit)) ⌝ }
-    ensures { λ r. ⌜ Within (treeOf (settingsOf (level .settings) (now (counted .entry))) (now (text .entry))) (now (out .exit)) to (to + r) ⌝ }
+    requires { ⌜ Leafing (recordSettingsOf (level .settings) (now counted)) (now text) (now out) level to (i .0) × (i .0 < level .count) ⌝ }
+    ensures { λ r. ⌜ r ≡ widthOf (recordSettingsOf (level .settings) (now (counted .entry))) (now (text .entry)) (level .number) (i .0) ⌝ }
+    ensures { λ _. ⌜ WritesOnlyTree (treeOf (recordSettingsOf (level .settings) (now (counted .entry))) (now (text .entry))) (now (out .entry))
+        (now (out .exit)) ⌝ }
+    ensures { λ r. ⌜ AgreesOn (treeOf (recordSettingsOf (level .settings) (now (counted .entry))) (now (text .entry))) (now (out .exit)) to (to + r) ⌝ }
 {
     let own = level_written::stretch_of(text, counted, out, level, i);
-    stretches::copy(
+    byte_slices::copy(
         out,
         to as usize,
         text,
@@ -39,10 +40,11 @@ fn put_leaf(
 
 // Writes all leaf bytes.
 pub fn put_leaves(out: &mut [u8], text: &[u8], counted: &[u8], level: Level, at: u32)
-    requires { ⌜ Leafing (settingsOf (level .settings) (now counted)) (now text) (now out) level at 0 ⌝ }
-    ensures { λ _. ⌜ Grown (treeOf (settingsOf (level .settings) (now (counted .entry))) (now (text .entry))) (now (out .entry)) (now (out .exit)) ⌝ }
-    ensures { λ _. ⌜ Within (treeOf (settingsOf (level .settings) (now (counted .entry))) (now (text .entry))) (now (out .exit))
-        headerLength (length (treeOf (settingsOf (level .settings) (now (counted .entry))) (now (text .entry)))) ⌝ }
+    requires { ⌜ Leafing (recordSettingsOf (level .settings) (now counted)) (now text) (now out) level at 0 ⌝ }
+    ensures { λ _. ⌜ WritesOnlyTree (treeOf (recordSettingsOf (level .settings) (now (counted .entry))) (now (text .entry))) (now (out .entry))
+        (now (out .exit)) ⌝ }
+    ensures { λ _. ⌜ AgreesOn (treeOf (recordSettingsOf (level .settings) (now (counted .entry))) (now (text .entry))) (now (out .exit))
+        headerLength (length (treeOf (recordSettingsOf (level .settings) (now (counted .entry))) (now (text .entry)))) ⌝ }
 {
     let mut to: u32 = at;
     let mut i: u32 = 0;

@@ -16,10 +16,10 @@ ghost use Rattle.format.specs.Layout.{maxText, maxLeaf, maxLevels, maxCounted};
 ghost use Rattle.format.specs.Blocks.{treeOf};
 ghost use Rattle.theory_built.specs.BlockSizes.{Taken, maxTable};
 ghost use Rattle.layout.specs.SettingsLevel.{Sized};
-ghost use Rattle.build_records.specs.Grown.{Grown};
+ghost use Rattle.build_records.specs.WritesOnlyTree.{WritesOnlyTree};
 ghost use Rattle.build_records.specs.RecordPlaces.{recordPlace};
-ghost use Rattle.build_records.specs.State.{settingsOf};
-ghost use Rattle.build_levels.specs.Trees.{firstOf, nextOf, Written, StepIs, Finished};
+ghost use Rattle.build_records.specs.State.{recordSettingsOf};
+ghost use Rattle.build_levels.specs.Trees.{levelFirstOf, nextOf, LevelWritten, StepIs, TreeComplete};
 
 // Where the records of level 0 begin.
 const FIRST_TABLE: u32 = header::HEADER_LENGTH as u32;
@@ -33,7 +33,7 @@ pub enum Step {
 // Level 0.
 fn first_level(text: &[u8], s: Settings) -> Level
     requires { ⌜ Sized s 0 × (1 ≤ s .leaf) × (length (now text) ≤ maxText) ⌝ }
-    ensures { λ r. ⌜ r ≡ firstOf s (length (now (text .entry))) ⌝ }
+    ensures { λ r. ⌜ r ≡ levelFirstOf s (length (now (text .entry))) ⌝ }
 {
     let size = s.block_length(0);
     Level {
@@ -51,7 +51,7 @@ fn first_level(text: &[u8], s: Settings) -> Level
 fn next_level(counted: &[u8], level: Level, count: u32) -> Level
     requires { ⌜ (length (now counted) ≤ maxCounted) × (level .table ≤ maxTable)
         × (level .count ≤ maxText) × (level .settings .leaf ≤ maxLeaf) × (level .number < maxLevels) × (0 < level .settings .arity) ⌝ }
-    requires { ⌜ recordPlace (level .table) (level .count) (settingsOf (level .settings) (now counted)) ≤ maxTable ⌝ }
+    requires { ⌜ recordPlace (level .table) (level .count) (recordSettingsOf (level .settings) (now counted)) ≤ maxTable ⌝ }
     ensures { λ r. ⌜ r ≡ nextOf level count (now (counted .entry)) ⌝ }
 {
     let settings = level.settings;
@@ -68,9 +68,9 @@ fn next_level(counted: &[u8], level: Level, count: u32) -> Level
 
 // Writes the first words of the header and the starts of level 0.
 pub fn begin(out: &mut [u8], text: &[u8], counted: &[u8], s: Settings) -> Step
-    requires { ⌜ Taken (settingsOf s (now counted)) (now text) ⌝ }
-    ensures { λ _. ⌜ Grown (treeOf (settingsOf s (now (counted .entry))) (now (text .entry))) (now (out .entry)) (now (out .exit)) ⌝ }
-    ensures { λ r. ⌜ StepIs (settingsOf s (now (counted .entry))) (now (text .entry)) (now (out .exit)) s 0 r ⌝ }
+    requires { ⌜ Taken (recordSettingsOf s (now counted)) (now text) ⌝ }
+    ensures { λ _. ⌜ WritesOnlyTree (treeOf (recordSettingsOf s (now (counted .entry))) (now (text .entry))) (now (out .entry)) (now (out .exit)) ⌝ }
+    ensures { λ r. ⌜ StepIs (recordSettingsOf s (now (counted .entry))) (now (text .entry)) (now (out .exit)) s 0 r ⌝ }
 {
     let first = first_level(text, s);
     if out.len() < level_written::place(counted, first, BlockNumber(first.count)) {
@@ -90,10 +90,11 @@ pub fn begin(out: &mut [u8], text: &[u8], counted: &[u8], s: Settings) -> Step
 
 // After the records of a level above the last: writes its words in the header and the starts of the next level.
 pub fn go_down(out: &mut [u8], text: &[u8], counted: &[u8], level: Level, count: u32) -> Step
-    requires { ⌜ Written (settingsOf (level .settings) (now counted)) (now text) (now out) level count ⌝ }
+    requires { ⌜ LevelWritten (recordSettingsOf (level .settings) (now counted)) (now text) (now out) level count ⌝ }
     requires { ⌜ level .number + 1 < level .settings .levels ⌝ }
-    ensures { λ _. ⌜ Grown (treeOf (settingsOf (level .settings) (now (counted .entry))) (now (text .entry))) (now (out .entry)) (now (out .exit)) ⌝ }
-    ensures { λ r. ⌜ StepIs (settingsOf (level .settings) (now (counted .entry)))
+    ensures { λ _. ⌜ WritesOnlyTree (treeOf (recordSettingsOf (level .settings) (now (counted .entry))) (now (text .entry))) (now (out .entry))
+        (now (out .exit)) ⌝ }
+    ensures { λ r. ⌜ StepIs (recordSettingsOf (level .settings) (now (counted .entry)))
         (now (text .entry)) (now (out .exit)) (level .settings) (level .number + 1) r ⌝ }
 {
     header_written::put_pair(out, level.number, level.count, level.table);
@@ -107,10 +108,11 @@ pub fn go_down(out: &mut [u8], text: &[u8], counted: &[u8], level: Level, count:
 
 // After the records of the last level: writes the rest of the header and the leaf bytes. Returns the size of the tree, 0 if it does not fit.
 pub fn finish(out: &mut [u8], text: &[u8], counted: &[u8], level: Level, count: u32) -> u32
-    requires { ⌜ Written (settingsOf (level .settings) (now counted)) (now text) (now out) level count ⌝ }
+    requires { ⌜ LevelWritten (recordSettingsOf (level .settings) (now counted)) (now text) (now out) level count ⌝ }
     requires { ⌜ level .number + 1 ≡ level .settings .levels ⌝ }
-    ensures { λ _. ⌜ Grown (treeOf (settingsOf (level .settings) (now (counted .entry))) (now (text .entry))) (now (out .entry)) (now (out .exit)) ⌝ }
-    ensures { λ r. ⌜ Finished (treeOf (settingsOf (level .settings) (now (counted .entry))) (now (text .entry))) (now (out .exit)) r ⌝ }
+    ensures { λ _. ⌜ WritesOnlyTree (treeOf (recordSettingsOf (level .settings) (now (counted .entry))) (now (text .entry))) (now (out .entry))
+        (now (out .exit)) ⌝ }
+    ensures { λ r. ⌜ TreeComplete (treeOf (recordSettingsOf (level .settings) (now (counted .entry))) (now (text .entry))) (now (out .exit)) r ⌝ }
 {
     header_written::put_pair(out, level.number, level.count, level.table);
     let at = level_written::place(counted, level, BlockNumber(level.count)) as u32;

@@ -10,18 +10,18 @@ use Rattle.text.specs.declared.TextPlace.{TextPlace}
 use Rattle.format.specs.Layout.{Settings}
 use Rattle.search.specs.declared.Occurrence.{Occurrence}
 use Rattle.search.specs.declared.Occurrence.the-variants.{At, Outside}
-use Rattle.search.specs.Occurrences.{leftmostSays}
+use Rattle.search.specs.Occurrences.{leftmostAnswer}
 use Rattle.theory_built.specs.BuiltTargets.{placeOf, placeOf-is}
 use Rattle.build_records.specs.declared.level_written.Stretch.{Stretch}
 use Rattle.build_records.specs.State.{StretchIs}
 
 module _ (S : Settings) (T : List ℕ) (l i : ℕ) (own : Stretch) (own-is : StretchIs S T l i own) (o : Occurrence)
-    (is : o ≡ leftmostSays T (own .start .0) (own .length)) where
+    (is : o ≡ leftmostAnswer T (own .start .0) (own .length)) where
   place-right : leftmost T (own .start .0) (own .length) ≡ placeOf S T l i
   place-right = rw (own-is .start-is, own-is .length-is) (sym (placeOf-is S T l i))
 
   found : o ≡ At (record { 0 = placeOf S T l i })
-  unfolding leftmostSays
+  unfolding leftmostAnswer
   found = is ∙ rw (le-leb (own .start .0 + own .length) (length T) (own-is .fits), place-right)
 
   pub found-at : (p : TextPlace) → o ≡ At p → p .0 ≡ placeOf S T l i

@@ -12,37 +12,37 @@ use Rattle.text.specs.Text.{leftmost}
 use Rattle.text.specs.TextLaws.{leftmost-le}
 use Rattle.format.specs.Layout.{wordAt, Settings, blockLength}
 use Rattle.format.specs.Blocks.{startsAt, pairAt, firstPairAt, keptByPairs, isKept}
-use Rattle.search.specs.Occurrences.{earlierSays}
+use Rattle.search.specs.Occurrences.{occursEarlierAnswer}
 use Rattle.theory_built.specs.Structure.{count, start, keptAt}
 use Rattle.build_records.specs.declared.level_written.Level.{Level}
 use Rattle.build_marking.specs.declared.pair.Pair.{Pair}
 use Rattle.build_marking.specs.declared.pair.Pair.the-variants.{Apart, First, Again}
 use Rattle.build_records.specs.RecordPlaces.{recordPlace}
-use Rattle.build_marking.specs.MarkingRule.{keptBy, pairSays, pairBy, pairOf, pairBefore}
-use Rattle.build_records.specs.State.{settingsOf, On}
+use Rattle.build_marking.specs.MarkingRule.{keptBy, pairAnswer, pairBy, pairOf, pairBefore}
+use Rattle.build_records.specs.State.{recordSettingsOf, On}
 use Rattle.build_records.proofs.RecordsRead.{start-read}
 
-module _ (T : List ℕ) (s len : ℕ) (fits : s + len ≤ length T) (r : Bool) (r-is : r ≡ earlierSays T s len) where
+module _ (T : List ℕ) (s len : ℕ) (fits : s + len ≤ length T) (r : Bool) (r-is : r ≡ occursEarlierAnswer T s len) where
   earlier : r ≡ ltb (leftmost T s len) s
-  unfolding earlierSays
+  unfolding occursEarlierAnswer
   earlier = r-is ∙ rw (le-leb (s + len) (length T) fits)
 
-  found-earlier : r ≡ true → Again ≡ pairSays T s len
+  found-earlier : r ≡ true → Again ≡ pairAnswer T s len
   found-earlier y =
       let l : leftmost T s len < s = ltb-true _ _ (sym earlier ∙ y) in
       rw (ne-eqb (leftmost T s len) s (λ e. omega arith))
 
-  found-here : r ≡ false → First ≡ pairSays T s len
+  found-here : r ≡ false → First ≡ pairAnswer T s len
   found-here y =
       let l : s ≤ leftmost T s len = ltb-false _ _ (sym earlier ∙ y) in
       rw (eq-eqb (leftmost T s len) s (omega (arith, leftmost-le T s len)))
 
 -- The same for the bytes of a pair, which end with the text at the latest.
-module _ (T : List ℕ) (s b len : ℕ) (r : Bool) (low : s ≤ length T) (len-is : len ≡ min (b + b) (length T - s)) (r-is : r ≡ earlierSays T s len) where
-  pub again-here : r ≡ true → Again ≡ pairSays T s (min (b + b) (length T - s))
+module _ (T : List ℕ) (s b len : ℕ) (r : Bool) (low : s ≤ length T) (len-is : len ≡ min (b + b) (length T - s)) (r-is : r ≡ occursEarlierAnswer T s len) where
+  pub again-here : r ≡ true → Again ≡ pairAnswer T s (min (b + b) (length T - s))
   again-here y = rw len-is at (found-earlier T s len (omega arith) r r-is y)
 
-  pub first-here : r ≡ false → First ≡ pairSays T s (min (b + b) (length T - s))
+  pub first-here : r ≡ false → First ≡ pairAnswer T s (min (b + b) (length T - s))
   first-here y = rw len-is at (found-here T s len (omega arith) r r-is y)
 
 module _ (S : Settings) (T out : List ℕ) (level : Level) (i : ℕ) (w : On S T out level i) where
@@ -68,8 +68,9 @@ module _ (S : Settings) (T out : List ℕ) (level : Level) (i : ℕ) (w : On S T
   pub apart-end : i + 1 ≡ level .count → Apart ≡ pairOf S T l i
   apart-end e = not-pair (no-next (le-ltb (suc i) (count S T l) (omega (arith, w .level-is .count-is))))
 
-  module _ (s next : ℕ) (s-is : s ≡ wordAt out (recordPlace (level .table) i (settingsOf (level .settings) (S .counted)))) (more : i + 1 ≡ level .count → ⊥)
-      (next-is : next ≡ wordAt out (recordPlace (level .table) (i + 1) (settingsOf (level .settings) (S .counted)))) where
+  module _ (s next : ℕ) (s-is : s ≡ wordAt out (recordPlace (level .table) i (recordSettingsOf (level .settings) (S .counted))))
+      (more : i + 1 ≡ level .count → ⊥)
+      (next-is : next ≡ wordAt out (recordPlace (level .table) (i + 1) (recordSettingsOf (level .settings) (S .counted)))) where
     i-next : i + 1 < level .count
     i-next = omega (arith, w .block-in, more)
 
@@ -87,7 +88,7 @@ module _ (S : Settings) (T out : List ℕ) (level : Level) (i : ℕ) (w : On S T
     apart-far n = not-pair (pair-test ∙ ne-eqb next (s + level .size) n)
 
     pub pair-is : (level .number + 1 ≡ S .levels → ⊥)
-        → next ≡ s + level .size → (r : Pair) → r ≡ pairSays T s (min (level .size + level .size) (length T - s)) → r ≡ pairOf S T l i
+        → next ≡ s + level .size → (r : Pair) → r ≡ pairAnswer T s (min (level .size + level .size) (length T - s)) → r ≡ pairOf S T l i
     unfolding pairOf firstPairAt
     pair-is upper e r r-is =
         r-is ∙ rw (ne-eqb (suc l) (S .levels) (λ z. upper (add-one l ∙ z)), pair-test, eq-eqb next (s + level .size) e, s-right, w .level-is .size-is)

@@ -19,10 +19,10 @@ use Rattle.theory_built.specs.BuiltTargets.{placeOf, targetOf, PointsTo, points
 use Rattle.build_records.specs.declared.level_written.Level.{Level}
 use Rattle.build_records.specs.declared.level_written.Stretch.{Stretch}
 use Rattle.build_records.specs.RecordPlaces.{recordPlace}
-use Rattle.build_records.specs.State.{LevelIs, settingsOf, On, StretchIs, BlockIs}
-use Rattle.build_marking.specs.TargetSearch.{parentSays, Sorted, Between}
+use Rattle.build_records.specs.State.{LevelIs, recordSettingsOf, On, StretchIs, BlockIs}
+use Rattle.build_marking.specs.TargetSearch.{parentAnswer, Sorted, Between}
 use Rattle.build_records.proofs.RecordsRead.{start-fits, start-read}
-use Rattle.build_records.proofs.StateLaws.{few}
+use Rattle.build_records.proofs.StateLaws.{record-few}
 use Rattle.build_records.proofs.Widths.{points-above}
 
 module _ (S : Settings) (T out : List ℕ) (level : Level) (i : ℕ) (w : On S T out level i) where
@@ -38,9 +38,9 @@ module _ (S : Settings) (T out : List ℕ) (level : Level) (i : ℕ) (w : On S T
   order : InOrder (length T) (size S T l) (count S T l) (start S T l)
   order = level-at S T (lev .taken) l (lev .number-in)
 
-  pub sorted : Sorted out (level .table) (level .count) (settingsOf (level .settings) (S .counted))
+  pub sorted : Sorted out (level .table) (level .count) (recordSettingsOf (level .settings) (S .counted))
   sorted =
-      let f = few S T level lev in
+      let f = record-few S T level lev in
       record {
         counted-few = f .counted-few;
         table-few = f .table-few;
@@ -56,13 +56,13 @@ module _ (S : Settings) (T out : List ℕ) (level : Level) (i : ℕ) (w : On S T
         );
       }
 
-  parent-by : (n s : ℕ) → ((k : ℕ) → n ≡ suc k → level .above ≡ blockLength S k) → parentSays n (level .above) s ≡ parentOf S T n s
+  parent-by : (n s : ℕ) → ((k : ℕ) → n ≡ suc k → level .above ≡ blockLength S k) → parentAnswer n (level .above) s ≡ parentOf S T n s
   unfolding parentOf
   parent-by zero s above = refl
   parent-by (suc n) s above = rw (ne-eqb (suc n) 0 (λ e. omega arith), above n refl)
 
   -- The block as the code reads it.
-  module _ (own : Stretch) (own-is : StretchIs S T l i own) (up : ℕ) (up-is : up ≡ parentSays (level .number) (level .above) (own .start .0)) where
+  module _ (own : Stretch) (own-is : StretchIs S T l i own) (up : ℕ) (up-is : up ≡ parentAnswer (level .number) (level .above) (own .start .0)) where
     up-right : up ≡ parentOf S T l (start S T l i)
     up-right = up-is ∙ parent-by l (own .start .0) (lev .above-is) ∙ ap (parentOf S T l) (own-is .start-is)
 
@@ -93,7 +93,7 @@ module _ (S : Settings) (T out : List ℕ) (level : Level) (i : ℕ) (w : On S T
     to : PointsTo S T l i (targetOf S T l i)
     to = points-to S T (lev .taken) l i (points-above S T l i (lev .number-in) points) i-in points
 
-    pub whole-range : Between out (level .table) (level .count) (settingsOf (level .settings) (S .counted)) p 0 (level .count)
+    pub whole-range : Between out (level .table) (level .count) (recordSettingsOf (level .settings) (S .counted)) p 0 (level .count)
     whole-range =
         let first : start S T l 0 ≤ start S T l (targetOf S T l i) =
         start-le (length T) (size S T l) (count S T l) (start S T l) order 0 (targetOf S T l i) (omega arith) (to .below) in
@@ -104,7 +104,7 @@ module _ (S : Settings) (T out : List ℕ) (level : Level) (i : ℕ) (w : On S T
           after = λ j a k. absurd (let z : ⊥ = omega arith in z);
         }
 
-    module _ (r : ℕ) (b : Between out (level .table) (level .count) (settingsOf (level .settings) (S .counted)) p r (r + 1)) where
+    module _ (r : ℕ) (b : Between out (level .table) (level .count) (recordSettingsOf (level .settings) (S .counted)) p r (r + 1)) where
       r-in : r < level .count
       r-in = omega (arith, b .within)
 
@@ -134,17 +134,17 @@ module _ (S : Settings) (T out : List ℕ) (level : Level) (i : ℕ) (w : On S T
         countBelow-upto (count S T l) (suc r) (λ j. leb (start S T l j) (placeOf S T l i)) at-or-before after-it,
       )
 
-      pub target-fits : recordPlace (level .table) r (settingsOf (level .settings) (S .counted)) + 4 ≤ length out
+      pub target-fits : recordPlace (level .table) r (recordSettingsOf (level .settings) (S .counted)) + 4 ≤ length out
       target-fits = start-fits S T out level i w r r-in
 
-      module _ (from : ℕ) (from-is : from ≡ wordAt out (recordPlace (level .table) r (settingsOf (level .settings) (S .counted)))) where
+      module _ (from : ℕ) (from-is : from ≡ wordAt out (recordPlace (level .table) r (recordSettingsOf (level .settings) (S .counted)))) where
         from-right : from ≡ start S T l (targetOf S T l i)
         from-right = from-is ∙ start-read S T out level i w r r-in ∙ ap (start S T l) r-right
 
         pub from-le : from ≤ p
         from-le = omega (arith, from-is, b .from)
 
-        pub pointing-is : (own : Stretch) → StretchIs S T l i own → (up : ℕ) → up ≡ parentSays (level .number) (level .above) (own .start .0)
+        pub pointing-is : (own : Stretch) → StretchIs S T l i own → (up : ℕ) → up ≡ parentAnswer (level .number) (level .above) (own .start .0)
             → BlockIs S T l i (record {
               start = own .start;
               length = own .length;

@@ -24,8 +24,8 @@ keptBy Again First = true
 keptBy Again Again = false
 
 -- The pair of len bytes at s: whether its bytes occur earlier.
-abbrev pub pairSays : List ℕ → ℕ → ℕ → Pair
-pairSays T s len = cond (eqb (leftmost T s len) s) First Again
+abbrev pub pairAnswer : List ℕ → ℕ → ℕ → Pair
+pairAnswer T s len = cond (eqb (leftmost T s len) s) First Again
 
 -- The pair by the tests of docs/FORMAT.md, "Blocks".
 abbrev pub pairBy : Bool → Bool → Pair

@@ -9,8 +9,8 @@ use Rattle.format.specs.Layout.{Settings, maxText, maxLeaf, maxCounted, wordAt}
 use Rattle.build_records.specs.RecordPlaces.{recordPlace}
 
 -- The start of the parent of a block that starts at s, if the blocks of the level above have `above` bytes.
-abbrev pub parentSays : ℕ → ℕ → ℕ → ℕ
-parentSays number above s = cond (eqb number 0) 0 (s / above * above)
+abbrev pub parentAnswer : ℕ → ℕ → ℕ → ℕ
+parentAnswer number above s = cond (eqb number 0) 0 (s / above * above)
 
 module _ (out : List ℕ) (table count : ℕ) (S : Settings) where
   -- The start in the record of block i.

@@ -7,7 +7,7 @@ use build_records::level_written::Level;
 use build_records::record_written::Block;
 use layout::place::BlockNumber;
 use layout::place::Link;
-ghost use Rattle.build_records.specs.State.{settingsOf, BlockIs};
+ghost use Rattle.build_records.specs.State.{recordSettingsOf, BlockIs};
 ghost use Rattle.build_marking.specs.MarkingRule.{Next};
 
 // A marked block: its number, whether it is kept, and the link that a kept block gets.
@@ -19,8 +19,8 @@ pub struct Marked {
 
 // The values of the record of a block.
 pub fn block_at(text: &[u8], counted: &[u8], out: &[u8], level: Level, b: Marked) -> Block
-    requires { ⌜ Next (settingsOf (level .settings) (now counted)) (now text) (now out) level (b .number .0) (b .kept) (b .link .0) ⌝ }
-    ensures { λ r. ⌜ BlockIs (settingsOf (level .settings) (now (counted .entry))) (now (text .entry)) (level .number) (b .number .0) r ⌝ }
+    requires { ⌜ Next (recordSettingsOf (level .settings) (now counted)) (now text) (now out) level (b .number .0) (b .kept) (b .link .0) ⌝ }
+    ensures { λ r. ⌜ BlockIs (recordSettingsOf (level .settings) (now (counted .entry))) (now (text .entry)) (level .number) (b .number .0) r ⌝ }
 {
     let i = b.number;
     if b.kept {

@@ -7,8 +7,8 @@ use layout::place::TextPlace;
 ghost use mathlib.Core.Path.{_≡_};
 ghost use Prim.Native.Nat.{_+_, _-_, _≤_, min};
 ghost use lib.ListN.{length};
-ghost use Rattle.build_records.specs.State.{settingsOf, On};
-ghost use Rattle.build_marking.specs.MarkingRule.{keptBy, pairSays, pairOf};
+ghost use Rattle.build_records.specs.State.{recordSettingsOf, On};
+ghost use Rattle.build_marking.specs.MarkingRule.{keptBy, pairAnswer, pairOf};
 ghost use Rattle.format.specs.Layout.{maxText};
 
 // A block and the next one: no pair; a pair whose bytes occur first here; a pair whose bytes occur earlier.
@@ -40,9 +40,9 @@ pub fn keeps(before: Pair, after: Pair) -> bool
 // Whether the bytes of the pair that starts at a place occur earlier.
 fn pair_at(text: &[u8], start: TextPlace, size: u32) -> Pair
     requires { ⌜ (start .0 ≤ length (now text)) × (length (now text) ≤ maxText) × (size ≤ maxText) ⌝ }
-    ensures { λ r. ⌜ r ≡ pairSays (now (text .entry)) (start .0) (min (size + size) (length (now (text .entry)) - start .0)) ⌝ }
+    ensures { λ r. ⌜ r ≡ pairAnswer (now (text .entry)) (start .0) (min (size + size) (length (now (text .entry)) - start .0)) ⌝ }
 {
-    let len = stretches::shorter(size + size, text.len() as u32 - start.0);
+    let len = byte_slices::min(size + size, text.len() as u32 - start.0);
     if occurrences::occurs_earlier(text, start, len) {
         return Pair::Again;
     }
@@ -51,8 +51,8 @@ fn pair_at(text: &[u8], start: TextPlace, size: u32) -> Pair
 
 // Whether a block and the next one are a pair, and where its bytes first occur. On the last level, where all blocks are kept, no pair is looked for.
 pub fn pair_after(text: &[u8], counted: &[u8], out: &[u8], level: Level, i: BlockNumber) -> Pair
-    requires { ⌜ On (settingsOf (level .settings) (now counted)) (now text) (now out) level (i .0) ⌝ }
-    ensures { λ r. ⌜ r ≡ pairOf (settingsOf (level .settings) (now (counted .entry))) (now (text .entry)) (level .number) (i .0) ⌝ }
+    requires { ⌜ On (recordSettingsOf (level .settings) (now counted)) (now text) (now out) level (i .0) ⌝ }
+    ensures { λ r. ⌜ r ≡ pairOf (recordSettingsOf (level .settings) (now (counted .entry))) (now (text .entry)) (level .number) (i .0) ⌝ }
 {
     if level.number + 1 == level.settings.levels {
         return Pair::Apart;

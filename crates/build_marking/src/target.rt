@@ -12,8 +12,8 @@ ghost use Prim.Native.Nat.{_+_, _-_, _<_};
 ghost use Rattle.text.specs.Text.{sumBelow};
 ghost use Rattle.theory_built.specs.Structure.{keptAt, widthOf};
 ghost use Rattle.theory_built.specs.BuiltTargets.{placeOf};
-ghost use Rattle.build_records.specs.State.{settingsOf, On, BlockIs};
-ghost use Rattle.build_marking.specs.TargetSearch.{parentSays, Sorted, Between};
+ghost use Rattle.build_records.specs.State.{recordSettingsOf, On, BlockIs};
+ghost use Rattle.build_marking.specs.TargetSearch.{parentAnswer, Sorted, Between};
 
 // The blocks from `low` up to `high`, excluded.
 pub struct Range {
@@ -24,7 +24,7 @@ pub struct Range {
 // The start of the parent of a block; 0 on level 0.
 fn parent(level: Level, start: TextPlace) -> TextPlace
     requires { ⌜ 0 < level .above ⌝ }
-    ensures { λ r. ⌜ r .0 ≡ parentSays (level .number) (level .above) (start .0) ⌝ }
+    ensures { λ r. ⌜ r .0 ≡ parentAnswer (level .number) (level .above) (start .0) ⌝ }
 {
     if level.number == 0 {
         return TextPlace(0);
@@ -34,11 +34,12 @@ fn parent(level: Level, start: TextPlace) -> TextPlace
 
 // One step of the binary search for the last block that starts at or before a place.
 fn narrow(counted: &[u8], out: &[u8], level: Level, place: TextPlace, range: Range) -> Range
-    requires { ⌜ Sorted (now out) (level .table) (level .count) (settingsOf (level .settings) (now counted)) ⌝ }
-    requires { ⌜ Between (now out) (level .table) (level .count) (settingsOf (level .settings) (now counted)) (place .0) (range .low .0) (range .high .0) ⌝ }
+    requires { ⌜ Sorted (now out) (level .table) (level .count) (recordSettingsOf (level .settings) (now counted)) ⌝ }
+    requires { ⌜ Between (now out) (level .table) (level .count) (recordSettingsOf (level .settings) (now counted)) (place .0) (range .low .0)
+        (range .high .0) ⌝ }
     requires { ⌜ range .low .0 + 1 < range .high .0 ⌝ }
     ensures { λ r. ⌜ Between (now (out .entry))
-        (level .table) (level .count) (settingsOf (level .settings) (now (counted .entry))) (place .0) (r .low .0) (r .high .0) ⌝ }
+        (level .table) (level .count) (recordSettingsOf (level .settings) (now (counted .entry))) (place .0) (r .low .0) (r .high .0) ⌝ }
     ensures { λ r. ⌜ r .high .0 - r .low .0 < range .high .0 - range .low .0 ⌝ }
 {
     let low = range.low;
@@ -53,10 +54,10 @@ fn narrow(counted: &[u8], out: &[u8], level: Level, place: TextPlace, range: Ran
 
 // The last block that starts at or before a place.
 fn holder(counted: &[u8], out: &[u8], level: Level, place: TextPlace) -> BlockNumber
-    requires { ⌜ Sorted (now out) (level .table) (level .count) (settingsOf (level .settings) (now counted)) ⌝ }
-    requires { ⌜ Between (now out) (level .table) (level .count) (settingsOf (level .settings) (now counted)) (place .0) 0 (level .count) ⌝ }
+    requires { ⌜ Sorted (now out) (level .table) (level .count) (recordSettingsOf (level .settings) (now counted)) ⌝ }
+    requires { ⌜ Between (now out) (level .table) (level .count) (recordSettingsOf (level .settings) (now counted)) (place .0) 0 (level .count) ⌝ }
     ensures { λ r. ⌜ Between (now (out .entry))
-        (level .table) (level .count) (settingsOf (level .settings) (now (counted .entry))) (place .0) (r .0) (r .0 + 1) ⌝ }
+        (level .table) (level .count) (recordSettingsOf (level .settings) (now (counted .entry))) (place .0) (r .0) (r .0 + 1) ⌝ }
 {
     let mut range = Range {
         low: BlockNumber(0),
@@ -77,10 +78,10 @@ pub fn kept_block(
     i: BlockNumber,
     link: Link,
 ) -> Block
-    requires { ⌜ On (settingsOf (level .settings) (now counted)) (now text) (now out) level (i .0) ⌝ }
-    requires { ⌜ keptAt (settingsOf (level .settings) (now counted)) (now text) (level .number) (i .0) ≡ true ⌝ }
-    requires { ⌜ link .0 ≡ sumBelow (i .0) (widthOf (settingsOf (level .settings) (now counted)) (now text) (level .number)) ⌝ }
-    ensures { λ r. ⌜ BlockIs (settingsOf (level .settings) (now (counted .entry))) (now (text .entry)) (level .number) (i .0) r ⌝ }
+    requires { ⌜ On (recordSettingsOf (level .settings) (now counted)) (now text) (now out) level (i .0) ⌝ }
+    requires { ⌜ keptAt (recordSettingsOf (level .settings) (now counted)) (now text) (level .number) (i .0) ≡ true ⌝ }
+    requires { ⌜ link .0 ≡ sumBelow (i .0) (widthOf (recordSettingsOf (level .settings) (now counted)) (now text) (level .number)) ⌝ }
+    ensures { λ r. ⌜ BlockIs (recordSettingsOf (level .settings) (now (counted .entry))) (now (text .entry)) (level .number) (i .0) r ⌝ }
 {
     let own = level_written::stretch_of(text, counted, out, level, i);
     let start = own.start;
@@ -104,10 +105,10 @@ pub fn pointing_block(
     i: BlockNumber,
     place: TextPlace,
 ) -> Block
-    requires { ⌜ On (settingsOf (level .settings) (now counted)) (now text) (now out) level (i .0) ⌝ }
-    requires { ⌜ keptAt (settingsOf (level .settings) (now counted)) (now text) (level .number) (i .0) ≡ false ⌝ }
-    requires { ⌜ place .0 ≡ placeOf (settingsOf (level .settings) (now counted)) (now text) (level .number) (i .0) ⌝ }
-    ensures { λ r. ⌜ BlockIs (settingsOf (level .settings) (now (counted .entry))) (now (text .entry)) (level .number) (i .0) r ⌝ }
+    requires { ⌜ On (recordSettingsOf (level .settings) (now counted)) (now text) (now out) level (i .0) ⌝ }
+    requires { ⌜ keptAt (recordSettingsOf (level .settings) (now counted)) (now text) (level .number) (i .0) ≡ false ⌝ }
+    requires { ⌜ place .0 ≡ placeOf (recordSettingsOf (level .settings) (now counted)) (now text) (level .number) (i .0) ⌝ }
+    ensures { λ r. ⌜ BlockIs (recordSettingsOf (level .settings) (now (counted .entry))) (now (text .entry)) (level .number) (i .0) r ⌝ }
 {
     let own = level_written::stretch_of(text, counted, out, level, i);
     let start = own.start;

@@ -12,20 +12,20 @@ use Rattle.text.specs.ListLaws.{lt-or-ge, sumBelow-suc, sumBelow-part}
 use Rattle.format.specs.Layout.{wordAt, kindField, linkField, plainBytes, Settings, blockLength, pieces, maxText, headerLength}
 use Rattle.format.specs.SizeLaws.{maxRecord}
 use Rattle.format.specs.Blocks.{treeOf, recordBytes}
-use Rattle.theory_built.specs.BuiltBytes.{Stands}
+use Rattle.theory_built.specs.BuiltBytes.{BytesAt}
 use Rattle.theory_built.specs.BuiltLinks.{link-kept}
-use Rattle.theory_built.specs.BlockSizes.{Bounds, bounds, size-pos, maxTable}
+use Rattle.theory_built.specs.BlockSizes.{BuiltBounds, bounds, size-pos, maxTable}
 use Rattle.theory_built.specs.Structure.{size, count, start, keptAt, widthOf, bytesIn-is, cut-at, count-below, start-below}
-use Rattle.theory_built.specs.BuiltLeaves.{widths-le}
+use Rattle.theory_built.specs.BuiltLeafBytes.{widths-le}
 use Rattle.theory_built.specs.Pairs.{offset}
 use Rattle.theory_built.specs.BuiltRecords.{kindOf, linkOf}
-use Rattle.theory_built.specs.Small.{kind-le, link-le}
+use Rattle.theory_built.specs.SizeBounds.{kind-le, link-le}
 use Rattle.build_records.specs.declared.level_written.Level.{Level}
 use Rattle.build_records.specs.declared.level_written.Stretch.{Stretch}
-use Rattle.build_records.specs.Grown.{Grown, Within}
+use Rattle.build_records.specs.WritesOnlyTree.{WritesOnlyTree, AgreesOn}
 use Rattle.build_records.specs.RecordPlaces.{recordPlace}
 use Rattle.build_records.specs.WrittenStarts.{startsWritten, StartsAsk}
-use Rattle.build_records.specs.State.{LevelIs, settingsOf, Filled, Below, Started, On, StretchIs, placeAt}
+use Rattle.build_records.specs.State.{LevelIs, recordSettingsOf, RecordsUpTo, Below, Started, On, StretchIs, placeAt}
 use Rattle.build_records.proofs.Growth.{read-right, within-grown, within-part}
 use Rattle.build_records.proofs.RecordsRead.{on-written}
 use Rattle.build_records.proofs.WrittenStartsLaws.{starts-grown, starts-within}
@@ -52,7 +52,7 @@ module _ (S : Settings) (T out : List ℕ) (level next : Level) (i : ℕ) (w : B
   abbrev sum : ℕ
   sum = sumBelow i (widthOf S T l)
 
-  limits : Bounds S T
+  limits : BuiltBounds S T
   limits = bounds S T (lev .taken)
 
   up : suc l < S .levels
@@ -71,14 +71,14 @@ module _ (S : Settings) (T out : List ℕ) (level next : Level) (i : ℕ) (w : B
   pub children-on : On S T out level i
   children-on = on-written S T out level i lev (omega (arith, offset-rises S T (suc l) (suc (suc l)) (omega arith), w .room)) (w .body) il
 
-  module _ (at : ℕ) (at-is : at ≡ recordPlace (level .table) i (settingsOf (level .settings) (S .counted))) where
+  module _ (at : ℕ) (at-is : at ≡ recordPlace (level .table) i (recordSettingsOf (level .settings) (S .counted))) where
     at-right : at ≡ P
     at-right = at-is ∙ place-is S T level lev i
 
     pub record-fits : at + plainBytes ≤ length out
     record-fits = omega (arith, at-right, ends, record-size S T, offset-rises S T (suc l) (suc (suc l)) (omega arith), w .room)
 
-    word : (x v : ℕ) → x + 4 ≤ recordBytes S → Stands (treeOf S T) (P + x) v → v < 4294967296 → wordAt out (at + x) ≡ v
+    word : (x v : ℕ) → x + 4 ≤ recordBytes S → BytesAt (treeOf S T) (P + x) v → v < 4294967296 → wordAt out (at + x) ≡ v
     word x v in-record s small =
         rw at-right (read-right (treeOf S T) out (P + x)
         v (within-part (treeOf S T) out headerLength (offset S T (suc l)) (P + x) (P + x + 4) (w .body) (omega (arith, low)) (omega (arith, ends))) s small)
@@ -100,7 +100,7 @@ module _ (S : Settings) (T out : List ℕ) (level next : Level) (i : ℕ) (w : B
       no-children n =
           let e : sumBelow (i + 1) (widthOf S T l) ≡ sum =
           sumBelow-suc i (widthOf S T l) ∙ omega (arith, cut-at S T (lev .taken) l up .uncut i (points-by-kind S T l i kind (kind-is ∙ kind-read) n)) in
-          rw e (w .done)
+          rw e (w .finished)
 
       module _ (zero-kind : kind ≡ 0) where
         kept : keptAt S T l i ≡ true
@@ -124,7 +124,7 @@ module _ (S : Settings) (T out : List ℕ) (level next : Level) (i : ℕ) (w : B
               rw size-right (size-high S T (lev .taken) (suc l)),
             )
 
-            module _ (n : ℕ) (n-is : n ≡ pieces (own .length) (next .size)) (to : ℕ) (to-is : to ≡ recordPlace (next .table) link (settingsOf
+            module _ (n : ℕ) (n-is : n ≡ pieces (own .length) (next .size)) (to : ℕ) (to-is : to ≡ recordPlace (next .table) link (recordSettingsOf
                 (next .settings) (S .counted))) (to-few : to ≤ maxTable + maxRecord * maxText) (step : ℕ) (step-is : step ≡ recordBytes S) where
               n-right : n ≡ widthOf S T l i
               n-right = n-is ∙ rw (own-is .length-is, size-right, bytesIn-is S T l i) (sym (cut-at S T (lev .taken) l up .cut i kept))
@@ -144,7 +144,7 @@ module _ (S : Settings) (T out : List ℕ) (level next : Level) (i : ℕ) (w : B
               child-fits : (j : ℕ) → j < n → to + j * recordBytes S + 4 ≤ offset S T (suc (suc l))
               child-fits j h = omega (arith, to-child j, record-inside-table S T (suc l) (sum + j) (child-in j h), record-size S T)
 
-              stands : (j : ℕ) → j < n → Stands (treeOf S T) (to + j * recordBytes S) (own .start .0 + j * next .size)
+              stands : (j : ℕ) → j < n → BytesAt (treeOf S T) (to + j * recordBytes S) (own .start .0 + j * next .size)
               stands j h =
                   let e : start S T (suc l) (sum + j) ≡ own .start .0 + j * next .size =
                   start-below S T (lev .taken) l i j up i-in (omega (arith, n-right)) ∙ rw (own-is .start-is, size-right) in
@@ -176,11 +176,11 @@ module _ (S : Settings) (T out : List ℕ) (level next : Level) (i : ℕ) (w : B
                 inside : (j : ℕ) → j < n → to + j * recordBytes S + 4 ≤ length (treeOf S T)
                 inside j h = omega (arith, child-fits j h, table-inside S T (lev .taken) (suc l) up)
 
-                pub children-grown : Grown (treeOf S T) out new
+                pub children-grown : WritesOnlyTree (treeOf S T) out new
                 children-grown = rw new-right (starts-grown (treeOf S T) out to (recordBytes S) (own .start .0) (next .size) n stands fits inside n
                     (omega arith))
 
-                child-started : (j : ℕ) → j < n → Within (treeOf S T) new (placeAt S T (suc l) (sum + j)) (placeAt S T (suc l) (sum + j) + 4)
+                child-started : (j : ℕ) → j < n → AgreesOn (treeOf S T) new (placeAt S T (suc l) (sum + j)) (placeAt S T (suc l) (sum + j) + 4)
                 child-started j h = rw (← to-child j, new-right)
                     (starts-within (treeOf S T) out to (recordBytes S) (own .start .0) (next .size) n stands fits inside n (omega arith) j h)
 
@@ -188,9 +188,9 @@ module _ (S : Settings) (T out : List ℕ) (level next : Level) (i : ℕ) (w : B
                 children-started = record { starts = λ x _ h. go x h (lt-or-ge x sum) }
                   where
                     go : (x : ℕ) → x < sumBelow (i + 1) (widthOf S T l)
-                        → (x < sum) ⊎ (sum ≤ x) → Within (treeOf S T) new (placeAt S T (suc l) x) (placeAt S T (suc l) x + 4)
+                        → (x < sum) ⊎ (sum ≤ x) → AgreesOn (treeOf S T) new (placeAt S T (suc l) x) (placeAt S T (suc l) x + 4)
                     go x h (inl y) = within-grown
-                        (treeOf S T) out new (placeAt S T (suc l) x) (placeAt S T (suc l) x + 4) children-grown (w .done .starts x (omega arith) y)
+                        (treeOf S T) out new (placeAt S T (suc l) x) (placeAt S T (suc l) x + 4) children-grown (w .finished .starts x (omega arith) y)
                     go x h (inr y) =
                         let e : sum + (x - sum) ≡ x = omega arith in
                         let k : x - sum < n = omega (arith, sumBelow-suc i (widthOf S T l), n-right) in
@@ -198,7 +198,7 @@ module _ (S : Settings) (T out : List ℕ) (level next : Level) (i : ℕ) (w : B
 
 -- The loop over the blocks.
 
-pub below-more : (S : Settings) (T t u : List ℕ) (level next : Level) (i : ℕ) → Below S T t level next i → Grown (treeOf S T) t u
+pub below-more : (S : Settings) (T t u : List ℕ) (level next : Level) (i : ℕ) → Below S T t level next i → WritesOnlyTree (treeOf S T) t u
     → Started S T u (suc (level .number)) 0 (sumBelow (i + 1) (widthOf S T (level .number))) → Below S T u level next (i + 1)
 below-more S T t u level next i w g s = record {
   level-is = w .level-is;
@@ -206,15 +206,16 @@ below-more S T t u level next i w g s = record {
   follows = w .follows;
   room = omega (arith, w .room, g .same-length);
   body = within-grown (treeOf S T) t u headerLength (offset S T (suc (level .number))) g (w .body);
-  done = s;
+  finished = s;
 }
 
-pub below-all : (S : Settings) (T t : List ℕ) (level next : Level) (i : ℕ) → Below S T t level next i → i ≡ level .count → Filled S T t (suc (level .number)) 0
+pub below-all : (S : Settings) (T t : List ℕ) (level next : Level) (i : ℕ) → Below S T t level next i → i ≡ level .count
+    → RecordsUpTo S T t (suc (level .number)) 0
 below-all S T t level next i w e = record {
   room = w .room;
   body = within-part (treeOf S T)
       t headerLength (offset S T (suc (level .number))) headerLength (placeAt S T (suc (level .number)) 0) (w .body) (omega arith) (omega arith);
-  starts = λ x h. w .done .starts x (omega arith) (rw (all x) at h);
+  starts = λ x h. w .finished .starts x (omega arith) (rw (all x) at h);
 }
   where
     up : suc (level .number) < S .levels

@@ -10,16 +10,16 @@ use Rattle.format.specs.Layout.{plainBytes, countedBytes, fieldBytes, Settings}
 use Rattle.format.specs.Blocks.{treeOf}
 use Rattle.format.specs.EdgeLaws.{first-own, first-none, last-own, last-none}
 use Rattle.theory_built.specs.Structure.{count, start, bytesIn}
-use Rattle.theory_built.specs.BuiltLeaves.{bytes-fit}
+use Rattle.theory_built.specs.BuiltLeafBytes.{bytes-fit}
 use Rattle.theory_built.specs.BuiltRecords.{edgesIn, recordWords}
 use Rattle.theory_built.specs.BuiltBytes.{edge-stands}
-use Rattle.stretches.specs.Stretches.{bytesWritten}
+use Rattle.byte_slices.specs.ByteSlices.{bytesWritten}
 use Rattle.build_records.specs.declared.level_written.Level.{Level}
 use Rattle.build_records.specs.declared.record_written.Block.{Block}
-use Rattle.build_records.specs.Grown.{Grown, Within}
+use Rattle.build_records.specs.WritesOnlyTree.{WritesOnlyTree, AgreesOn}
 use Rattle.build_records.specs.RecordPlaces.{recordPlace}
 use Rattle.build_records.specs.RecordWords.{edgeWritten}
-use Rattle.build_records.specs.State.{LevelIs, settingsOf, Writing, placeAt}
+use Rattle.build_records.specs.State.{LevelIs, recordSettingsOf, Writing, placeAt}
 use Rattle.build_records.proofs.Growth.{grown-then, within-grown, within-join, bytes-grown, bytes-within}
 use Rattle.build_records.proofs.StateLaws.{record-size, place-is, place-next, record-inside-table, table-inside}
 
@@ -33,21 +33,21 @@ module _ (D t T : List ℕ) (at from own m : ℕ) (few : own ≤ m) (fits : at +
   half : List ℕ
   half = bytesWritten t at T from own
 
-  half-grown : Grown D t half
+  half-grown : WritesOnlyTree D t half
   unfolding half
   half-grown = bytes-grown D t T at from own (omega arith) (omega arith) bytes own (omega arith)
 
   none : (j : ℕ) → j < m - own → getD D (at + own + j) 0 ≡ getD [] (0 + j) 0
   none j h = rw (add-assoc at own j) (zeros (own + j) (omega arith) (omega arith))
 
-  rest-grown : Grown D half (edgeWritten t at T from own m)
+  rest-grown : WritesOnlyTree D half (edgeWritten t at T from own m)
   unfolding half
   rest-grown = bytes-grown D half [] (at + own) 0 (m - own) (omega (arith, half-grown .same-length)) (omega arith) none (m - own) (omega arith)
 
-  pub edge-grown : Grown D t (edgeWritten t at T from own m)
+  pub edge-grown : WritesOnlyTree D t (edgeWritten t at T from own m)
   edge-grown = grown-then D t half (edgeWritten t at T from own m) half-grown rest-grown
 
-  pub edge-within : Within D (edgeWritten t at T from own m) at (at + m)
+  pub edge-within : AgreesOn D (edgeWritten t at T from own m) at (at + m)
   unfolding half
   edge-within =
       let e : at + own + (m - own) ≡ at + m = omega arith in
@@ -96,7 +96,7 @@ module _ (S : Settings) (T out : List ℕ) (level : Level) (i : ℕ) (block : Bl
   ends : A + (m + m) ≡ placeAt S T l (i + 1)
   ends = omega (arith, add-one i, place-next S T l i, record-size S T)
 
-  module _ (at : ℕ) (at-is : at ≡ recordPlace (level .table) i (settingsOf (level .settings) (S .counted)))
+  module _ (at : ℕ) (at-is : at ≡ recordPlace (level .table) i (recordSettingsOf (level .settings) (S .counted)))
       (own : ℕ) (own-is : own ≡ min m (block .length)) where
     here : at + plainBytes + countedBytes * length (S .counted) ≡ A
     here = omega (arith, at-is, place-is S T level lev i)
@@ -130,10 +130,10 @@ module _ (S : Settings) (T out : List ℕ) (level : Level) (i : ℕ) (block : Bl
       one-right : one ≡ edgeWritten out A T (start S T l i) own m
       one-right = one-is ∙ rw (here, w .block-is .start-is)
 
-      one-grown : Grown D out one
+      one-grown : WritesOnlyTree D out one
       one-grown = rw one-right (edge-grown D out T A (start S T l i) own m few (omega (arith, room)) (omega (arith, in-tree)) first-bytes first-zeros)
 
-      one-within : Within D one A (A + m)
+      one-within : AgreesOn D one A (A + m)
       one-within = rw one-right (edge-within D out T A (start S T l i) own m few (omega (arith, room)) (omega (arith, in-tree)) first-bytes first-zeros)
 
       abbrev last : ℕ
@@ -146,18 +146,18 @@ module _ (S : Settings) (T out : List ℕ) (level : Level) (i : ℕ) (block : Bl
         two-right : two ≡ edgeWritten one (A + m) T (start S T l i + (bytesIn S T l i - own)) own m
         two-right = two-is ∙ rw (here, w .block-is .start-is, w .block-is .length-is)
 
-        rest-of : Grown D one two
+        rest-of : WritesOnlyTree D one two
         rest-of = rw two-right (edge-grown D one T (A + m) (start S T l i + (bytesIn S T l i - own))
             own m few (omega (arith, room, one-grown .same-length)) (omega (arith, in-tree)) last-bytes last-zeros)
 
-        two-within : Within D two (A + m) (A + m + m)
+        two-within : AgreesOn D two (A + m) (A + m + m)
         two-within = rw two-right (edge-within D one T (A + m) (start S T l i + (bytesIn S T l i - own))
             own m few (omega (arith, room, one-grown .same-length)) (omega (arith, in-tree)) last-bytes last-zeros)
 
-        pub edges-grown : Grown D out two
+        pub edges-grown : WritesOnlyTree D out two
         edges-grown = grown-then D out one two one-grown rest-of
 
-        pub edges-within : Within D two A (placeAt S T l (i + 1))
+        pub edges-within : AgreesOn D two A (placeAt S T l (i + 1))
         edges-within =
             let e : A + m + m ≡ placeAt S T l (i + 1) = omega (arith, ends) in
             rw e at (within-join D two A (A + m) (A + m + m) (within-grown D one two A (A + m) rest-of one-within) two-within)

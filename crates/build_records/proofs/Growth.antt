@@ -10,66 +10,66 @@ use native.Mathlib.Decide.{ℕ-discrete}
 use Rattle.text.specs.ListLaws.{lt-or-ge, below-suc}
 use Rattle.format.specs.Layout.{wordAt, wordBytes, setWord}
 use Rattle.format.specs.WordLaws.{putThree, length-setWord, getD-setWord-other, setWord-eq}
-use Rattle.theory_built.specs.BuiltBytes.{Stands, stands-word}
-use Rattle.stretches.specs.Stretches.{bytesWritten}
-use Rattle.build_records.specs.Grown.{Grown, Within}
+use Rattle.theory_built.specs.BuiltBytes.{BytesAt, stands-word}
+use Rattle.byte_slices.specs.ByteSlices.{bytesWritten}
+use Rattle.build_records.specs.WritesOnlyTree.{WritesOnlyTree, AgreesOn}
 
-length-wordBytes : (v : ℕ) → length (wordBytes v) ≡ 4
+record-length-wordBytes : (v : ℕ) → length (wordBytes v) ≡ 4
 unfolding wordBytes
-length-wordBytes v = refl
+record-length-wordBytes v = refl
 
 -- The bytes of a word that was written.
-written-stands : (t : List ℕ) (i v : ℕ) → i + 4 ≤ length t → Stands (setWord t i v) i v
+written-stands : (t : List ℕ) (i v : ℕ) → i + 4 ≤ length t → BytesAt (setWord t i v) i v
 written-stands t i v fits r l =
     let head : length (take i t) ≡ i = length-take-le i t (omega arith) in
     let e : i + r ≡ length (take i t) + r = omega arith in
-    let m : length (take i t) + r < length (take i t ++ wordBytes v) = rw (length-append (take i t) (wordBytes v), length-wordBytes v) (omega arith) in
+    let m : length (take i t) + r < length (take i t ++ wordBytes v) = rw (length-append (take i t) (wordBytes v), record-length-wordBytes v) (omega arith) in
     rw (setWord-eq t i v fits, e)
     (List·getD-append (take i t ++ wordBytes v) (drop (i + 4) t) 0 (length (take i t) + r) m
     ∙ getD-append-add (take i t) (wordBytes v) r 0)
 
-within-word : (D t : List ℕ) (i v : ℕ) → Within D t i (i + 4) → Stands D i v → Stands t i v
+within-word : (D t : List ℕ) (i v : ℕ) → AgreesOn D t i (i + 4) → BytesAt D i v → BytesAt t i v
 within-word D t i v w s r l = w .right (i + r) (omega arith) (omega arith) ∙ s r l
 
 -- A word of the tree, read from a buffer that has it.
-pub read-right : (D t : List ℕ) (i v : ℕ) → Within D t i (i + 4) → Stands D i v → v < 4294967296 → wordAt t i ≡ v
+pub read-right : (D t : List ℕ) (i v : ℕ) → AgreesOn D t i (i + 4) → BytesAt D i v → v < 4294967296 → wordAt t i ≡ v
 read-right D t i v w s small = stands-word t i v (within-word D t i v w s) small
 
 module _ (D : List ℕ) where
-  pub grown-none : (t : List ℕ) → Grown D t t
+  pub grown-none : (t : List ℕ) → WritesOnlyTree D t t
   grown-none t = record { same-length = refl; keeps = λ k e. e; past = λ k l. refl }
 
-  pub grown-then : (a b c : List ℕ) → Grown D a b → Grown D b c → Grown D a c
+  pub grown-then : (a b c : List ℕ) → WritesOnlyTree D a b → WritesOnlyTree D b c → WritesOnlyTree D a c
   grown-then a b c g h = record {
     same-length = h .same-length ∙ g .same-length;
     keeps = λ k e. h .keeps k (g .keeps k e);
     past = λ k l. h .past k l ∙ g .past k l;
   }
 
-  pub within-grown : (t u : List ℕ) (a w : ℕ) → Grown D t u → Within D t a w → Within D u a w
+  pub within-grown : (t u : List ℕ) (a w : ℕ) → WritesOnlyTree D t u → AgreesOn D t a w → AgreesOn D u a w
   within-grown t u a w g h = record { right = λ k l m. g .keeps k (h .right k l m) }
 
-  pub within-join : (t : List ℕ) (a m w : ℕ) → Within D t a m → Within D t m w → Within D t a w
+  pub within-join : (t : List ℕ) (a m w : ℕ) → AgreesOn D t a m → AgreesOn D t m w → AgreesOn D t a w
   within-join t a m w g h = record { right = λ k l n. go k l n (lt-or-ge k m) }
     where
       go : (k : ℕ) → a ≤ k → k < w → (k < m) ⊎ (m ≤ k) → getD t k 0 ≡ getD D k 0
       go k l n (inl z) = g .right k l z
       go k l n (inr z) = h .right k z n
 
-  pub within-part : (t : List ℕ) (a w b x : ℕ) → Within D t a w → a ≤ b → x ≤ w → Within D t b x
+  pub within-part : (t : List ℕ) (a w b x : ℕ) → AgreesOn D t a w → a ≤ b → x ≤ w → AgreesOn D t b x
   within-part t a w b x h lo hi = record { right = λ k l m. h .right k (omega arith) (omega arith) }
 
-  pub within-none : (t : List ℕ) (a w : ℕ) → w ≤ a → Within D t a w
+  pub within-none : (t : List ℕ) (a w : ℕ) → w ≤ a → AgreesOn D t a w
   within-none t a w e = record { right = λ k l m. absurd (let z : ⊥ = omega arith in z) }
 
-  module _ (t : List ℕ) (i v : ℕ) (fits : i + 4 ≤ length t) (s : Stands D i v) where
+  module _ (t : List ℕ) (i v : ℕ) (fits : i + 4 ≤ length t) (s : BytesAt D i v) where
     word-right : (k : ℕ) → i ≤ k → k < i + 4 → getD (setWord t i v) k 0 ≡ getD D k 0
     word-right k l m =
         let e : k ≡ i + (k - i) = omega arith in
         let r : k - i < 4 = omega arith in
         ap (λ (x : ℕ). getD (setWord t i v) x 0) e ∙ written-stands t i v fits (k - i) r ∙ sym (s (k - i) r) ∙ sym (ap (λ (x : ℕ). getD D x 0) e)
 
-    pub word-within : Within D (setWord t i v) i (i + 4)
+    pub word-within : AgreesOn D (setWord t i v) i (i + 4)
     word-within = record { right = word-right }
 
     word-keeps : (k : ℕ) → getD t k 0 ≡ getD D k 0 → getD (setWord t i v) k 0 ≡ getD D k 0
@@ -80,7 +80,7 @@ module _ (D : List ℕ) where
         go (inr z) (inl y) = word-right k z y
         go (inr z) (inr y) = getD-setWord-other t i v k (λ a b. omega arith) ∙ e
 
-    pub word-grown : i + 4 ≤ length D → Grown D t (setWord t i v)
+    pub word-grown : i + 4 ≤ length D → WritesOnlyTree D t (setWord t i v)
     word-grown inside = record {
       same-length = length-setWord t i v;
       keeps = word-keeps;
@@ -88,48 +88,48 @@ module _ (D : List ℕ) where
     }
 
   module _ (t : List ℕ) (i a b c : ℕ) (fits : i + 12 ≤ length t) (inside : i + 12 ≤ length D)
-      (s : Stands D i a) (s′ : Stands D (i + 4) b) (s″ : Stands D (i + 8) c) where
+      (s : BytesAt D i a) (s′ : BytesAt D (i + 4) b) (s″ : BytesAt D (i + 8) c) where
     t1 : List ℕ
     t1 = setWord t i a
 
     t2 : List ℕ
     t2 = setWord t1 (i + 4) b
 
-    g1 : Grown D t t1
+    g1 : WritesOnlyTree D t t1
     unfolding t1
     g1 = word-grown t i a (omega arith) s (omega arith)
 
     fits1 : i + 12 ≤ length t1
     fits1 = omega (arith, g1 .same-length)
 
-    g2 : Grown D t1 t2
+    g2 : WritesOnlyTree D t1 t2
     unfolding t2
     g2 = word-grown t1 (i + 4) b (omega (arith, fits1)) s′ (omega arith)
 
     fits2 : i + 12 ≤ length t2
     fits2 = omega (arith, fits1, g2 .same-length)
 
-    g3 : Grown D t2 (putThree t i a b c)
+    g3 : WritesOnlyTree D t2 (putThree t i a b c)
     unfolding t1 t2
     g3 = word-grown t2 (i + 8) c (omega (arith, fits2)) s″ (omega arith)
 
-    pub three-grown : Grown D t (putThree t i a b c)
+    pub three-grown : WritesOnlyTree D t (putThree t i a b c)
     three-grown = grown-then t t1 (putThree t i a b c) g1 (grown-then t1 t2 (putThree t i a b c) g2 g3)
 
-    first-word : Within D t1 i (i + 4)
+    first-word : AgreesOn D t1 i (i + 4)
     unfolding t1
     first-word = word-within t i a (omega arith) s
 
-    second-word : Within D t2 (i + 4) (i + 8)
+    second-word : AgreesOn D t2 (i + 4) (i + 8)
     unfolding t2
     second-word = within-part t2 (i + 4) (i + 4 + 4) (i + 4) (i + 8) (word-within t1 (i + 4) b (omega (arith, fits1)) s′) (omega arith) (omega arith)
 
-    third-word : Within D (putThree t i a b c) (i + 8) (i + 12)
+    third-word : AgreesOn D (putThree t i a b c) (i + 8) (i + 12)
     unfolding t1 t2
     third-word = within-part (putThree t i a b c)
         (i + 8) (i + 8 + 4) (i + 8) (i + 12) (word-within t2 (i + 8) c (omega (arith, fits2)) s″) (omega arith) (omega arith)
 
-    pub three-within : Within D (putThree t i a b c) i (i + 12)
+    pub three-within : AgreesOn D (putThree t i a b c) i (i + 12)
     three-within =
         within-join (putThree t i a b c) i (i + 4) (i + 12)
         (within-grown t1 (putThree t i a b c) i (i + 4) (grown-then t1 t2 (putThree t i a b c) g2 g3) first-word)
@@ -141,7 +141,7 @@ module _ (D t : List ℕ) (i v : ℕ) (fits : i < length t) (inside : i < length
   byte-right : getD (set t i v) i 0 ≡ getD D i 0
   byte-right = getD-set-same t i v 0 fits ∙ sym is
 
-  byte-grown : Grown D t (set t i v)
+  byte-grown : WritesOnlyTree D t (set t i v)
   byte-grown = record {
     same-length = length-set t i v;
     keeps = λ k e. keep k e (ℕ-discrete k i);
@@ -154,7 +154,7 @@ module _ (D t : List ℕ) (i v : ℕ) (fits : i < length t) (inside : i < length
 
 module _ (D t T : List ℕ)
     (to from n : ℕ) (fits : to + n ≤ length t) (inside : to + n ≤ length D) (is : (j : ℕ) → j < n → getD D (to + j) 0 ≡ getD T (from + j) 0) where
-  pub bytes-grown : (j : ℕ) → j ≤ n → Grown D t (bytesWritten t to T from j)
+  pub bytes-grown : (j : ℕ) → j ≤ n → WritesOnlyTree D t (bytesWritten t to T from j)
   bytes-grown zero l = grown-none D t
   bytes-grown (suc j) l =
       let g = bytes-grown j (omega arith) in
@@ -172,7 +172,7 @@ module _ (D t T : List ℕ)
           let g = bytes-grown j (omega arith) in
           rw y (byte-right D (bytesWritten t to T from j) (to + j) (getD T (from + j) 0) (omega (arith, g .same-length)) (omega arith) (is j (omega arith)))
 
-  pub bytes-within : Within D (bytesWritten t to T from n) to (to + n)
+  pub bytes-within : AgreesOn D (bytesWritten t to T from n) to (to + n)
   bytes-within = record {
     right = λ k l m.
         let e : to + (k - to) ≡ k = omega arith in

@@ -9,14 +9,14 @@ use Rattle.format.specs.Layout.{plainBytes, fieldBytes, maxText, maxLeaf, maxCo
 use Rattle.format.specs.SizeLaws.{maxRecord, record-edged}
 use Rattle.format.specs.Blocks.{recordBytes, builtLayout}
 use Rattle.layout.specs.declared.settings.Settings as code
-use Rattle.build_records.specs.State.{settingsOf}
+use Rattle.build_records.specs.State.{recordSettingsOf}
 
 pub records-end : (block size : ℕ) → block ≤ maxText → size ≤ maxRecord → block * size ≤ maxRecord * maxText
 records-end block size b few = mul-le-mul b few
 
 -- The length of a record.
-pub size-is : (s : code.Settings) (cs : List ℕ) → length cs ≤ maxCounted → s .leaf ≤ maxLeaf
-    → (fieldBytes (length cs) + (s .leaf + s .leaf) ≡ recordBytes (settingsOf s cs)) × (plainBytes ≤ fieldBytes (length cs) + (s .leaf + s .leaf))
+pub record-size-is : (s : code.Settings) (cs : List ℕ) → length cs ≤ maxCounted → s .leaf ≤ maxLeaf
+    → (fieldBytes (length cs) + (s .leaf + s .leaf) ≡ recordBytes (recordSettingsOf s cs)) × (plainBytes ≤ fieldBytes (length cs) + (s .leaf + s .leaf))
     × (fieldBytes (length cs) + (s .leaf + s .leaf) ≤ maxRecord)
 unfolding recordBytes
-size-is s cs few small = (sym (record-edged builtLayout (s .leaf) (length cs) refl), omega arith, omega arith)
+record-size-is s cs few small = (sym (record-edged builtLayout (s .leaf) (length cs) refl), omega arith, omega arith)

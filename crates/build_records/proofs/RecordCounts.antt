@@ -13,25 +13,25 @@ use Rattle.text.specs.Text.{stretch, countIn}
 use Rattle.format.specs.Layout.{wordAt, kindField, plainBytes, countedBytes, Settings, headerLength}
 use Rattle.format.specs.WordLaws.{putThree}
 use Rattle.format.specs.Blocks.{treeOf, recordBytes}
-use Rattle.theory_built.specs.BlockSizes.{Taken, Bounds, bounds}
+use Rattle.theory_built.specs.BlockSizes.{Taken, BuiltBounds, bounds}
 use Rattle.theory_built.specs.Structure.{count}
-use Rattle.theory_built.specs.BuiltLeaves.{bytes-fit}
-use Rattle.theory_built.specs.Small.{before-le, inside-le}
+use Rattle.theory_built.specs.BuiltLeafBytes.{bytes-fit}
+use Rattle.theory_built.specs.SizeBounds.{before-le, inside-le}
 use Rattle.theory_built.specs.BuiltRecords.{kindOf, linkOf, gapOf, beforeOf, insideOf, skipOf}
 use Rattle.build_records.specs.declared.level_written.Level.{Level}
 use Rattle.build_records.specs.declared.record_written.Block.{Block}
-use Rattle.build_records.specs.Grown.{Grown, Within}
+use Rattle.build_records.specs.WritesOnlyTree.{WritesOnlyTree, AgreesOn}
 use Rattle.build_records.specs.RecordPlaces.{recordPlace}
-use Rattle.build_records.specs.RecordWords.{beforeSays}
-use Rattle.build_records.specs.State.{settingsOf, Writing, placeAt}
+use Rattle.build_records.specs.RecordWords.{beforeWord}
+use Rattle.build_records.specs.State.{recordSettingsOf, Writing, placeAt}
 use Rattle.build_records.proofs.Growth.{read-right, within-grown, within-join, grown-then, within-part, three-grown, three-within}
 use Rattle.build_records.proofs.Neighbours.{LeftOf, left-of, before-left, before-first}
 use Rattle.build_records.proofs.StateLaws.{record-size, place-is, place-next, record-inside-table, offset-low, table-inside, kind-stands}
 use Rattle.build_records.proofs.StateLaws.{link-stands, gap-stands, before-stands, inside-stands, skip-stands}
 
 -- The places written so far, and those of one more counted byte.
-pub one-more : (D t u : List ℕ) (p c : ℕ) → Within D t p (p + countedBytes * c)
-    → Grown D t u → Within D u (p + countedBytes * c) (p + countedBytes * c + countedBytes) → Within D u p (p + countedBytes * (c + 1))
+pub one-more : (D t u : List ℕ) (p c : ℕ) → AgreesOn D t p (p + countedBytes * c)
+    → WritesOnlyTree D t u → AgreesOn D u (p + countedBytes * c) (p + countedBytes * c + countedBytes) → AgreesOn D u p (p + countedBytes * (c + 1))
 one-more D t u p c h g new =
     let e : p + countedBytes * c + countedBytes ≡ p + countedBytes * (c + 1) = omega arith in
     rw e at (within-join D u p (p + countedBytes * c) (p + countedBytes * c + countedBytes) (within-grown D t u p (p + countedBytes * c) g h) new)
@@ -49,7 +49,7 @@ module _ (S : Settings) (T out : List ℕ) (level : Level) (i : ℕ) (block : Bl
   taken : Taken S T
   taken = w .level-is .taken
 
-  limits : Bounds S T
+  limits : BuiltBounds S T
   limits = bounds S T taken
 
   l-in : l < S .levels
@@ -58,7 +58,7 @@ module _ (S : Settings) (T out : List ℕ) (level : Level) (i : ℕ) (block : Bl
   i-in : i < count S T l
   i-in = omega (arith, w .block-in, w .level-is .count-is)
 
-  pub here-is : recordPlace (level .table) i (settingsOf (level .settings) (S .counted)) ≡ P
+  pub here-is : recordPlace (level .table) i (recordSettingsOf (level .settings) (S .counted)) ≡ P
   here-is = place-is S T level (w .level-is) i
 
   pub record-fits : P + recordBytes S ≤ length out
@@ -71,7 +71,7 @@ module _ (S : Settings) (T out : List ℕ) (level : Level) (i : ℕ) (block : Bl
   inside-text = rw (w .block-is .start-is, w .block-is .length-is) (bytes-fit S T taken l i l-in i-in)
 
   -- The counts of counted byte number c.
-  module _ (at c size : ℕ) (at-is : at ≡ recordPlace (level .table) i (settingsOf (level .settings) (S .counted)))
+  module _ (at c size : ℕ) (at-is : at ≡ recordPlace (level .table) i (recordSettingsOf (level .settings) (S .counted)))
       (size-is : size ≡ recordBytes S) (cl : c < length (S .counted)) where
     abbrev x : ℕ
     x = getD (S .counted) c 0
@@ -127,11 +127,11 @@ module _ (S : Settings) (T out : List ℕ) (level : Level) (i : ℕ) (block : Bl
         → (size ≤ at + plainBytes + countedBytes * c) × (left + 8 ≤ length out) × (wordAt out left + wordAt out (left + 4) < 4294967296)
     left-needs n = let j = apart n in (left-low (j .0) (j .1), left-fits (j .0) (j .1), small (j .0) (j .1))
 
-    before-is : beforeSays out left (block .start .0) (block .parent .0) ≡ beforeOf S T l i x
+    before-is : beforeWord out left (block .start .0) (block .parent .0) ≡ beforeOf S T l i x
     before-is = go (bool-cases (eqb (block .start .0) (block .parent .0)))
       where
         go : (eqb (block .start .0) (block .parent .0) ≡ true) ⊎ (eqb (block .start .0) (block .parent .0) ≡ false)
-            → beforeSays out left (block .start .0) (block .parent .0) ≡ beforeOf S T l i x
+            → beforeWord out left (block .start .0) (block .parent .0) ≡ beforeOf S T l i x
         go (inl y) = rw y (sym (before-first S T taken l i x (sym (w .block-is .start-is) ∙ eqb-true _ _ y ∙ w .block-is .parent-is)))
         go (inr y) = let j = apart (eqb-false _ _ y) in rw y (words (j .0) (j .1))
 
@@ -146,7 +146,7 @@ module _ (S : Settings) (T out : List ℕ) (level : Level) (i : ℕ) (block : Bl
     count-fits = omega (arith, record-size S T, record-fits)
 
     -- The three counts are written.
-    module _ (new : List ℕ) (b : ℕ) (b-is : b ≡ beforeSays out left (block .start .0) (block .parent .0))
+    module _ (new : List ℕ) (b : ℕ) (b-is : b ≡ beforeWord out left (block .start .0) (block .parent .0))
         (new-is : new ≡ putThree out (at + plainBytes + countedBytes * c)
         b (countIn x (stretch T (block .start .0) (block .length))) (countIn x (stretch T (block .from .0) (block .gap .0)))) where
       new-right : new ≡ putThree out (P + plainBytes + countedBytes * c) (beforeOf S T l i x) (insideOf S T l i x) (skipOf S T l i x)
@@ -155,25 +155,25 @@ module _ (S : Settings) (T out : List ℕ) (level : Level) (i : ℕ) (block : Bl
       in-tree : P + plainBytes + countedBytes * c + countedBytes ≤ length D
       in-tree = omega (arith, record-size S T, record-in-tree)
 
-      pub counted-grown : Grown D out new
+      pub counted-grown : WritesOnlyTree D out new
       counted-grown =
           rw new-right (three-grown D out (P + plainBytes + countedBytes * c) (beforeOf S T l i x) (insideOf S T l i x) (skipOf S T l i x) count-fits in-tree
           (before-stands S T taken l i l-in i-in c cl) (inside-stands S T taken l i l-in i-in c cl) (skip-stands S T taken l i l-in i-in c cl))
 
-      pub counted-within : Within D new (P + plainBytes + countedBytes * c) (P + plainBytes + countedBytes * c + countedBytes)
+      pub counted-within : AgreesOn D new (P + plainBytes + countedBytes * c) (P + plainBytes + countedBytes * c + countedBytes)
       counted-within =
           rw new-right (three-within D out (P + plainBytes + countedBytes * c) (beforeOf S T l i x) (insideOf S T l i x) (skipOf S T l i x) count-fits in-tree
           (before-stands S T taken l i l-in i-in c cl) (inside-stands S T taken l i l-in i-in c cl) (skip-stands S T taken l i l-in i-in c cl))
 
   -- All counts are written if those of all counted bytes are.
   pub counted-all : (new : List ℕ) (c : ℕ)
-      → c ≤ length (S .counted) → length (S .counted) ≤ c → Within D new (P + plainBytes) (P + plainBytes + countedBytes * c)
-      → Within D new (P + plainBytes) (P + plainBytes + countedBytes * length (S .counted))
+      → c ≤ length (S .counted) → length (S .counted) ≤ c → AgreesOn D new (P + plainBytes) (P + plainBytes + countedBytes * c)
+      → AgreesOn D new (P + plainBytes) (P + plainBytes + countedBytes * length (S .counted))
   counted-all new c a b h = within-part D new (P + plainBytes)
       (P + plainBytes + countedBytes * c) (P + plainBytes) (P + plainBytes + countedBytes * length (S .counted)) h (omega arith) (omega arith)
 
   -- Kind, link and gap are written.
-  module _ (new : List ℕ) (at : ℕ) (at-is : at ≡ recordPlace (level .table) i (settingsOf (level .settings) (S .counted)))
+  module _ (new : List ℕ) (at : ℕ) (at-is : at ≡ recordPlace (level .table) i (recordSettingsOf (level .settings) (S .counted)))
       (new-is : new ≡ putThree out (at + 4 * kindField) (block .kind) (block .link .0) (block .gap .0)) where
     fields-are : new ≡ putThree out (P + 4 * kindField) (kindOf S T l i) (linkOf S T l i) (gapOf S T l i)
     fields-are = new-is ∙ rw (at-is ∙ here-is, w .block-is .kind-is, w .block-is .link-is, w .block-is .gap-is)
@@ -184,12 +184,12 @@ module _ (S : Settings) (T out : List ℕ) (level : Level) (i : ℕ) (block : Bl
     inside : P + 4 * kindField + 12 ≤ length D
     inside = omega (arith, record-in-tree, record-size S T)
 
-    pub fields-grown : Grown D out new
+    pub fields-grown : WritesOnlyTree D out new
     fields-grown =
         rw fields-are (three-grown D out (P + 4 * kindField) (kindOf S T l i) (linkOf S T l i) (gapOf S T l i) fits inside
         (kind-stands S T taken l i l-in i-in) (link-stands S T taken l i l-in i-in) (gap-stands S T taken l i l-in i-in))
 
-    fields-within : Within D new (P + 4 * kindField) (P + plainBytes)
+    fields-within : AgreesOn D new (P + 4 * kindField) (P + plainBytes)
     fields-within =
         within-part D new (P + 4 * kindField) (P + 4 * kindField + 12) (P + 4 * kindField) (P + plainBytes)
         (rw fields-are (three-within D out (P + 4 * kindField) (kindOf S T l i) (linkOf S T l i) (gapOf S T l i) fits inside
@@ -197,8 +197,8 @@ module _ (S : Settings) (T out : List ℕ) (level : Level) (i : ℕ) (block : Bl
 
     -- With the counts and the edges the record is complete.
     pub record-done : (third last : List ℕ)
-        → Grown D new third → Within D third (P + plainBytes) (P + plainBytes + countedBytes * length (S .counted)) → Grown D third last
-        → Within D last (P + plainBytes + countedBytes * length (S .counted)) (placeAt S T l (i + 1)) → Within D last headerLength (placeAt S T l (i + 1))
+        → WritesOnlyTree D new third → AgreesOn D third (P + plainBytes) (P + plainBytes + countedBytes * length (S .counted)) → WritesOnlyTree D third last
+        → AgreesOn D last (P + plainBytes + countedBytes * length (S .counted)) (placeAt S T l (i + 1)) → AgreesOn D last headerLength (placeAt S T l (i + 1))
     record-done third last g counts g′ edges =
         let on = grown-then D new third last g g′ in
         let all = grown-then D out new last fields-grown on in

@@ -7,14 +7,14 @@ use lib.ListN.{length}
 use Rattle.format.specs.Layout.{wordAt, Settings, headerLength}
 use Rattle.format.specs.Blocks.{treeOf}
 use Rattle.text.specs.declared.TextPlace.{TextPlace}
-use Rattle.theory_built.specs.BuiltLeaves.{bytes-fit}
+use Rattle.theory_built.specs.BuiltLeafBytes.{bytes-fit}
 use Rattle.theory_built.specs.Pairs.{offset}
 use Rattle.theory_built.specs.Structure.{count, start, bytesIn, bytesIn-is, level-at}
 use Rattle.theory_built.specs.BlockSizes.{bounds}
 use Rattle.build_records.specs.declared.level_written.Level.{Level}
-use Rattle.build_records.specs.Grown.{Within}
+use Rattle.build_records.specs.WritesOnlyTree.{AgreesOn}
 use Rattle.build_records.specs.RecordPlaces.{recordPlace}
-use Rattle.build_records.specs.State.{settingsOf, LevelIs, On, StretchIs, placeAt}
+use Rattle.build_records.specs.State.{recordSettingsOf, LevelIs, On, StretchIs, placeAt}
 use Rattle.build_records.proofs.Growth.{read-right, within-part}
 use Rattle.build_records.proofs.StateLaws.{record-size, place-is, start-stands, record-inside-table, offset-low}
 
@@ -30,13 +30,13 @@ module _ (S : Settings) (T out : List ℕ) (level : Level) (i : ℕ) (w : On S T
     x-in : x < count S T l
     x-in = omega (arith, lev .count-is)
 
-    at : recordPlace (level .table) x (settingsOf (level .settings) (S .counted)) ≡ placeAt S T l x
+    at : recordPlace (level .table) x (recordSettingsOf (level .settings) (S .counted)) ≡ placeAt S T l x
     at = place-is S T level lev x
 
-    pub start-fits : recordPlace (level .table) x (settingsOf (level .settings) (S .counted)) + 4 ≤ length out
+    pub start-fits : recordPlace (level .table) x (recordSettingsOf (level .settings) (S .counted)) + 4 ≤ length out
     start-fits = omega (arith, at, record-size S T, record-inside-table S T l x x-in, w .filled .room)
 
-    pub start-read : wordAt out (recordPlace (level .table) x (settingsOf (level .settings) (S .counted))) ≡ start S T l x
+    pub start-read : wordAt out (recordPlace (level .table) x (recordSettingsOf (level .settings) (S .counted))) ≡ start S T l x
     start-read = rw at (read-right (treeOf S T) out (placeAt S T l x) (start S T l x) (w .filled .starts x x-in)
         (start-stands S T (lev .taken) l x (lev .number-in) x-in)
         (omega (arith, level-at S T (lev .taken) l (lev .number-in) .within x x-in, bounds S T (lev .taken) .text-high)))
@@ -45,7 +45,7 @@ module _ (S : Settings) (T out : List ℕ) (level : Level) (i : ℕ) (w : On S T
     start-in = level-at S T (lev .taken) l (lev .number-in) .within x x-in
 
   -- The bytes of block i.
-  module _ (s : TextPlace) (s-is : s .0 ≡ wordAt out (recordPlace (level .table) i (settingsOf (level .settings) (S .counted)))) where
+  module _ (s : TextPlace) (s-is : s .0 ≡ wordAt out (recordPlace (level .table) i (recordSettingsOf (level .settings) (S .counted)))) where
     s-right : s .0 ≡ start S T l i
     s-right = s-is ∙ start-read i (w .block-in)
 
@@ -60,7 +60,7 @@ module _ (S : Settings) (T out : List ℕ) (level : Level) (i : ℕ) (w : On S T
 
 -- A block of a level whose records are all written.
 pub on-written : (S : Settings) (T out : List ℕ) (level : Level) (i : ℕ) → LevelIs S T level → offset S T (suc (level .number)) ≤ length out
-    → Within (treeOf S T) out headerLength (offset S T (suc (level .number))) → i < level .count → On S T out level i
+    → AgreesOn (treeOf S T) out headerLength (offset S T (suc (level .number))) → i < level .count → On S T out level i
 on-written S T out level i h room body il = record {
   level-is = h;
   filled = record {

@@ -10,20 +10,20 @@ use Rattle.format.specs.Layout.{startField, kindField, linkField, gapField, pla
 use Rattle.format.specs.Layout.{beforeField, insideField, skipField, countedBytes, Settings, blockLength, maxText, maxLeaf, maxCounted, headerLength}
 use Rattle.format.specs.SizeLaws.{length-top, length-falls, record-edged}
 use Rattle.format.specs.Blocks.{treeOf, recordBytes, builtLayout}
-use Rattle.theory_built.specs.BuiltBytes.{Stands, record-stands}
+use Rattle.theory_built.specs.BuiltBytes.{BytesAt, record-stands}
 use Rattle.theory_built.specs.Gather.{sumBelow-le}
-use Rattle.theory_built.specs.BlockSizes.{Taken, Bounds, bounds, maxTable}
+use Rattle.theory_built.specs.BlockSizes.{Taken, BuiltBounds, bounds, maxTable}
 use Rattle.theory_built.specs.Structure.{count, start}
 use Rattle.theory_built.specs.Pairs.{offset}
 use Rattle.theory_built.specs.Shape.{tree-length}
-use Rattle.theory_built.specs.Small.{offset-le, blocks-le}
+use Rattle.theory_built.specs.SizeBounds.{offset-le, blocks-le}
 use Rattle.theory_built.specs.BuiltRecords.{recordWords, record-start, record-kind, record-link, record-gap, record-before, record-inside, record-skip}
 use Rattle.theory_built.specs.BuiltRecords.{kindOf, linkOf, gapOf, beforeOf, insideOf, skipOf}
 use Rattle.build_records.specs.declared.level_written.Level.{Level}
 use Rattle.build_records.specs.declared.record_written.Block.{Block}
-use Rattle.build_records.specs.Grown.{Grown}
+use Rattle.build_records.specs.WritesOnlyTree.{WritesOnlyTree}
 use Rattle.build_records.specs.RecordPlaces.{recordPlace}
-use Rattle.build_records.specs.State.{settingsOf, LevelIs, Filled, Writing, placeAt}
+use Rattle.build_records.specs.State.{recordSettingsOf, LevelIs, RecordsUpTo, Writing, placeAt}
 use Rattle.build_records.proofs.Growth.{within-grown}
 
 module _ (S : Settings) (T : List ℕ) where
@@ -55,7 +55,7 @@ module _ (S : Settings) (T : List ℕ) where
   offset-rises l m h = omega (arith, mul-le-mul-right (recordBytes S) (sumBelow-le m (count S T) l h))
 
   module _ (h : Taken S T) where
-    limits : Bounds S T
+    limits : BuiltBounds S T
     limits = bounds S T h
 
     pub table-inside : (l : ℕ) → l < S .levels → offset S T (suc l) ≤ length (treeOf S T)
@@ -73,18 +73,18 @@ module _ (S : Settings) (T : List ℕ) where
       at-zero : placeAt S T l i + 4 * startField ≡ placeAt S T l i
       at-zero = omega arith
 
-      pub start-stands : Stands (treeOf S T) (placeAt S T l i) (start S T l i)
+      pub start-stands : BytesAt (treeOf S T) (placeAt S T l i) (start S T l i)
       start-stands = rw at-zero at (rw (record-start S T l i) at (record-stands S T h l i startField e il (omega (arith, four))))
 
-      pub kind-stands : Stands (treeOf S T) (placeAt S T l i + 4 * kindField) (kindOf S T l i)
+      pub kind-stands : BytesAt (treeOf S T) (placeAt S T l i + 4 * kindField) (kindOf S T l i)
       kind-stands = rw (record-kind S T l i) at (record-stands S T h l i kindField e il (omega (arith, four)))
 
-      pub link-stands : Stands (treeOf S T) (placeAt S T l i + 4 * kindField + 4) (linkOf S T l i)
+      pub link-stands : BytesAt (treeOf S T) (placeAt S T l i + 4 * kindField + 4) (linkOf S T l i)
       link-stands =
           let p : placeAt S T l i + 4 * linkField ≡ placeAt S T l i + 4 * kindField + 4 = omega arith in
           rw (record-link S T l i, p) at (record-stands S T h l i linkField e il (omega (arith, four)))
 
-      pub gap-stands : Stands (treeOf S T) (placeAt S T l i + 4 * kindField + 8) (gapOf S T l i)
+      pub gap-stands : BytesAt (treeOf S T) (placeAt S T l i + 4 * kindField + 8) (gapOf S T l i)
       gap-stands =
           let p : placeAt S T l i + 4 * gapField ≡ placeAt S T l i + 4 * kindField + 8 = omega arith in
           rw (record-gap S T l i, p) at (record-stands S T h l i gapField e il (omega (arith, four)))
@@ -95,17 +95,17 @@ module _ (S : Settings) (T : List ℕ) where
         unfolding recordWords
         six = omega arith
 
-        pub before-stands : Stands (treeOf S T) (placeAt S T l i + plainBytes + countedBytes * c) (beforeOf S T l i (getD (S .counted) c 0))
+        pub before-stands : BytesAt (treeOf S T) (placeAt S T l i + plainBytes + countedBytes * c) (beforeOf S T l i (getD (S .counted) c 0))
         before-stands =
             let p : placeAt S T l i + 4 * beforeField c ≡ placeAt S T l i + plainBytes + countedBytes * c = omega arith in
             rw (record-before S T l i c cl, p) at (record-stands S T h l i (beforeField c) e il (omega (arith, six)))
 
-        pub inside-stands : Stands (treeOf S T) (placeAt S T l i + plainBytes + countedBytes * c + 4) (insideOf S T l i (getD (S .counted) c 0))
+        pub inside-stands : BytesAt (treeOf S T) (placeAt S T l i + plainBytes + countedBytes * c + 4) (insideOf S T l i (getD (S .counted) c 0))
         inside-stands =
             let p : placeAt S T l i + 4 * insideField c ≡ placeAt S T l i + plainBytes + countedBytes * c + 4 = omega arith in
             rw (record-inside S T l i c cl, p) at (record-stands S T h l i (insideField c) e il (omega (arith, six)))
 
-        pub skip-stands : Stands (treeOf S T) (placeAt S T l i + plainBytes + countedBytes * c + 8) (skipOf S T l i (getD (S .counted) c 0))
+        pub skip-stands : BytesAt (treeOf S T) (placeAt S T l i + plainBytes + countedBytes * c + 8) (skipOf S T l i (getD (S .counted) c 0))
         skip-stands =
             let p : placeAt S T l i + 4 * skipField c ≡ placeAt S T l i + plainBytes + countedBytes * c + 8 = omega arith in
             rw (record-skip S T l i c cl, p) at (record-stands S T h l i (skipField c) e il six)
@@ -119,7 +119,7 @@ module _ (S : Settings) (T : List ℕ) (h : Taken S T) where
   size-high l = omega (arith, length-falls S (bounds S T h) 0 l (omega arith), length-top S, block-high)
 
 -- The numbers of a level are small.
-pub record Few (S : Settings) (T : List ℕ) (level : Level) : Type 0 where
+pub record RecordFew (S : Settings) (T : List ℕ) (level : Level) : Type 0 where
   pub counted-few : length (S .counted) ≤ maxCounted
   pub text-few : length T ≤ maxText
   pub table-few : level .table ≤ maxTable
@@ -127,8 +127,8 @@ pub record Few (S : Settings) (T : List ℕ) (level : Level) : Type 0 where
   pub leaf-few : level .settings .leaf ≤ maxLeaf
   pub size-few : level .size ≤ maxText
 
-pub few : (S : Settings) (T : List ℕ) (level : Level) → LevelIs S T level → Few S T level
-few S T level h = record {
+pub record-few : (S : Settings) (T : List ℕ) (level : Level) → LevelIs S T level → RecordFew S T level
+record-few S T level h = record {
   counted-few = bounds S T (h .taken) .counted-high;
   text-few = bounds S T (h .taken) .text-high;
   table-few = rw (h .table-is) (offset-le S T (h .taken) (level .number) (omega (arith, h .number-in)));
@@ -139,19 +139,19 @@ few S T level h = record {
 
 -- Where the code finds the record of a block.
 pub place-is : (S : Settings) (T : List ℕ) (level : Level)
-    → LevelIs S T level → (i : ℕ) → recordPlace (level .table) i (settingsOf (level .settings) (S .counted)) ≡ placeAt S T (level .number) i
+    → LevelIs S T level → (i : ℕ) → recordPlace (level .table) i (recordSettingsOf (level .settings) (S .counted)) ≡ placeAt S T (level .number) i
 unfolding recordBytes
 place-is S T level h i = rw (h .table-is, h .leaf-is)
 
 -- A state goes on as the buffer grows.
-pub filled-grown : (S : Settings) (T t u : List ℕ) (l i : ℕ) → Filled S T t l i → Grown (treeOf S T) t u → Filled S T u l i
+pub filled-grown : (S : Settings) (T t u : List ℕ) (l i : ℕ) → RecordsUpTo S T t l i → WritesOnlyTree (treeOf S T) t u → RecordsUpTo S T u l i
 filled-grown S T t u l i f g = record {
   room = omega (arith, f .room, g .same-length);
   body = within-grown (treeOf S T) t u headerLength (placeAt S T l i) g (f .body);
   starts = λ x h. within-grown (treeOf S T) t u (placeAt S T l x) (placeAt S T l x + 4) g (f .starts x h);
 }
 
-pub writing-grown : (S : Settings) (T t u : List ℕ) (level : Level) (i : ℕ) (block : Block) → Writing S T t level i block → Grown (treeOf S T) t u
+pub writing-grown : (S : Settings) (T t u : List ℕ) (level : Level) (i : ℕ) (block : Block) → Writing S T t level i block → WritesOnlyTree (treeOf S T) t u
     → Writing S T u level i block
 writing-grown S T t u level i block w g =
     record { level-is = w .level-is; filled = filled-grown S T t u (level .number) i (w .filled) g; block-in = w .block-in; block-is = w .block-is }

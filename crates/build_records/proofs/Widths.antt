@@ -8,10 +8,10 @@ use native.Mathlib.Omega.{arith}
 use native.Mathlib.Numerals.{add-one}
 use Rattle.text.specs.ListLaws.{lt-or-ge, bool-cases, bool-clash}
 use Rattle.format.specs.Layout.{Settings, pieces, maxText, maxLevels}
-use Rattle.theory_built.specs.BuiltLeaves.{bytes-fit, kept-last, width-last}
+use Rattle.theory_built.specs.BuiltLeafBytes.{bytes-fit, kept-last, width-last}
 use Rattle.theory_built.specs.BuiltLinks.{kind-points}
 use Rattle.theory_built.specs.BuiltRecords.{kindOf}
-use Rattle.theory_built.specs.BlockSizes.{Bounds, bounds, size-pos}
+use Rattle.theory_built.specs.BlockSizes.{BuiltBounds, bounds, size-pos}
 use Rattle.theory_built.specs.Structure.{keptAt, widthOf, bytesIn-is, cut-at}
 use Rattle.build_records.specs.declared.level_written.Level.{Level}
 use Rattle.build_records.specs.declared.record_written.Block.{Block}
@@ -53,7 +53,7 @@ module _ (S : Settings) (T out : List ℕ) (level : Level) (i : ℕ) (block : Bl
   abbrev lev : LevelIs S T level
   lev = w .level-is
 
-  limits : Bounds S T
+  limits : BuiltBounds S T
   limits = bounds S T (lev .taken)
 
   pub number-few : l < maxLevels

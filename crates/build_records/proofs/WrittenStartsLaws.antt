@@ -10,8 +10,8 @@ use lib.ListN.{length}
 use Rattle.text.specs.ListLaws.{below-suc}
 use Rattle.format.specs.Layout.{maxText, setWord}
 use Rattle.format.specs.SizeLaws.{maxRecord}
-use Rattle.theory_built.specs.BuiltBytes.{Stands}
-use Rattle.build_records.specs.Grown.{Grown, Within}
+use Rattle.theory_built.specs.BuiltBytes.{BytesAt}
+use Rattle.build_records.specs.WritesOnlyTree.{WritesOnlyTree, AgreesOn}
 use Rattle.build_records.specs.WrittenStarts.{startsWritten}
 use Rattle.build_records.proofs.Growth.{grown-none, grown-then, within-grown, word-grown, word-within}
 
@@ -28,9 +28,9 @@ pub few-steps : (j n step : ℕ) → j < n → n ≤ maxText → step ≤ maxRec
 few-steps j n step l k m = mul-le-mul (let z : j ≤ maxText = omega arith in z) m
 
 module _ (D t : List ℕ) (at step s b : ℕ) where
-  module _ (n : ℕ) (stand : (j : ℕ) → j < n → Stands D (at + j * step) (s + j * b)) (fits : (j : ℕ) → j < n → at + j * step + 4 ≤ length t)
+  module _ (n : ℕ) (stand : (j : ℕ) → j < n → BytesAt D (at + j * step) (s + j * b)) (fits : (j : ℕ) → j < n → at + j * step + 4 ≤ length t)
       (inside : (j : ℕ) → j < n → at + j * step + 4 ≤ length D) where
-    pub starts-grown : (j : ℕ) → j ≤ n → Grown D t (startsWritten t at step s b j)
+    pub starts-grown : (j : ℕ) → j ≤ n → WritesOnlyTree D t (startsWritten t at step s b j)
     starts-grown zero l = grown-none D t
     starts-grown (suc j) l =
         let g = starts-grown j (omega arith) in
@@ -38,12 +38,12 @@ module _ (D t : List ℕ) (at step s b : ℕ) where
         (word-grown D (startsWritten t at step s b j)
         (at + j * step) (s + j * b) (omega (arith, fits j (omega arith), g .same-length)) (stand j (omega arith)) (inside j (omega arith)))
 
-    pub starts-within : (j : ℕ) → j ≤ n → (x : ℕ) → x < j → Within D (startsWritten t at step s b j) (at + x * step) (at + x * step + 4)
+    pub starts-within : (j : ℕ) → j ≤ n → (x : ℕ) → x < j → AgreesOn D (startsWritten t at step s b j) (at + x * step) (at + x * step + 4)
     starts-within zero l x k = absurd (let z : ⊥ = omega arith in z)
     starts-within (suc j) l x k = go (below-suc x j k) (starts-within j (omega arith) x)
       where
-        go : (x < j) ⊎ (x ≡ j) → (x < j → Within D (startsWritten t at step s b j) (at + x * step) (at + x * step + 4))
-            → Within D (startsWritten t at step s b (suc j)) (at + x * step) (at + x * step + 4)
+        go : (x < j) ⊎ (x ≡ j) → (x < j → AgreesOn D (startsWritten t at step s b j) (at + x * step) (at + x * step + 4))
+            → AgreesOn D (startsWritten t at step s b (suc j)) (at + x * step) (at + x * step + 4)
         go (inl y) r =
             let g = starts-grown j (omega arith) in
             within-grown D (startsWritten t at step s b j) (startsWritten t at step s b (suc j)) (at + x * step) (at + x * step + 4)

@@ -1,5 +1,5 @@
 pub mod RecordPlaces
-pub mod Grown
+pub mod WritesOnlyTree
 pub mod State
 pub mod RecordWords
 pub mod WrittenStarts

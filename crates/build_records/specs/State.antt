@@ -14,11 +14,11 @@ use Rattle.theory_built.specs.BuiltRecords.{parentOf, kindOf, linkOf, gapOf, sk
 use Rattle.build_records.specs.declared.level_written.Level.{Level}
 use Rattle.build_records.specs.declared.level_written.Stretch.{Stretch}
 use Rattle.build_records.specs.declared.record_written.Block.{Block}
-use Rattle.build_records.specs.Grown.{Within}
+use Rattle.build_records.specs.WritesOnlyTree.{AgreesOn}
 
 -- The settings in the code, with the caller's counted bytes.
-abbrev pub settingsOf : code.Settings → List ℕ → Settings
-settingsOf s cs = record { leaf = s .leaf; arity = s .arity; levels = s .levels; counted = cs }
+abbrev pub recordSettingsOf : code.Settings → List ℕ → Settings
+recordSettingsOf s cs = record { leaf = s .leaf; arity = s .arity; levels = s .levels; counted = cs }
 
 module _ (S : Settings) (T : List ℕ) where
   -- The level in the code is that of the tree.
@@ -38,10 +38,10 @@ module _ (S : Settings) (T : List ℕ) where
   placeAt l i = offset S T l + i * recordBytes S
 
   -- The buffer has room for the records of level l and contains their starts, and everything before the record of block i is written.
-  pub record Filled (out : List ℕ) (l i : ℕ) : Type 0 where
+  pub record RecordsUpTo (out : List ℕ) (l i : ℕ) : Type 0 where
     pub room : offset S T (suc l) ≤ length out
-    pub body : Within (treeOf S T) out headerLength (placeAt l i)
-    pub starts : (x : ℕ) → x < count S T l → Within (treeOf S T) out (placeAt l x) (placeAt l x + 4)
+    pub body : AgreesOn (treeOf S T) out headerLength (placeAt l i)
+    pub starts : (x : ℕ) → x < count S T l → AgreesOn (treeOf S T) out (placeAt l x) (placeAt l x + 4)
 
   -- The bytes of block i of level l, as the code reads them.
   pub record StretchIs (l i : ℕ) (r : Stretch) : Type 0 where
@@ -63,19 +63,19 @@ module _ (S : Settings) (T : List ℕ) where
   -- The record of block i of a level is written next.
   pub record Writing (out : List ℕ) (level : Level) (i : ℕ) (block : Block) : Type 0 where
     pub level-is : LevelIs level
-    pub filled : Filled out (level .number) i
+    pub filled : RecordsUpTo out (level .number) i
     pub block-in : i < level .count
     pub block-is : BlockIs (level .number) i block
 
   -- Block i of a level is next in turn.
   pub record On (out : List ℕ) (level : Level) (i : ℕ) : Type 0 where
     pub level-is : LevelIs level
-    pub filled : Filled out (level .number) i
+    pub filled : RecordsUpTo out (level .number) i
     pub block-in : i < level .count
 
   -- The buffer has the starts of blocks a to b of level l.
   pub record Started (out : List ℕ) (l a b : ℕ) : Type 0 where
-    pub starts : (x : ℕ) → a ≤ x → x < b → Within (treeOf S T) out (placeAt l x) (placeAt l x + 4)
+    pub starts : (x : ℕ) → a ≤ x → x < b → AgreesOn (treeOf S T) out (placeAt l x) (placeAt l x + 4)
 
   -- The records of a level are written, there is room for those of the next, and the starts of the children of the first i blocks are written.
   pub record Below (out : List ℕ) (level next : Level) (i : ℕ) : Type 0 where
@@ -83,5 +83,5 @@ module _ (S : Settings) (T : List ℕ) where
     pub next-is : LevelIs next
     pub follows : next .number ≡ suc (level .number)
     pub room : offset S T (suc (suc (level .number))) ≤ length out
-    pub body : Within (treeOf S T) out headerLength (offset S T (suc (level .number)))
-    pub done : Started out (suc (level .number)) 0 (sumBelow i (widthOf S T (level .number)))
+    pub body : AgreesOn (treeOf S T) out headerLength (offset S T (suc (level .number)))
+    pub finished : Started out (suc (level .number)) 0 (sumBelow i (widthOf S T (level .number)))

@@ -11,9 +11,9 @@ ghost use Prim.Native.Nat.{suc, _+_, _<_};
 ghost use Rattle.text.specs.Text.{sumBelow};
 ghost use Rattle.format.specs.Blocks.{treeOf};
 ghost use Rattle.theory_built.specs.Structure.{widthOf};
-ghost use Rattle.build_records.specs.Grown.{Grown};
+ghost use Rattle.build_records.specs.WritesOnlyTree.{WritesOnlyTree};
 ghost use Rattle.build_records.specs.WrittenStarts.{startsWritten, StartsAsk};
-ghost use Rattle.build_records.specs.State.{settingsOf, Below, Started, Filled};
+ghost use Rattle.build_records.specs.State.{recordSettingsOf, Below, Started, RecordsUpTo};
 
 // Writes the starts of n blocks of `size` bytes, one in each record from a place on.
 pub fn put_starts(out: &mut [u8], at: usize, step: usize, start: TextPlace, size: u32, n: u32)
@@ -36,10 +36,11 @@ fn put_children_of(
     next: Level,
     i: BlockNumber,
 )
-    requires { ⌜ Below (settingsOf (level .settings) (now counted)) (now text) (now out) level next (i .0) × (i .0 < level .count) ⌝ }
-    ensures { λ _. ⌜ Grown (treeOf (settingsOf (level .settings) (now (counted .entry))) (now (text .entry))) (now (out .entry)) (now (out .exit)) ⌝ }
-    ensures { λ _. ⌜ Started (settingsOf (level .settings) (now (counted .entry))) (now (text .entry)) (now (out .exit)) (suc (level .number)) 0
-        (sumBelow (i .0 + 1) (widthOf (settingsOf (level .settings) (now (counted .entry))) (now (text .entry)) (level .number))) ⌝ }
+    requires { ⌜ Below (recordSettingsOf (level .settings) (now counted)) (now text) (now out) level next (i .0) × (i .0 < level .count) ⌝ }
+    ensures { λ _. ⌜ WritesOnlyTree (treeOf (recordSettingsOf (level .settings) (now (counted .entry))) (now (text .entry))) (now (out .entry))
+        (now (out .exit)) ⌝ }
+    ensures { λ _. ⌜ Started (recordSettingsOf (level .settings) (now (counted .entry))) (now (text .entry)) (now (out .exit)) (suc (level .number)) 0
+        (sumBelow (i .0 + 1) (widthOf (recordSettingsOf (level .settings) (now (counted .entry))) (now (text .entry)) (level .number))) ⌝ }
 {
     let at = level_written::place(counted, level, i);
     if word::read(out, at + record::KIND_AT) != 0 {
@@ -60,9 +61,10 @@ fn put_children_of(
 
 // Writes the starts of all children of the blocks of a level.
 pub fn put_children(out: &mut [u8], text: &[u8], counted: &[u8], level: Level, next: Level)
-    requires { ⌜ Below (settingsOf (level .settings) (now counted)) (now text) (now out) level next 0 ⌝ }
-    ensures { λ _. ⌜ Grown (treeOf (settingsOf (level .settings) (now (counted .entry))) (now (text .entry))) (now (out .entry)) (now (out .exit)) ⌝ }
-    ensures { λ _. ⌜ Filled (settingsOf (level .settings) (now (counted .entry))) (now (text .entry)) (now (out .exit)) (suc (level .number)) 0 ⌝ }
+    requires { ⌜ Below (recordSettingsOf (level .settings) (now counted)) (now text) (now out) level next 0 ⌝ }
+    ensures { λ _. ⌜ WritesOnlyTree (treeOf (recordSettingsOf (level .settings) (now (counted .entry))) (now (text .entry))) (now (out .entry))
+        (now (out .exit)) ⌝ }
+    ensures { λ _. ⌜ RecordsUpTo (recordSettingsOf (level .settings) (now (counted .entry))) (now (text .entry)) (now (out .exit)) (suc (level .number)) 0 ⌝ }
 {
     let mut i: u32 = 0;
     while i < level.count {

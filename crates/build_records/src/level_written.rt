@@ -13,7 +13,7 @@ ghost use Rattle.format.specs.Layout.{maxText, maxLeaf, maxCounted, wordAt, pla
 ghost use Rattle.format.specs.SizeLaws.{maxRecord};
 ghost use Rattle.format.specs.Blocks.{recordBytes};
 ghost use Rattle.build_records.specs.RecordPlaces.{recordPlace};
-ghost use Rattle.build_records.specs.State.{settingsOf, On, StretchIs};
+ghost use Rattle.build_records.specs.State.{recordSettingsOf, On, StretchIs};
 
 pub struct Level {
     pub settings: Settings,
@@ -37,7 +37,7 @@ pub struct Stretch {
 // The number of bytes of a record: its words and two edges.
 pub fn record_size(counted: &[u8], s: Settings) -> usize
     requires { ⌜ (length (now counted) ≤ maxCounted) × (s .leaf ≤ maxLeaf) ⌝ }
-    ensures { λ r. ⌜ (r ≡ recordBytes (settingsOf s (now (counted .entry)))) × (plainBytes ≤ r) × (r ≤ maxRecord) ⌝ }
+    ensures { λ r. ⌜ (r ≡ recordBytes (recordSettingsOf s (now (counted .entry)))) × (plainBytes ≤ r) × (r ≤ maxRecord) ⌝ }
 {
     let edge = s.leaf as usize;
     record::PLAIN_BYTES + record::COUNTED_BYTES * counted.len() + (edge + edge)
@@ -46,7 +46,7 @@ pub fn record_size(counted: &[u8], s: Settings) -> usize
 // The offset of the record of a block.
 pub fn place(counted: &[u8], level: Level, block: BlockNumber) -> usize
     requires { ⌜ (length (now counted) ≤ maxCounted) × (level .table ≤ maxTable) × (block .0 ≤ maxText) × (level .settings .leaf ≤ maxLeaf) ⌝ }
-    ensures { λ r. ⌜ (r ≡ recordPlace (level .table) (block .0) (settingsOf (level .settings) (now (counted .entry))))
+    ensures { λ r. ⌜ (r ≡ recordPlace (level .table) (block .0) (recordSettingsOf (level .settings) (now (counted .entry))))
         × (r ≤ maxTable + maxRecord * maxText) ⌝ }
 {
     level.table as usize + block.0 as usize * record_size(counted, level.settings)
@@ -55,16 +55,16 @@ pub fn place(counted: &[u8], level: Level, block: BlockNumber) -> usize
 // The start of a block, read from its record.
 pub fn start(counted: &[u8], out: &[u8], level: Level, block: BlockNumber) -> TextPlace
     requires { ⌜ (length (now counted) ≤ maxCounted) × (level .table ≤ maxTable) × (block .0 ≤ maxText) × (level .settings .leaf ≤ maxLeaf)
-        × (recordPlace (level .table) (block .0) (settingsOf (level .settings) (now counted)) + 4 ≤ length (now out)) ⌝ }
-    ensures { λ r. ⌜ r .0 ≡ wordAt (now (out .entry)) (recordPlace (level .table) (block .0) (settingsOf (level .settings) (now (counted .entry)))) ⌝ }
+        × (recordPlace (level .table) (block .0) (recordSettingsOf (level .settings) (now counted)) + 4 ≤ length (now out)) ⌝ }
+    ensures { λ r. ⌜ r .0 ≡ wordAt (now (out .entry)) (recordPlace (level .table) (block .0) (recordSettingsOf (level .settings) (now (counted .entry)))) ⌝ }
 {
     TextPlace(word::read(out, place(counted, level, block)))
 }
 
 // The bytes of a block of a level whose starts have been written.
 pub fn stretch_of(text: &[u8], counted: &[u8], out: &[u8], level: Level, i: BlockNumber) -> Stretch
-    requires { ⌜ On (settingsOf (level .settings) (now counted)) (now text) (now out) level (i .0) ⌝ }
-    ensures { λ r. ⌜ StretchIs (settingsOf (level .settings) (now (counted .entry))) (now (text .entry)) (level .number) (i .0) r ⌝ }
+    requires { ⌜ On (recordSettingsOf (level .settings) (now counted)) (now text) (now out) level (i .0) ⌝ }
+    ensures { λ r. ⌜ StretchIs (recordSettingsOf (level .settings) (now (counted .entry))) (now (text .entry)) (level .number) (i .0) r ⌝ }
 {
     let start = start(counted, out, level, i);
     Stretch {

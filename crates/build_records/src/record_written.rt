@@ -16,9 +16,9 @@ ghost use Rattle.format.specs.Layout.{maxText, wordAt, plainBytes, countedBytes
 ghost use Rattle.format.specs.WordLaws.{putThree};
 ghost use Rattle.format.specs.Blocks.{treeOf};
 ghost use Rattle.theory_built.specs.Structure.{widthOf};
-ghost use Rattle.build_records.specs.Grown.{Grown, Within};
-ghost use Rattle.build_records.specs.State.{settingsOf, Writing, placeAt};
-ghost use Rattle.build_records.specs.RecordWords.{beforeSays, edgeWritten};
+ghost use Rattle.build_records.specs.WritesOnlyTree.{WritesOnlyTree, AgreesOn};
+ghost use Rattle.build_records.specs.State.{recordSettingsOf, Writing, placeAt};
+ghost use Rattle.build_records.specs.RecordWords.{beforeWord, edgeWritten};
 
 // The values of a record, and where the bytes are that it counts.
 pub struct Block {
@@ -41,8 +41,8 @@ fn put_count(out: &mut [u8], text: &[u8], byte: u8, at: usize, block: Block, bef
         (countIn byte (stretch (now (text .entry)) (block .start .0) (block .length)))
         (countIn byte (stretch (now (text .entry)) (block .from .0) (block .gap .0))) ⌝ }
 {
-    let inside = stretches::count_in(text, block.start.0 as usize, block.length, byte);
-    let skip = stretches::count_in(text, block.from.0 as usize, block.gap.0, byte);
+    let inside = byte_slices::count_in(text, block.start.0 as usize, block.length, byte);
+    let skip = byte_slices::count_in(text, block.from.0 as usize, block.gap.0, byte);
     word::put_three(out, at, before, inside, skip);
 }
 
@@ -51,7 +51,7 @@ fn put_count(out: &mut [u8], text: &[u8], byte: u8, at: usize, block: Block, bef
 fn count_before(out: &[u8], at: usize, size: usize, block: Block) -> u32
     requires { ⌜ ((block .start .0 ≡ block .parent .0 → ⊥) → (size ≤ at) × (at - size + 8 ≤ length (now out))
         × (wordAt (now out) (at - size) + wordAt (now out) (at - size + 4) < 4294967296)) ⌝ }
-    ensures { λ r. ⌜ r ≡ beforeSays (now (out .entry)) (at - size) (block .start .0) (block .parent .0) ⌝ }
+    ensures { λ r. ⌜ r ≡ beforeWord (now (out .entry)) (at - size) (block .start .0) (block .parent .0) ⌝ }
 {
     if block.start.0 == block.parent.0 {
         return 0;
@@ -68,12 +68,14 @@ struct Slot {
 
 // Writes the counts of a block for one counted byte.
 fn put_count_of(out: &mut [u8], text: &[u8], counted: &[u8], level: Level, block: Block, of: Slot)
-    requires { ⌜ Writing (settingsOf (level .settings) (now counted)) (now text) (now out) level (of .block .0) block × (of .byte < length (now counted)) ⌝ }
-    ensures { λ _. ⌜ Grown (treeOf (settingsOf (level .settings) (now (counted .entry))) (now (text .entry))) (now (out .entry)) (now (out .exit)) ⌝ }
-    ensures { λ _. ⌜ Within (treeOf (settingsOf (level .settings) (now (counted .entry))) (now (text .entry))) (now (out .exit))
-        (placeAt (settingsOf (level .settings) (now (counted .entry))) (now (text .entry)) (level .number) (of .block .0)
+    requires { ⌜ Writing (recordSettingsOf (level .settings) (now counted)) (now text) (now out) level (of .block .0) block
+        × (of .byte < length (now counted)) ⌝ }
+    ensures { λ _. ⌜ WritesOnlyTree (treeOf (recordSettingsOf (level .settings) (now (counted .entry))) (now (text .entry))) (now (out .entry))
+        (now (out .exit)) ⌝ }
+    ensures { λ _. ⌜ AgreesOn (treeOf (recordSettingsOf (level .settings) (now (counted .entry))) (now (text .entry))) (now (out .exit))
+        (placeAt (recordSettingsOf (level .settings) (now (counted .entry))) (now (text .entry)) (level .number) (of .block .0)
         + plainBytes + countedBytes * of .byte)
-        (placeAt (settingsOf (level .settings) (now (counted .entry))) (now (text .entry)) (level .number) (of .block .0)
+        (placeAt (recordSettingsOf (level .settings) (now (counted .entry))) (now (text .entry)) (level .number) (of .block .0)
         + plainBytes + countedBytes * of .byte + countedBytes) ⌝ }
 {
     let i = of.block;
@@ -95,11 +97,12 @@ fn put_counts(
     i: BlockNumber,
     block: Block,
 )
-    requires { ⌜ Writing (settingsOf (level .settings) (now counted)) (now text) (now out) level (i .0) block ⌝ }
-    ensures { λ _. ⌜ Grown (treeOf (settingsOf (level .settings) (now (counted .entry))) (now (text .entry))) (now (out .entry)) (now (out .exit)) ⌝ }
-    ensures { λ _. ⌜ Within (treeOf (settingsOf (level .settings) (now (counted .entry))) (now (text .entry))) (now (out .exit))
-        (placeAt (settingsOf (level .settings) (now (counted .entry))) (now (text .entry)) (level .number) (i .0) + plainBytes)
-        (placeAt (settingsOf (level .settings) (now (counted .entry)))
+    requires { ⌜ Writing (recordSettingsOf (level .settings) (now counted)) (now text) (now out) level (i .0) block ⌝ }
+    ensures { λ _. ⌜ WritesOnlyTree (treeOf (recordSettingsOf (level .settings) (now (counted .entry))) (now (text .entry))) (now (out .entry))
+        (now (out .exit)) ⌝ }
+    ensures { λ _. ⌜ AgreesOn (treeOf (recordSettingsOf (level .settings) (now (counted .entry))) (now (text .entry))) (now (out .exit))
+        (placeAt (recordSettingsOf (level .settings) (now (counted .entry))) (now (text .entry)) (level .number) (i .0) + plainBytes)
+        (placeAt (recordSettingsOf (level .settings) (now (counted .entry)))
         (now (text .entry)) (level .number) (i .0) + plainBytes + countedBytes * length (now (counted .entry))) ⌝ }
 {
     let mut c: usize = 0;
@@ -115,8 +118,8 @@ fn put_edge(out: &mut [u8], text: &[u8], at: usize, from: TextPlace, own: usize,
     requires { ⌜ (at + m ≤ length (now out)) × (from .0 + own ≤ length (now text)) × (own ≤ m) ⌝ }
     ensures { λ _. ⌜ now (out .exit) ≡ edgeWritten (now (out .entry)) at (now (text .entry)) (from .0) own m ⌝ }
 {
-    stretches::copy(out, at, text, from.0 as usize, own);
-    stretches::clear_at(out, at + own, m - own);
+    byte_slices::copy(out, at, text, from.0 as usize, own);
+    byte_slices::clear_at(out, at + own, m - own);
 }
 
 // Writes the edges of a block after its counts: its first m bytes and its last m bytes.
@@ -128,15 +131,16 @@ fn put_edges(
     i: BlockNumber,
     block: Block,
 )
-    requires { ⌜ Writing (settingsOf (level .settings) (now counted)) (now text) (now out) level (i .0) block ⌝ }
-    ensures { λ _. ⌜ Grown (treeOf (settingsOf (level .settings) (now (counted .entry))) (now (text .entry))) (now (out .entry)) (now (out .exit)) ⌝ }
-    ensures { λ _. ⌜ Within (treeOf (settingsOf (level .settings) (now (counted .entry))) (now (text .entry))) (now (out .exit))
-        (placeAt (settingsOf (level .settings) (now (counted .entry)))
+    requires { ⌜ Writing (recordSettingsOf (level .settings) (now counted)) (now text) (now out) level (i .0) block ⌝ }
+    ensures { λ _. ⌜ WritesOnlyTree (treeOf (recordSettingsOf (level .settings) (now (counted .entry))) (now (text .entry))) (now (out .entry))
+        (now (out .exit)) ⌝ }
+    ensures { λ _. ⌜ AgreesOn (treeOf (recordSettingsOf (level .settings) (now (counted .entry))) (now (text .entry))) (now (out .exit))
+        (placeAt (recordSettingsOf (level .settings) (now (counted .entry)))
         (now (text .entry)) (level .number) (i .0) + plainBytes + countedBytes * length (now (counted .entry)))
-        (placeAt (settingsOf (level .settings) (now (counted .entry))) (now (text .entry)) (level .number) (i .0 + 1)) ⌝ }
+        (placeAt (recordSettingsOf (level .settings) (now (counted .entry))) (now (text .entry)) (level .number) (i .0 + 1)) ⌝ }
 {
     let m = level.settings.leaf as usize;
-    let short = stretches::shorter(level.settings.leaf, block.length);
+    let short = byte_slices::min(level.settings.leaf, block.length);
     let own = short as usize;
     let at = level_written::place(counted, level, i)
         + record::PLAIN_BYTES
@@ -155,10 +159,11 @@ fn put_record(
     i: BlockNumber,
     block: Block,
 )
-    requires { ⌜ Writing (settingsOf (level .settings) (now counted)) (now text) (now out) level (i .0) block ⌝ }
-    ensures { λ _. ⌜ Grown (treeOf (settingsOf (level .settings) (now (counted .entry))) (now (text .entry))) (now (out .entry)) (now (out .exit)) ⌝ }
-    ensures { λ _. ⌜ Within (treeOf (settingsOf (level .settings) (now (counted .entry))) (now (text .entry))) (now (out .exit))
-        headerLength (placeAt (settingsOf (level .settings) (now (counted .entry))) (now (text .entry)) (level .number) (i .0 + 1)) ⌝ }
+    requires { ⌜ Writing (recordSettingsOf (level .settings) (now counted)) (now text) (now out) level (i .0) block ⌝ }
+    ensures { λ _. ⌜ WritesOnlyTree (treeOf (recordSettingsOf (level .settings) (now (counted .entry))) (now (text .entry))) (now (out .entry))
+        (now (out .exit)) ⌝ }
+    ensures { λ _. ⌜ AgreesOn (treeOf (recordSettingsOf (level .settings) (now (counted .entry))) (now (text .entry))) (now (out .exit))
+        headerLength (placeAt (recordSettingsOf (level .settings) (now (counted .entry))) (now (text .entry)) (level .number) (i .0 + 1)) ⌝ }
 {
     let at = level_written::place(counted, level, i);
     word::put_three(
@@ -181,11 +186,12 @@ pub fn put_block(
     i: BlockNumber,
     block: Block,
 ) -> u32
-    requires { ⌜ Writing (settingsOf (level .settings) (now counted)) (now text) (now out) level (i .0) block ⌝ }
-    ensures { λ r. ⌜ r ≡ widthOf (settingsOf (level .settings) (now (counted .entry))) (now (text .entry)) (level .number) (i .0) ⌝ }
-    ensures { λ _. ⌜ Grown (treeOf (settingsOf (level .settings) (now (counted .entry))) (now (text .entry))) (now (out .entry)) (now (out .exit)) ⌝ }
-    ensures { λ _. ⌜ Within (treeOf (settingsOf (level .settings) (now (counted .entry))) (now (text .entry))) (now (out .exit))
-        headerLength (placeAt (settingsOf (level .settings) (now (counted .entry))) (now (text .entry)) (level .number) (i .0 + 1)) ⌝ }
+    requires { ⌜ Writing (recordSettingsOf (level .settings) (now counted)) (now text) (now out) level (i .0) block ⌝ }
+    ensures { λ r. ⌜ r ≡ widthOf (recordSettingsOf (level .settings) (now (counted .entry))) (now (text .entry)) (level .number) (i .0) ⌝ }
+    ensures { λ _. ⌜ WritesOnlyTree (treeOf (recordSettingsOf (level .settings) (now (counted .entry))) (now (text .entry))) (now (out .entry))
+        (now (out .exit)) ⌝ }
+    ensures { λ _. ⌜ AgreesOn (treeOf (recordSettingsOf (level .settings) (now (counted .entry))) (now (text .entry))) (now (out .exit))
+        headerLength (placeAt (recordSettingsOf (level .settings) (now (counted .entry))) (now (text .entry)) (level .number) (i .0 + 1)) ⌝ }
 {
     put_record(out, text, counted, level, i, block);
     if block.kind != 0 {

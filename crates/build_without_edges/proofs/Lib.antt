@@ -1,2 +1,2 @@
 pub mod WithoutEdgesLaws
-pub mod Demands
+pub mod Theorems

@@ -14,18 +14,18 @@ use Rattle.format.specs.Layout.{setWord, maxLevels, layoutAt, offsetAt, leafOff
 use Rattle.format.specs.WordLaws.{length-setWord}
 use Rattle.format.specs.LayoutLaws.{Readable, size-low}
 use Rattle.format.specs.Layout as at
-use Rattle.stretches.specs.Stretches.{bytesWritten}
+use Rattle.byte_slices.specs.ByteSlices.{bytesWritten}
 use Rattle.theory_built.specs.Gather.{concat-suc, length-concat}
 use Rattle.theory_without_edges.specs.WithoutEdges.{edgelessLayout, layout1RecordSize, layout1Offset, offsetsIn, layout1Header, recordCount}
 use Rattle.theory_without_edges.specs.WithoutEdges.{layout1Record, layout1Records, layout1LeafBytes, withoutEdges}
 use Rattle.theory_without_edges.specs.Layout1Sizes as sizes
 use Rattle.format.specs.SizeLaws.{record-plain}
-use Rattle.format.specs.TreeReading.{readable}
+use Rattle.format.specs.TreeReading.{headerResult}
 use Rattle.layout.specs.declared.header.Header.{Header}
-use Rattle.layout.specs.declared.header.HeaderRead.{HeaderRead}
-use Rattle.layout.specs.declared.header.HeaderRead.the-variants as read
-use Rattle.layout.specs.Header.{headerSays}
-use Rattle.layout.specs.HeaderSays.{HeaderOf, header-refused}
+use Rattle.layout.specs.declared.header.HeaderAnswer.{HeaderAnswer}
+use Rattle.layout.specs.declared.header.HeaderAnswer.the-variants as read
+use Rattle.layout.specs.Header.{headerAnswer}
+use Rattle.layout.specs.HeaderFields.{HeaderOf, header-refused}
 use borrow.Author.Tests.{le-leb, lt-leb, ne-eqb}
 use Rattle.build_without_edges.specs.WithoutEdgesAnswers.{withoutEdgesRefusal, withoutEdgesSize, withoutEdgesBuffer, withoutEdgesReply}
 use Rattle.build_without_edges.specs.declared.WithoutEdgesAnswer.{WithoutEdgesAnswer}
@@ -33,12 +33,12 @@ use Rattle.build_without_edges.specs.declared.WithoutEdgesAnswer.the-var
 use Rattle.build_without_edges.specs.WithoutEdgesState.{ReadableSizes, HeaderRoom, RecordRoom, WholeRoom}
 
 -- Copied bytes lie between the bytes before and after them, which are unchanged.
-copied : (d T : List ℕ) (to from n : ℕ) → to + n ≤ length d → from + n ≤ length T
+layout1-copied : (d T : List ℕ) (to from n : ℕ) → to + n ≤ length d → from + n ≤ length T
     → bytesWritten d to T from n ≡ take to d ++ stretch T from n ++ drop (to + n) d
 unfolding stretch
-copied d T to from zero a b = paste-zero d to (drop from T)
-copied d T to from (suc n) a b =
-    rw (copied d T to from n (omega arith) (omega arith), ← getD-drop from T n 0)
+layout1-copied d T to from zero a b = paste-zero d to (drop from T)
+layout1-copied d T to from (suc n) a b =
+    rw (layout1-copied d T to from n (omega arith) (omega arith), ← getD-drop from T n 0)
     (paste-suc d to (drop from T) n 0 (omega arith) (simp length-drop (omega arith)))
 
 -- The bytes after a written part.
@@ -50,7 +50,7 @@ pub copied-after : (P d T e : List ℕ) (to from n : ℕ) → length P ≡ to �
     → bytesWritten e to T from n ≡ P ++ stretch T from n ++ drop (to + n) d
 copied-after P d T e to from n is room held e-is =
     let size : length e ≡ length d = rw (e-is, length-append P, length-drop to d, is) (omega arith) in
-    copied e T to from n (rw size room) held
+    layout1-copied e T to from n (rw size room) held
     ∙ ap (λ (x : List ℕ). x ++ stretch T from n ++ drop (to + n) e) front ∙ ap (λ (x : List ℕ). P ++ stretch T from n ++ x) rest
   where
     front : take to e ≡ P
@@ -109,7 +109,7 @@ module _ (t : List ℕ) where
       let size : length a ≡ headerLength = length-take-le headerLength t long in
       let b : List ℕ = setWord a layoutAt edgelessLayout in
       let size-b : length b ≡ headerLength = length-setWord a layoutAt edgelessLayout ∙ size in
-      let e-now : e ≡ a ++ r = e-is ∙ copied d t 0 0 headerLength room long in
+      let e-now : e ≡ a ++ r = e-is ∙ layout1-copied d t 0 0 headerLength room long in
       let f-now : f ≡ b ++ r = f-is ∙ rw e-now (word-in-front a r layoutAt edgelessLayout (omega (arith, size))) in
       let g-now : g ≡ offsetsIn t levels b ++ r = g-is ∙ rw f-now (offsets-in-front levels b r few size-b) in
       h-is ∙ rw (g-now, leaf, ← lev)
@@ -276,14 +276,14 @@ module _ (t out : List ℕ) where
   unfolding withoutEdgesSize withoutEdgesBuffer
   refused-as n e = (sym e, (rw (e, ne-eqb (suc n) 0 (λ z. omega arith)), rw (e, ne-eqb (suc n) 0 (λ z. omega arith))))
 
-  pub unread : (x : HeaderRead) → x ≡ headerSays t → (q : ℕ) → x ≡ read.Refused q → AnswerIs (Refused q) out
+  pub unread : (x : HeaderAnswer) → x ≡ headerAnswer t → (q : ℕ) → x ≡ read.Refused q → AnswerIs (Refused q) out
   unfolding withoutEdgesRefusal
   unread x is q e =
       let z = header-refused t x is q e in
-      let n : withoutEdgesRefusal t out ≡ suc (z .0) = rw (ne-eqb (readable t) 0 (λ y. omega (arith, z .1))) (z .1) in
+      let n : withoutEdgesRefusal t out ≡ suc (z .0) = rw (ne-eqb (headerResult t) 0 (λ y. omega (arith, z .1))) (z .1) in
       rw (z .2) (refused-as (z .0) n)
 
-  module _ (passes : readable t ≡ 0) (size : ℕ) (is : size ≡ length (withoutEdges t)) where
+  module _ (passes : headerResult t ≡ 0) (size : ℕ) (is : size ≡ length (withoutEdges t)) where
     pub no-room : length out < size → AnswerIs (Refused 13) out
     unfolding withoutEdgesRefusal
     no-room short = refused-as 12 (rw (passes, lt-leb (length (withoutEdges t)) (length out) (rw is at short)))

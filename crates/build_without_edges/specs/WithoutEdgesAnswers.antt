@@ -5,7 +5,7 @@ use mathlib.Core.Bool.{cond}
 use Prim.Native.Nat.{ℕ}
 use lib.ListN.{length, drop}
 use lib.Dec.{leb, eqb}
-use Rattle.format.specs.TreeReading.{asks, orNext, readable}
+use Rattle.format.specs.TreeReading.{asks, orNext, headerResult}
 use Rattle.format.specs.Answers.{Reply, figures, refusal}
 use Rattle.theory_without_edges.specs.WithoutEdges.{withoutEdges}
 use Rattle.build_without_edges.specs.declared.WithoutEdgesAnswer.{WithoutEdgesAnswer}
@@ -14,7 +14,7 @@ use Rattle.build_without_edges.specs.declared.WithoutEdgesAnswer.the-var
 module _ (t out : List ℕ) where
   -- The refusal: questions 5 to 7, then 13.
   unfoldable pub withoutEdgesRefusal : ℕ
-  withoutEdgesRefusal = orNext (readable t) (asks ((13, leb (length (withoutEdges t)) (length out)) ∷ []))
+  withoutEdgesRefusal = orNext (headerResult t) (asks ((13, leb (length (withoutEdges t)) (length out)) ∷ []))
 
   -- The size of the written tree; 0 if refused.
   unfoldable pub withoutEdgesSize : ℕ

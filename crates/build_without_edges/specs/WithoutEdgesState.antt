@@ -7,7 +7,7 @@ use Rattle.format.specs.Layout.{headerLength}
 use Rattle.format.specs.LayoutLaws.{Readable}
 use Rattle.format.specs.Layout as at
 use Rattle.layout.specs.declared.header.Header.{Header}
-use Rattle.layout.specs.HeaderSays.{HeaderOf}
+use Rattle.layout.specs.HeaderFields.{HeaderOf}
 use Rattle.theory_without_edges.specs.WithoutEdges.{layout1RecordSize, layout1Offset, recordCount, withoutEdges}
 
 module _ (t : List ℕ) where

@@ -1,7 +1,7 @@
 // Writes a tree in layout 1, without its edges, into a buffer of the caller.
 use layout::header;
 use layout::header::Header;
-use layout::header::HeaderRead;
+use layout::header::HeaderAnswer;
 use layout::record;
 use layout::settings::Settings;
 use layout::word;
@@ -12,7 +12,7 @@ ghost use lib.ListN.{length, take, drop};
 ghost use Rattle.text.specs.Text.{tabulate, concat};
 ghost use Rattle.format.specs.Answers.{replied};
 ghost use Rattle.format.specs.Layout.{headerLength};
-ghost use Rattle.layout.specs.HeaderSays.{HeaderOf};
+ghost use Rattle.layout.specs.HeaderFields.{HeaderOf};
 ghost use Rattle.theory_without_edges.specs.WithoutEdges.{AllBytes, layout1RecordSize, offsetsIn, layout1Header, layout1Record, withoutEdges};
 ghost use Rattle.build_without_edges.specs.WithoutEdgesAnswers.{withoutEdgesRefusal, withoutEdgesSize, withoutEdgesBuffer, withoutEdgesReply};
 ghost use Rattle.build_without_edges.specs.WithoutEdgesState.{ReadableSizes, HeaderRoom, RecordRoom, WholeRoom};
@@ -35,8 +35,8 @@ pub fn without_edges(tree: &[u8], out: &mut [u8]) -> WithoutEdgesAnswer
 {
     let read = header::read_header(tree);
     match read {
-        HeaderRead::Good(h) => by_header(tree, h, out),
-        HeaderRead::Refused(number) => WithoutEdgesAnswer::Refused(number),
+        HeaderAnswer::Good(h) => by_header(tree, h, out),
+        HeaderAnswer::Refused(number) => WithoutEdgesAnswer::Refused(number),
     }
 }
 
@@ -75,7 +75,7 @@ fn write_all(tree: &[u8], h: Header, stride: u32, count: u32, out: &mut [u8])
     let leaves = FIRST_RECORD_AT + count * stride;
     put_header(tree, h.settings.levels, stride, leaves, out);
     put_records(tree, count, h.record_size, stride, out);
-    stretches::copy(
+    byte_slices::copy(
         out,
         leaves as usize,
         tree,
@@ -89,7 +89,7 @@ fn put_header(tree: &[u8], levels: u32, stride: u32, leaves: u32, out: &mut [u8]
     requires { ⌜ HeaderRoom (now tree) levels stride leaves (now out) ⌝ }
     ensures { λ _. ⌜ now (out .exit) ≡ layout1Header (now (tree .entry)) ++ drop headerLength (now (out .entry)) ⌝ }
 {
-    stretches::copy(out, 0, tree, 0, header::HEADER_LENGTH);
+    byte_slices::copy(out, 0, tree, 0, header::HEADER_LENGTH);
     word::write(out, header::LAYOUT_AT, Settings::PLAIN);
     put_offsets(tree, levels, stride, out);
     word::write(out, header::LEAF_OFFSET_AT, leaves);
@@ -119,7 +119,7 @@ fn put_records(tree: &[u8], count: u32, size: u32, stride: u32, out: &mut [u8])
     let to = stride as usize;
     let mut j: usize = 0;
     while j < count as usize {
-        stretches::copy(
+        byte_slices::copy(
             out,
             header::HEADER_LENGTH + j * to,
             tree,

@@ -34,7 +34,7 @@ fn of_tree(question: Question, tree: &[u8], line: &[u8]) {
 fn put(question: Question, tree: &[u8], beside: &[u8], number: u32) {
     match question {
         Question::Match => cases_replies::next_match(tree, beside, number),
-        Question::Prefix => cases_replies::next_row_with_prefix(tree, beside, number),
+        Question::Prefix => cases_replies::next_with_prefix(tree, beside, number),
         _ => places(tree, beside, number as usize),
     }
 }

@@ -31,9 +31,9 @@ neg-fits (pos zero) f = record { sfits = omega arith }
 neg-fits (pos (suc n)) f = record { sfits = rw (lt-ltb 0 (suc n) (omega arith)) (omega (arith, f .sfits)) }
 neg-fits (negsuc n) f = record { sfits = omega (arith, f .sfits) }
 
-below : (z : ℤ) → SFits w32 z → ltZ z (pos 0) ≡ true → Unsigned (pos 0 -ℤ z)
-below (pos n) f l = absurd (let x = ltb-true n 0 l in let y : ⊥ = omega arith in y)
-below (negsuc n) f l = (tt, record { fits = omega (arith, f .sfits) })
+reply-below : (z : ℤ) → SFits w32 z → ltZ z (pos 0) ≡ true → Unsigned (pos 0 -ℤ z)
+reply-below (pos n) f l = absurd (let x = ltb-true n 0 l in let y : ⊥ = omega arith in y)
+reply-below (negsuc n) f l = (tt, record { fits = omega (arith, f .sfits) })
 
 not-below : (z : ℤ) → SFits w32 z → ltZ z (pos 0) ≡ false → Unsigned z
 not-below (pos n) f l = (tt, record { fits = omega (arith, f .sfits) })
@@ -53,7 +53,7 @@ module _ (z : ℤ) (f : SFits w32 z) where
   pub magnitude : ltZ (back z) (pos 0) ≡ true → Unsigned (wide (pos 0 -ℤ wide (back z)))
   magnitude l =
       let e : pos 0 -ℤ z ≡ wide (pos 0 -ℤ wide (back z)) = sym (toZ-ofZ w64 _ negated ∙ ap (λ (y : ℤ). pos 0 -ℤ y) back-wide) in
-      subst Unsigned e (below z f (subst (λ (y : ℤ). ltZ y (pos 0) ≡ true) (toZ-ofZ w32 z f) l))
+      subst Unsigned e (reply-below z f (subst (λ (y : ℤ). ltZ y (pos 0) ≡ true) (toZ-ofZ w32 z f) l))
 
   pub itself : ltZ (back z) (pos 0) ≡ false → Unsigned (back z)
   itself l = subst Unsigned (sym (toZ-ofZ w32 z f)) (not-below z f (subst (λ (y : ℤ). ltZ y (pos 0) ≡ false) (toZ-ofZ w32 z f) l))

@@ -1,6 +1,6 @@
 // Answers to columns before rows.
 use crate::say;
-use query::Copied;
+use query::SpanAnswer;
 
 // A text rearranged by columns, and back: the number, and what the output holds.
 pub fn to_columns(text: &[u8], width: u32, out: &mut [u8]) {
@@ -17,7 +17,7 @@ pub fn from_columns(text: &[u8], width: u32, out: &mut [u8]) {
 pub fn row(tree: &[u8], width: u32, a: u32, buffer: &mut [u8]) {
     let answer = query::row_by_columns(tree, width, a, buffer);
     match answer {
-        Copied::Bytes(copied, _) => say::buffer(0, copied as u64, buffer),
-        Copied::Refused(number) => say::buffer(number, 0, buffer),
+        SpanAnswer::Bytes(copied, _) => say::buffer(0, copied as u64, buffer),
+        SpanAnswer::Refused(number) => say::buffer(number, 0, buffer),
     }
 }

@@ -1,15 +1,15 @@
 // The answers of a guide's calls.
 use crate::say;
 use layout::word;
-use query::Guided;
-use query::Size;
+use query::FindGuidedAnswer;
+use query::GuideWordsAnswer;
 
 // How many words the guide has, and the words of the table.
 pub fn make(tree: &[u8], table: &mut [u8]) {
     let answer = query::make_guide(tree, table);
     match answer {
-        Size::Words(n) => told(0, n, table),
-        Size::Refused(number) => told(number, 0, table),
+        GuideWordsAnswer::Words(n) => print_words(0, n, table),
+        GuideWordsAnswer::Refused(number) => print_words(number, 0, table),
     }
 }
 
@@ -21,8 +21,8 @@ pub fn check(tree: &[u8], guide: &[u8]) {
 pub fn find(tree: &[u8], guide: &[u8], byte: u8, j: u32) {
     let answer = query::find_guided(tree, guide, byte, j);
     match answer {
-        Guided::At(place, entered, steps) => four(0, place.0, entered, steps),
-        Guided::Refused(number) => four(number, 0, 0, 0),
+        FindGuidedAnswer::At(place, entered, steps) => four(0, place.0, entered, steps),
+        FindGuidedAnswer::Refused(number) => four(number, 0, 0, 0),
     }
 }
 
@@ -33,7 +33,7 @@ fn four(n: u32, a: u32, b: u32, c: u32) {
 }
 
 // A number, a figure, and the words of a table, `-` where it has none.
-fn told(n: u32, a: u64, table: &[u8]) {
+fn print_words(n: u32, a: u64, table: &[u8]) {
     say::number(n);
     say::figure(a);
     io::write_all(1, b" ");

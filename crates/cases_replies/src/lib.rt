@@ -8,17 +8,17 @@ pub mod order_replies;
 mod say;
 pub mod without_edges_replies;
 
-use query::Answer;
-use query::Copied;
-use query::Counted;
-use query::Found;
+use query::ByteAnswer;
+use query::CountAnswer;
+use query::FindAnswer;
 use query::NextRowAnswer;
-use query::PlacesWritten;
-use query::Ran;
-use query::RowCopied;
+use query::PlacesAnswer;
+use query::RowAnswer;
+use query::RunRangeAnswer;
+use query::SpanAnswer;
 use query::TextPlace;
-use tree::Built;
-use tree::Scanned;
+use tree::BuildAnswer;
+use tree::BuildScannedAnswer;
 
 // The settings of a tree to be built: m, r and H.
 pub struct Sizes {
@@ -31,8 +31,8 @@ pub struct Sizes {
 pub fn build(text: &[u8], by: Sizes, counted: &[u8], out: &mut [u8]) {
     let answer = tree::build(text, by.leaf, by.arity, by.levels, counted, out);
     match answer {
-        Built::Size(n) => say::buffer(0, n as u64, out),
-        Built::Refused(number) => say::buffer(number, 0, out),
+        BuildAnswer::Size(n) => say::buffer(0, n as u64, out),
+        BuildAnswer::Refused(number) => say::buffer(number, 0, out),
     }
 }
 
@@ -40,8 +40,13 @@ pub fn build(text: &[u8], by: Sizes, counted: &[u8], out: &mut [u8]) {
 pub fn scan(text: &[u8], by: Sizes, counted: &[u8], work: &mut [u32], out: &mut [u8]) {
     let answer = tree::build_scanned(text, by.leaf, by.arity, by.levels, counted, work, out);
     match answer {
-        Scanned::Size(n, windows) => say::two_and_buffer(0, n as u64, windows as u64, out),
-        Scanned::Refused(number) => say::two_and_buffer(number, 0, 0, out),
+        BuildScannedAnswer::Size(n, windows) => say::two_and_buffer(
+            0,
+            n as u64,
+            windows as u64,
+            out,
+        ),
+        BuildScannedAnswer::Refused(number) => say::two_and_buffer(number, 0, 0, out),
     }
 }
 
@@ -59,33 +64,33 @@ pub fn list(tree: &[u8]) {
 pub fn byte(tree: &[u8], at: u32) {
     let answer = query::byte(tree, TextPlace(at));
     match answer {
-        Answer::Byte(value, entered) => say::three(0, value as u64, entered as u64),
-        Answer::Refused(number) => say::three(number, 0, 0),
+        ByteAnswer::Byte(value, entered) => say::three(0, value as u64, entered as u64),
+        ByteAnswer::Refused(number) => say::three(number, 0, 0),
     }
 }
 
 // Where the run is in the tree's bytes, and its length.
 pub fn run(tree: &[u8], at: u32) {
-    let ran = query::run_part(tree, TextPlace(at));
+    let ran = query::run_range(tree, TextPlace(at));
     match ran {
-        Ran::At(part) => say::three(0, part.from as u64, part.length as u64),
-        Ran::Refused(number) => say::three(number, 0, 0),
+        RunRangeAnswer::At(part) => say::three(0, part.from as u64, part.length as u64),
+        RunRangeAnswer::Refused(number) => say::three(number, 0, 0),
     }
 }
 
 pub fn count(tree: &[u8], byte: u8, i: u32) {
     let answer = query::count(tree, byte, i);
     match answer {
-        Counted::Times(times, entered) => say::three(0, times, entered as u64),
-        Counted::Refused(number) => say::three(number, 0, 0),
+        CountAnswer::Times(times, entered) => say::three(0, times, entered as u64),
+        CountAnswer::Refused(number) => say::three(number, 0, 0),
     }
 }
 
 pub fn find(tree: &[u8], byte: u8, j: u32) {
     let answer = query::find(tree, byte, j);
     match answer {
-        Found::At(place, entered) => say::three(0, place.0 as u64, entered as u64),
-        Found::Refused(number) => say::three(number, 0, 0),
+        FindAnswer::At(place, entered) => say::three(0, place.0 as u64, entered as u64),
+        FindAnswer::Refused(number) => say::three(number, 0, 0),
     }
 }
 
@@ -93,16 +98,16 @@ pub fn find(tree: &[u8], byte: u8, j: u32) {
 pub fn span(tree: &[u8], at: u32, len: u32, buffer: &mut [u8]) {
     let answer = query::span(tree, TextPlace(at), len, buffer);
     match answer {
-        Copied::Bytes(_, entered) => say::buffer(0, entered as u64, buffer),
-        Copied::Refused(number) => say::buffer(number, 0, buffer),
+        SpanAnswer::Bytes(_, entered) => say::buffer(0, entered as u64, buffer),
+        SpanAnswer::Refused(number) => say::buffer(number, 0, buffer),
     }
 }
 
 pub fn row(tree: &[u8], q: u32, buffer: &mut [u8]) {
     let answer = query::row(tree, q, buffer);
     match answer {
-        RowCopied::Bytes(copied) => say::buffer(0, copied as u64, buffer),
-        RowCopied::Refused(number) => say::buffer(number, 0, buffer),
+        RowAnswer::Bytes(copied) => say::buffer(0, copied as u64, buffer),
+        RowAnswer::Refused(number) => say::buffer(number, 0, buffer),
     }
 }
 
@@ -110,14 +115,14 @@ pub fn row(tree: &[u8], q: u32, buffer: &mut [u8]) {
 pub fn places(tree: &[u8], pattern: &[u8], table: &mut [u32]) {
     let answer = query::places(tree, pattern, table);
     match answer {
-        PlacesWritten::Number(n) => say::table(0, n as u64, table),
-        PlacesWritten::Refused(number) => say::table(number, 0, table),
+        PlacesAnswer::Number(n) => say::table(0, n as u64, table),
+        PlacesAnswer::Refused(number) => say::table(number, 0, table),
     }
 }
 
-// The next match, 0 for none, and the mark as `show` leaves it.
+// The next match, 0 for none, and the mark as `advance_mark` leaves it.
 pub fn next_match(tree: &[u8], ranges: &[u8], mark: u32) {
-    let moved = ask_worn_keys::advance(tree, ranges, mark);
+    let moved = query_key_match::advance(tree, ranges, mark);
     let answer = moved.answer;
     let row = moved.row as u64;
     match answer {
@@ -127,8 +132,8 @@ pub fn next_match(tree: &[u8], ranges: &[u8], mark: u32) {
     }
 }
 
-pub fn next_row_with_prefix(tree: &[u8], prefix: &[u8], mark: u32) {
-    next_row(query::next_row_with_prefix(tree, prefix, mark), mark);
+pub fn next_with_prefix(tree: &[u8], prefix: &[u8], mark: u32) {
+    next_row(query::next_with_prefix(tree, prefix, mark), mark);
 }
 
 // The next row, 0 for none, and the mark afterwards.

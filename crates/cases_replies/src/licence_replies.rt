@@ -1,15 +1,15 @@
 // The answers on the term of a licence.
 use crate::say;
-use term::Left;
-use term::Opened;
+use licence::DaysLeftAnswer;
+use licence::OpenOnAnswer;
 
 // 1 for open, else 0.
 pub fn open_on(first: &[u8], last: &[u8], today: &[u8]) {
-    let answer = term::open_on(first, last, today);
+    let answer = licence::open_on(first, last, today);
     match answer {
-        Opened::Open => two(0, 1),
-        Opened::Closed => two(0, 0),
-        Opened::Refused(number) => two(number, 0),
+        OpenOnAnswer::Open => two(0, 1),
+        OpenOnAnswer::Closed => two(0, 0),
+        OpenOnAnswer::Refused(number) => two(number, 0),
     }
 }
 
@@ -21,10 +21,10 @@ fn two(number: u32, figure: u64) {
 
 // The days left, with `-` before a number below zero.
 pub fn days_left(last: &[u8], today: &[u8]) {
-    let answer = term::days_left(last, today);
+    let answer = licence::days_left(last, today);
     match answer {
-        Left::Days(days) => signed(days),
-        Left::Refused(number) => two(number, 0),
+        DaysLeftAnswer::Days(days) => signed(days),
+        DaysLeftAnswer::Refused(number) => two(number, 0),
     }
 }
 
@@ -40,7 +40,7 @@ fn signed(days: i32) {
 
 // The day afterwards, `-` where it is refused.
 pub fn renew(day: &mut [u8]) {
-    let number = term::renew(day);
+    let number = licence::renew(day);
     say::number(number);
     if number == 0 {
         say::held(day);

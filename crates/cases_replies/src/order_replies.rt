@@ -36,7 +36,7 @@ fn which(first: &[u8], one: &[u8]) -> u32 {
     if first.len() == 0 {
         return 0;
     }
-    if stretches::same(first, one) {
+    if byte_slices::equal(first, one) {
         return 1;
     }
     2

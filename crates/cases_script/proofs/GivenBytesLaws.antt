@@ -20,7 +20,7 @@ use Rattle.cases_tokens.specs.declared.hexadecimal.Fault.{Fault}
 use Rattle.cases_tokens.specs.declared.hexadecimal.Fault.the-variants as fault
 use Rattle.cases_tokens.specs.declared.hexadecimal.Made.{Made}
 use Rattle.cases_tokens.specs.declared.hexadecimal.Made.the-variants.{Bytes, Wrong}
-use Rattle.cases_script.specs.GivenBytes.{Given, Gives, firstOf, hexGiven, figureOf, repeated, timesOver, repeatGiven, plainBy, plainGiven, padTo}
+use Rattle.cases_script.specs.GivenBytes.{Given, Gives, scriptFirstOf, hexGiven, figureOf, repeated, timesOver, repeatGiven, plainBy, plainGiven, padTo}
 use Rattle.cases_script.specs.GivenBytes.{padGiven, makeBy, makeGiven, namedGiven}
 use Rattle.cases_script.specs.LineWords.{giftOf}
 use Rattle.cases_script.specs.declared.line_words.Gift.{Gift}
@@ -52,14 +52,14 @@ again-all entry out k i h a =
     ext-getD 0 out (tabulate (length entry) (λ j. getD entry (j % k) 0)) (a .long ∙ sym (length-tabulate (length entry) (λ j. getD entry (j % k) 0)))
     (λ j l. a .are j (omega arith) ∙ sym (getD-tabulate (length entry) (λ x. getD entry (x % k) 0) j 0 (omega (arith, a .long))))
 
-empty : (l : List ℕ) → length l ≡ 0 → l ≡ []
-empty [] e = refl
-empty (x ∷ l) e = absurd (let z : suc (length l) ≡ 0 = e in omega arith)
+script-empty : (l : List ℕ) → length l ≡ 0 → l ≡ []
+script-empty [] e = refl
+script-empty (x ∷ l) e = absurd (let z : suc (length l) ≡ 0 = e in omega arith)
 
 -- The bytes of a word in hexadecimal.
 
 -- A buffer that starts with the first n bytes of b.
-first-gives : (x : Made) (b buffer : List ℕ) → madeSize x ≤ length b → take (madeSize x) buffer ≡ take (madeSize x) b → Gives buffer x (firstOf x b)
+first-gives : (x : Made) (b buffer : List ℕ) → madeSize x ≤ length b → take (madeSize x) buffer ≡ take (madeSize x) b → Gives buffer x (scriptFirstOf x b)
 first-gives (Bytes n) b buffer h e = record { answer = ap (λ (k : ℕ). Bytes k) (sym (length-take-le n b h)); put = e }
 first-gives (Wrong f) b buffer h e = record { answer = refl; put = e }
 
@@ -118,7 +118,7 @@ module _ (entry : List ℕ) (k times : ℕ) (inside : k ≤ length entry) where
   over-none z =
       let none : k * times ≡ 0 = rw z (zero-mul times) in
       bytes-give entry (repeated (take k entry) times)
-      0 _ (over-fits (omega (arith, none))) (over-length ∙ none) (sym (empty (repeated (take k entry) times) (over-length ∙ none)))
+      0 _ (over-fits (omega (arith, none))) (over-length ∙ none) (sym (script-empty (repeated (take k entry) times) (over-length ∙ none)))
 
   pub over-long : 0 < k → length entry / k < times → Gives entry (Wrong fault.Room) (timesOver (bytes (take k entry)) times (length entry))
   over-long p h =

@@ -11,13 +11,13 @@ use Rattle.text.specs.ListLaws.{bool-clash, eq-sameList, ne-sameList}
 use Rattle.cases_tokens.specs.Parts.{tokenOf}
 use Rattle.cases_script.specs.LineWords.{wordFrom, wordNumber, isComment}
 
-same-told : (w x : List ℕ) (b : Bool) → (b ≡ true → w ≡ x) × (w ≡ x → b ≡ true) → sameList w x ≡ b
-same-told w x true h = eq-sameList w x (h .0 refl)
-same-told w x false h = ne-sameList w x (λ e. bool-clash false (h .1 e) refl)
+same-answered : (w x : List ℕ) (b : Bool) → (b ≡ true → w ≡ x) × (w ≡ x → b ≡ true) → sameList w x ≡ b
+same-answered w x true h = eq-sameList w x (h .0 refl)
+same-answered w x false h = ne-sameList w x (λ e. bool-clash false (h .1 e) refl)
 
 -- b decides whether w, which is t, is the word x; and b is v.
-pub told : {w t x : List ℕ} {b v : Bool} → w ≡ t → (b ≡ true → w ≡ x) × (w ≡ x → b ≡ true) → b ≡ v → sameList t x ≡ v
-told {w} {t} {x} {b} e h z = rw e at (same-told w x b h) ∙ z
+pub word-matches : {w t x : List ℕ} {b v : Bool} → w ≡ t → (b ≡ true → w ≡ x) × (w ≡ x → b ≡ true) → b ≡ v → sameList t x ≡ v
+word-matches {w} {t} {x} {b} e h z = rw e at (same-answered w x b h) ∙ z
 
 -- The words from k on have the same answer as all.
 pub record WordsLeft (words word : List ℕ) (n k : ℕ) : Type 0 where
@@ -34,7 +34,7 @@ module _ (words word : List ℕ) (n k : ℕ) (l : WordsLeft words word n k) (mor
   unfolding wordFrom
   open-words z =
       let s : n - k ≡ suc (n - (k + 1)) = omega arith in
-      rw (← z, ← same-told word w b h, e) (rw s at (l .same))
+      rw (← z, ← same-answered word w b h, e) (rw s at (l .same))
 
   pub word-found : b ≡ true → k ≡ wordNumber words n word
   word-found z = open-words z

@@ -8,7 +8,7 @@ use lib.ListN.{length, drop, drop-of-length-le}
 use Rattle.bytes.specs.Bytes.{indexOf}
 use Rattle.cases_tokens.specs.Parts.{front, rest, tokenOf, Past}
 use Rattle.cases_script.specs.NameLine.{givesBytes, givesName, givingFrom, givingLine}
-use Rattle.cases_script.proofs.LineWordsLaws.{told}
+use Rattle.cases_script.proofs.LineWordsLaws.{word-matches}
 
 module _ (line l name w : List ℕ) (b : Bool) (e : l ≡ line) (t : w ≡ tokenOf l 1) (h : (b ≡ true → w ≡ name) × (w ≡ name → b ≡ true)) where
   is-token : w ≡ tokenOf line 1
@@ -16,11 +16,11 @@ module _ (line l name w : List ℕ) (b : Bool) (e : l ≡ line) (t : w ≡ token
 
   pub gives-other : b ≡ false → false ≡ givesName line name
   unfolding givesName
-  gives-other z = simp (told is-token h z)
+  gives-other z = simp (word-matches is-token h z)
 
   pub gives-same : (r : Bool) → b ≡ true → r ≡ givesBytes l → r ≡ givesName line name
   unfolding givesName
-  gives-same r z q = simp (told is-token h z) (rw e at q)
+  gives-same r z q = simp (word-matches is-token h z) (rw e at q)
 
 -- The lines from `at` on, read in this many steps, have the same answer as all lines.
 pub record Left (s name : List ℕ) (at : ℕ) : Type 0 where

@@ -36,13 +36,13 @@ pub record Gives (buffer : List ℕ) (r : Made) (g : Given) : Type 0 where
   pub answer : r ≡ madeOf g
   pub put : take (madeSize r) buffer ≡ bytesOf g
 
-abbrev pub firstOf : Made → List ℕ → Given
-firstOf (Bytes n) b = bytes (take n b)
-firstOf (Wrong f) b = none f
+abbrev pub scriptFirstOf : Made → List ℕ → Given
+scriptFirstOf (Bytes n) b = bytes (take n b)
+scriptFirstOf (Wrong f) b = none f
 
 -- Bytes in hexadecimal, for a buffer of `room` bytes.
 unfoldable pub hexGiven : List ℕ → ℕ → Given
-hexGiven word room = firstOf (hexOf word room) (hexBytes word)
+hexGiven word room = scriptFirstOf (hexOf word room) (hexBytes word)
 
 -- The number that token k of a line represents.
 unfoldable pub figureOf : List ℕ → ℕ → ℕ

@@ -10,7 +10,7 @@ use lib.Seq.{drop-cons}
 use Rattle.text.specs.Text.{allBelow}
 use Rattle.text.specs.ListLaws.{allBelow-not, and-both}
 use Rattle.cases_tokens.specs.Parts.{tokenOf}
-use Rattle.cases_tokens.specs.Decimals.{moreOf, then, numberFrom, numberOf, said, isNumber, figuresRight}
+use Rattle.cases_tokens.specs.Decimals.{moreOf, then, numberFrom, numberOf, holdsNumber, isNumber, figuresRight}
 use Rattle.cases_tokens.specs.declared.decimal.Number.{Number}
 use Rattle.cases_tokens.specs.declared.decimal.Number.the-variants.{Is, Nothing}
 
@@ -46,9 +46,9 @@ number-ends w i v h = rw (drop-of-length-le w h)
 pub read-as {ℓ} : {A : Type ℓ} (f : Number → A) (x y : Number) (w t : List ℕ) → x ≡ numberOf w → w ≡ t → x ≡ y → f y ≡ f (numberOf t)
 read-as f x y w t a b e = ap f (sym e ∙ a ∙ ap (λ (l : List ℕ). numberOf l) b)
 
-pub is-number : (line w : List ℕ) (k : ℕ) (x y : Number) → x ≡ numberOf w → w ≡ tokenOf line k → x ≡ y → said y ≡ isNumber line k
+pub is-number : (line w : List ℕ) (k : ℕ) (x y : Number) → x ≡ numberOf w → w ≡ tokenOf line k → x ≡ y → holdsNumber y ≡ isNumber line k
 unfolding isNumber
-is-number line w k x y a b e = read-as said x y w (tokenOf line k) a b e
+is-number line w k x y a b e = read-as holdsNumber x y w (tokenOf line k) a b e
 
 -- The tokens from `from` up to k are numbers.
 pub record Numbers (line : List ℕ) (from k : ℕ) : Type 0 where

@@ -12,52 +12,52 @@ use lib.Dec.{ltb, leb, eqb}
 use borrow.Author.Tests.{lt-ltb, le-ltb, le-leb, lt-leb, leb-true, ltb-false, eq-eqb, ne-eqb}
 use Rattle.text.specs.Text.{allBelow, sameList}
 use Rattle.text.specs.ListLaws.{bool-clash, allBelow-at, allBelow-not, and-both, eq-sameList, ne-sameList, length-tabulate, getD-tabulate}
-use Rattle.cases_tokens.specs.Hexadecimals.{digitOf, byteOf, byteAt, allHex, hexBytes, hexOf, madeSize}
+use Rattle.cases_tokens.specs.Hexadecimals.{digitOf, byteOf, tokenByteAt, allHex, hexBytes, hexOf, madeSize}
 use Rattle.cases_tokens.specs.declared.hexadecimal.Fault.the-variants as Fault
 use Rattle.cases_tokens.specs.declared.hexadecimal.Made.the-variants as Made
 use Rattle.cases_tokens.specs.declared.hexadecimal.Made as made
 
 module _ (word : List ℕ) (i high low : ℕ) (h : high ≡ digitOf (getD word (2 * i) 0)) (l : low ≡ digitOf (getD word (2 * i + 1) 0)) where
-  pub byte-none : 15 < low → 256 ≡ byteAt word i
-  unfolding byteAt byteOf
+  pub byte-none : 15 < low → 256 ≡ tokenByteAt word i
+  unfolding tokenByteAt byteOf
   byte-none z = simp (lt-ltb 15 (digitOf (getD word (2 * i + 1) 0)) (rw l at z))
 
-  pub byte-some : low ≤ 15 → 16 * high + low ≡ byteAt word i
-  unfolding byteAt byteOf
+  pub byte-some : low ≤ 15 → 16 * high + low ≡ tokenByteAt word i
+  unfolding tokenByteAt byteOf
   byte-some z = simp (le-ltb 15 (digitOf (getD word (2 * i + 1) 0)) (rw l at z)) (rw (h, l))
 
 -- The first i bytes are bytes.
 pub record Bytes (word : List ℕ) (i : ℕ) : Type 0 where
-  pub are : allBelow i (λ k. leb (byteAt word k) 255) ≡ true
+  pub are : allBelow i (λ k. leb (tokenByteAt word k) 255) ≡ true
 
 pub bytes-none : (word : List ℕ) → Bytes word 0
 unfolding allBelow
 bytes-none word = record { are = refl }
 
-pub bytes-more : (word : List ℕ) (i b : ℕ) → Bytes word i → b ≡ byteAt word i → b ≤ 255 → Bytes word (i + 1)
+pub token-bytes-more : (word : List ℕ) (i b : ℕ) → Bytes word i → b ≡ tokenByteAt word i → b ≤ 255 → Bytes word (i + 1)
 unfolding allBelow
-bytes-more word i b h e z = record { are = rw add-one (and-both (h .are) (le-leb (byteAt word i) 255 (rw e at z))) }
+token-bytes-more word i b h e z = record { are = rw add-one (and-both (h .are) (le-leb (tokenByteAt word i) 255 (rw e at z))) }
 
 pub bytes-all : (word : List ℕ) (i : ℕ) → Bytes word i → i ≡ length word / 2 → true ≡ allHex word
 unfolding allHex
 bytes-all word i h e = sym (rw e at (h .are))
 
-pub bytes-not : (word : List ℕ) (i b : ℕ) → i < length word / 2 → b ≡ byteAt word i → 255 < b → false ≡ allHex word
+pub bytes-not : (word : List ℕ) (i b : ℕ) → i < length word / 2 → b ≡ tokenByteAt word i → 255 < b → false ≡ allHex word
 unfolding allHex
-bytes-not word i b h e z = sym (allBelow-not (length word / 2) _ i h (lt-leb (byteAt word i) 255 (rw e at z)))
+bytes-not word i b h e z = sym (allBelow-not (length word / 2) _ i h (lt-leb (tokenByteAt word i) 255 (rw e at z)))
 
-module _ (word : List ℕ) (i b : ℕ) (h : i < length word / 2) (e : b ≡ byteAt word i) where
+module _ (word : List ℕ) (i b : ℕ) (h : i < length word / 2) (e : b ≡ tokenByteAt word i) where
   pub byte-fits : allHex word ≡ true → b ≤ 255
   unfolding allHex
-  byte-fits all = rw e (leb-true (byteAt word i) 255 (allBelow-at (length word / 2) (λ k. leb (byteAt word k) 255) all i h))
+  byte-fits all = rw e (leb-true (tokenByteAt word i) 255 (allBelow-at (length word / 2) (λ k. leb (tokenByteAt word k) 255) all i h))
 
   is-byte : b ≡ getD (hexBytes word) i 0
   unfolding hexBytes
-  is-byte = e ∙ sym (getD-tabulate (length word / 2) (byteAt word) i 0 h)
+  is-byte = e ∙ sym (getD-tabulate (length word / 2) (tokenByteAt word) i 0 h)
 
   within : i < length (hexBytes word)
   unfolding hexBytes
-  within = rw (length-tabulate (length word / 2) (byteAt word)) h
+  within = rw (length-tabulate (length word / 2) (tokenByteAt word)) h
 
   pub put-more : (d o : List ℕ) → o ≡ paste d 0 (hexBytes word) i → i < length d → set o i b ≡ paste d 0 (hexBytes word) (i + 1)
   put-more d o q z =
@@ -101,27 +101,27 @@ module _ (word : List ℕ) (room : ℕ) (b : Bool) (f : b ≡ false) (h : word �
 
 -- A word gives no more bytes than the buffer has, and no more than it represents.
 
-sizes : (a b c d e : Bool) (n m : ℕ) → (e ≡ false → n ≤ m)
+token-sizes : (a b c d e : Bool) (n m : ℕ) → (e ≡ false → n ≤ m)
     → madeSize (cond a (Made.Bytes 0) (cond b
     (cond c (Made.Wrong Fault.Hex) (cond d (cond e (Made.Wrong Fault.Room) (Made.Bytes n)) (Made.Wrong Fault.Hex))) (Made.Wrong Fault.Hex))) ≤ m
-sizes true b c d e n m h = omega arith
-sizes false false c d e n m h = omega arith
-sizes false true true d e n m h = omega arith
-sizes false true false false e n m h = omega arith
-sizes false true false true true n m h = omega arith
-sizes false true false true false n m h = h refl
+token-sizes true b c d e n m h = omega arith
+token-sizes false false c d e n m h = omega arith
+token-sizes false true true d e n m h = omega arith
+token-sizes false true false false e n m h = omega arith
+token-sizes false true false true true n m h = omega arith
+token-sizes false true false true false n m h = h refl
 
 module _ (word : List ℕ) (room : ℕ) where
   pub hex-within : madeSize (hexOf word room) ≤ room
   unfolding hexOf
-  hex-within = sizes (sameList word dash) (eqb (length word % 2) 0)
+  hex-within = token-sizes (sameList word dash) (eqb (length word % 2) 0)
       (eqb (length word) 0) (allHex word) (ltb room (length word / 2)) (length word / 2) room (ltb-false room (length word / 2))
 
   pub hex-all : madeSize (hexOf word room) ≤ length (hexBytes word)
   unfolding hexOf hexBytes
   hex-all =
-      rw (length-tabulate (length word / 2) (byteAt word))
-      (sizes (sameList word dash) (eqb (length word % 2) 0)
+      rw (length-tabulate (length word / 2) (tokenByteAt word))
+      (token-sizes (sameList word dash) (eqb (length word % 2) 0)
       (eqb (length word) 0) (allHex word) (ltb room (length word / 2)) (length word / 2) (length word / 2) (λ _. omega arith))
 
   pub hex-inside : (r : made.Made) (n : ℕ) → r ≡ hexOf word room → r ≡ Made.Bytes n → n ≤ room

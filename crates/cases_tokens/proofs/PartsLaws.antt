@@ -12,14 +12,14 @@ use borrow.Author.Tests.{eqb-true, eqb-false, eq-eqb, ne-eqb}
 use Rattle.bytes.specs.Bytes.{indexOf, slice}
 use Rattle.cases_tokens.specs.Parts.{front, rest, after, tokenOf, Past, Start}
 
-whole : (s : List ℕ) (at : ℕ) → slice at (length s) s ≡ drop at s
+token-whole : (s : List ℕ) (at : ℕ) → slice at (length s) s ≡ drop at s
 unfolding slice
-whole s at = ap (λ (l : List ℕ). drop at l) (take-length s)
+token-whole s at = ap (λ (l : List ℕ). drop at l) (take-length s)
 
 -- e is where `stop` was found from `at` on
 module _ (s : List ℕ) (at stop e : ℕ) (found : e ≡ at + indexOf stop (slice at (length s) s)) where
   place : e ≡ at + indexOf stop (drop at s)
-  place = found ∙ ap (λ (l : List ℕ). at + indexOf stop l) (whole s at)
+  place = found ∙ ap (λ (l : List ℕ). at + indexOf stop l) (token-whole s at)
 
   pub until-is : take (e - at) (drop at s) ≡ front stop (drop at s)
   unfolding front

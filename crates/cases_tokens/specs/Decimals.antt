@@ -35,13 +35,13 @@ abbrev pub valueOf : Number → ℕ
 valueOf (Is v) = v
 valueOf Nothing = 0
 
-abbrev pub said : Number → Bool
-said (Is v) = true
-said Nothing = false
+abbrev pub holdsNumber : Number → Bool
+holdsNumber (Is v) = true
+holdsNumber Nothing = false
 
 -- token k of a line is a number
 unfoldable pub isNumber : List ℕ → ℕ → Bool
-isNumber line k = said (numberOf (tokenOf line k))
+isNumber line k = holdsNumber (numberOf (tokenOf line k))
 
 -- The tokens from `from` up to, not including, `to` are numbers.
 unfoldable pub figuresRight : List ℕ → ℕ → ℕ → Bool

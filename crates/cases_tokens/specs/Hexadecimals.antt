@@ -18,16 +18,16 @@ unfoldable pub byteOf : ℕ → ℕ → ℕ
 byteOf high low = cond (ltb 15 (digitOf low)) 256 (16 * digitOf high + digitOf low)
 
 -- The byte that digits 2 i and 2 i + 1 of a word say.
-unfoldable pub byteAt : List ℕ → ℕ → ℕ
-byteAt word i = byteOf (getD word (2 * i) 0) (getD word (2 * i + 1) 0)
+unfoldable pub tokenByteAt : List ℕ → ℕ → ℕ
+tokenByteAt word i = byteOf (getD word (2 * i) 0) (getD word (2 * i + 1) 0)
 
 -- Each two digits say a byte.
 unfoldable pub allHex : List ℕ → Bool
-allHex word = allBelow (length word / 2) (λ i. leb (byteAt word i) 255)
+allHex word = allBelow (length word / 2) (λ i. leb (tokenByteAt word i) 255)
 
 -- The bytes that they say.
 unfoldable pub hexBytes : List ℕ → List ℕ
-hexBytes word = tabulate (length word / 2) (byteAt word)
+hexBytes word = tabulate (length word / 2) (tokenByteAt word)
 
 -- The number of bytes that a word gives to a buffer of some size: none for `-`, else one for each two digits.
 unfoldable pub hexOf : List ℕ → ℕ → Made

@@ -4,7 +4,7 @@ ghost use mathlib.Core.Bool.{true};
 ghost use Prim.Native.Nat.{_+_, _*_, _/_, _≤_, _<_};
 ghost use lib.ListN.{length};
 ghost use lib.Seq.{paste};
-ghost use Rattle.cases_tokens.specs.Hexadecimals.{digitOf, byteAt, allHex, hexBytes, hexOf, madeSize};
+ghost use Rattle.cases_tokens.specs.Hexadecimals.{digitOf, tokenByteAt, allHex, hexBytes, hexOf, madeSize};
 
 // Why a line gives no bytes.
 pub enum Fault {
@@ -42,7 +42,7 @@ fn digit(b: u8) -> u32
 // The byte that digits 2 i and 2 i + 1 say, 256 or more where one is no digit.
 fn byte(word: &[u8], i: usize) -> u32
     requires { ⌜ 2 * i + 1 < length (now word) ⌝ }
-    ensures { λ r. ⌜ r ≡ byteAt (now (word .entry)) i ⌝ }
+    ensures { λ r. ⌜ r ≡ tokenByteAt (now (word .entry)) i ⌝ }
 {
     let high = digit(word[2 * i]);
     let low = digit(word[2 * i + 1]);

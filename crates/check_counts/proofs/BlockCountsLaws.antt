@@ -12,12 +12,12 @@ use Rattle.format.specs.LayoutLaws.{Readable, full-pos}
 use Rattle.theory_paths.specs.Links.{Linked, Pointing}
 use Rattle.theory_paths.specs.BlockStarts.{start-below, len-pos, child, target-full}
 use Rattle.theory_paths.specs.PlacesLand.{target}
-use Rattle.theory_counts.specs.CountsLocal.{upLength, beforeLocal, inLeaves, lastChild, handBlock, handPlace, upTo, keptInside, keptLocal, pointingSkip}
+use Rattle.theory_counts.specs.CountsLocal.{upLength, beforeLocal, inLeafBytes, lastChild, handBlock, handPlace, upTo, keptInside, keptLocal, pointingSkip}
 use Rattle.theory_counts.specs.CountsLocal.{pointingInside, pointingLocal, blockLocal}
-use Rattle.theory_counts.specs.Families.{neighbour}
-use Rattle.check_counts.specs.declared.prefix.Hand.{Hand}
+use Rattle.theory_counts.specs.SiblingCounts.{neighbour}
+use Rattle.check_counts.specs.declared.prefix.PrefixTarget.{PrefixTarget}
 use Rattle.check_counts.specs.CountsAsked.{InTable, InBlock, InKept, TrueBelow}
-use Rattle.check_counts.specs.Hand.{handOf}
+use Rattle.check_counts.specs.PrefixTargets.{targetOf}
 use Rattle.check_counts.proofs.CountsHeader as facts
 
 up-pos : (t : List ℕ) → Readable t → 0 < at.textLength t → (l : ℕ) → 0 < upLength t l
@@ -70,7 +70,7 @@ module _ (t : List ℕ) (size level i c : ℕ) (w : InTable t size level i c) wh
 
   -- A kept block's inside.
 
-  pub inside-last : (x r : ℕ) → x ≡ at.blockLengthAt t level i → level + 1 ≡ at.settings t .levels → r ≡ inLeaves t level i x c → r ≡ keptInside t level i c
+  pub inside-last : (x r : ℕ) → x ≡ at.blockLengthAt t level i → level + 1 ≡ at.settings t .levels → r ≡ inLeafBytes t level i x c → r ≡ keptInside t level i c
   unfolding keptInside lastLevel
   inside-last x r x-is last e = let z : level ≡ at.settings t .levels - 1 = omega arith in e ∙ rw (x-is, eq-eqb level (at.settings t .levels - 1) z)
 
@@ -138,9 +138,9 @@ module _ (t : List ℕ) (size level i c : ℕ) (w : InTable t size level i c) wh
       pub end-there : InBlock t size level i (x - 1) c
       end-there = record { table = w; place-in = omega (arith, length-pos x x-is) }
 
-      module _ (on : Hand) (on-is : on ≡ handOf t level i (x - 1) c) where
+      module _ (on : PrefixTarget) (on-is : on ≡ targetOf t level i (x - 1) c) where
         pub hand-there : InKept t size level (on .block .0) (on .place .0) c
-        unfolding handOf handBlock handPlace
+        unfolding targetOf handBlock handPlace
         hand-there =
             let q = target t k d level i (x - 1) (w .block-in) p (omega (arith, length-pos x x-is)) in
             rw (on-is, un) (record {
@@ -150,7 +150,7 @@ module _ (t : List ℕ) (size level i c : ℕ) (w : InTable t size level i c) wh
             })
 
         pub hand-is : (r : ℕ) → r ≡ upTo t (at.settings t .levels - 1 - level) level (on .block .0) (on .place .0) c → on .plus + r ≡ pointingInside t level i c
-        unfolding pointingInside lastLevel handOf
+        unfolding pointingInside lastLevel targetOf
         hand-is r e = rw (e, on-is, x-is)
 
   -- The whole block.

@@ -17,7 +17,7 @@ use Rattle.theory_counts.specs.CountsLocal.{upLength, blockLocal, levelLocal}
 use Rattle.theory_counts.specs.LevelTrue.{Level, counts-facts, counts-make}
 use Rattle.theory_counts.specs.CountsExact.{level-true, level-local}
 use Rattle.check_counts.specs.CountsAsked.{Linking, TrueBelow}
-use Rattle.check_counts.specs.Hand.{upFrom}
+use Rattle.check_counts.specs.PrefixTargets.{upFrom}
 use Rattle.check_counts.proofs.CountsHeader as facts
 
 module _ (t : List ℕ) (h : Header) (w : Linking t h) where

@@ -15,15 +15,15 @@ use Rattle.theory_paths.specs.BlockStarts.{len-small, child}
 use Rattle.theory_paths.specs.PlacesLand.{target-first, target-second}
 use Rattle.layout.specs.declared.place.BlockNumber.{BlockNumber}
 use Rattle.layout.specs.declared.place.BlockPlace.{BlockPlace}
-use Rattle.walk_steps.specs.declared.Part.{Part}
+use Rattle.walk_steps.specs.declared.DivRem.{DivRem}
 use Rattle.theory_counts.specs.LevelTrue.{tally, Level}
 use Rattle.theory_counts.specs.CountsExact.{up-to}
 use Rattle.theory_counts.specs.CountedStretches.{leaves-end, tally-le}
 use Rattle.theory_counts.specs.PointedCounts.{Handed, handed}
-use Rattle.theory_counts.specs.CountsLocal.{handBlock, handPlace, handPlus, handMinus, inLeaves, upTo}
-use Rattle.check_counts.specs.declared.prefix.Hand.{Hand}
+use Rattle.theory_counts.specs.CountsLocal.{handBlock, handPlace, handPlus, handMinus, inLeafBytes, upTo}
+use Rattle.check_counts.specs.declared.prefix.PrefixTarget.{PrefixTarget}
 use Rattle.check_counts.specs.CountsAsked.{Sound, InTable, InBlock, InKept}
-use Rattle.check_counts.specs.Hand.{handOf, stepOf}
+use Rattle.check_counts.specs.PrefixTargets.{targetOf, stepOf}
 use Rattle.check_counts.proofs.CountsHeader as facts
 
 -- Handing a place on.
@@ -36,8 +36,8 @@ module _ (t : List ℕ) (size level b c : ℕ) (block : BlockNumber) (place : Bl
   abbrev o : ℕ
   o = place .0
 
-  pub hand-kept : k ≡ 0 → record { block = block; place = place; plus = 0; minus = 0 } ≡ handOf t level i o c
-  unfolding handOf handBlock handPlace handPlus handMinus
+  pub hand-kept : k ≡ 0 → record { block = block; place = place; plus = 0; minus = 0 } ≡ targetOf t level i o c
+  unfolding targetOf handBlock handPlace handPlus handMinus
   hand-kept z = rw (facts.kept-of t level i k k-is z)
 
   module _ (ne : k ≡ 0 → ⊥) where
@@ -55,8 +55,8 @@ module _ (t : List ℕ) (size level b c : ℕ) (block : BlockNumber) (place : Bl
       pub target-there : InTable t size level j c
       target-there = record { tree = w .table .tree; level-in = w .table .level-in; block-in = rw j-is (p .target-below); number-in = w .table .number-in }
 
-      pub hand-first : g + o < b → record { block = record { 0 = j }; place = record { 0 = g + o }; plus = 0; minus = sk } ≡ handOf t level i o c
-      unfolding handOf handBlock handPlace handPlus handMinus
+      pub hand-first : g + o < b → record { block = record { 0 = j }; place = record { 0 = g + o }; plus = 0; minus = sk } ≡ targetOf t level i o c
+      unfolding targetOf handBlock handPlace handPlus handMinus
       hand-first small =
           let less : at.gap t level i + o < at.fullLength t level = omega arith in
           let e = target-first t level i o less in
@@ -66,8 +66,8 @@ module _ (t : List ℕ) (size level b c : ℕ) (block : BlockNumber) (place : Bl
       next-there large = rw j-is (p .next (omega (arith, w .place-in)) .below)
 
       pub hand-second : (x : ℕ) → x ≡ at.inside t level j c → b ≤ g + o
-          → record { block = record { 0 = j + 1 }; place = record { 0 = g + o - b }; plus = x; minus = sk } ≡ handOf t level i o c
-      unfolding handOf handBlock handPlace handPlus handMinus
+          → record { block = record { 0 = j + 1 }; place = record { 0 = g + o - b }; plus = x; minus = sk } ≡ targetOf t level i o c
+      unfolding targetOf handBlock handPlace handPlus handMinus
       hand-second x x-is large =
           let more : at.fullLength t level ≤ at.gap t level i + o = omega arith in
           let e = target-second t level i o more in
@@ -83,8 +83,8 @@ module _ (t : List ℕ) (size level i n c link : ℕ) (w : InTable t size level 
       omega (arith, leaves-end t k (facts.linked t size (w .tree)) level i last (w .block-in), k .size)
 
   pub leaves-are : (off : ℕ) → off ≡ at.leafOffset t
-      → (r : ℕ) → r ≡ countIn (getD t (countedAt + c) 0) (stretch t (off + link) n) → r ≡ inLeaves t level i n c
-  unfolding inLeaves
+      → (r : ℕ) → r ≡ countIn (getD t (countedAt + c) 0) (stretch t (off + link) n) → r ≡ inLeafBytes t level i n c
+  unfolding inLeafBytes
   leaves-are off off-is r e = e ∙ rw (facts.byte-is t c (w .number-in) (w .tree .facts .bounds .counted-high), off-is, link-is)
 
 -- A step to a child.
@@ -94,7 +94,7 @@ module _ (t : List ℕ) (size level b c i o : ℕ) (b-is : b ≡ at.fullLength t
   pub step-pos : 0 < b
   step-pos = rw b-is (full-pos t (w .block .table .tree .facts) (level + 1))
 
-  module _ (part : Part) (part-is : part ≡ record { blocks = o / b; place = record { 0 = o % b } }) where
+  module _ (part : DivRem) (part-is : part ≡ record { blocks = o / b; place = record { 0 = o % b } }) where
     pub child-there : InBlock t size (level + 1) (j + part .blocks) (part .place .0) c
     child-there =
         let tree = w .block .table .tree in
@@ -104,9 +104,10 @@ module _ (t : List ℕ) (size level b c i o : ℕ) (b-is : b ≡ at.fullLength t
           place-in = q .inside;
         })
 
-    pub step-is : (x : ℕ) (on : Hand) → x ≡ at.before t (level + 1) (j + part .blocks) c → on ≡ handOf t (level + 1) (j + part .blocks) (part .place .0) c
+    pub step-is : (x : ℕ) (on : PrefixTarget) → x ≡ at.before t (level + 1) (j + part .blocks) c → on
+        ≡ targetOf t (level + 1) (j + part .blocks) (part .place .0) c
         → record { block = on .block; place = on .place; plus = x + on .plus; minus = on .minus } ≡ stepOf t level i o c
-    unfolding stepOf handOf
+    unfolding stepOf targetOf
     step-is x on x-is e = rw (x-is, e, part-is, j-is, b-is)
 
 -- The walk.
@@ -136,7 +137,7 @@ module _ (t : List ℕ) (size level b c i o : ℕ) (b-is : b ≡ at.fullLength t
         facts.length-lt t size level i c (w .block .table),
       )
 
-  pub walk-last : level + 1 ≡ at.settings t .levels → (r : ℕ) → r ≡ inLeaves t level i (o + 1) c → r ≡ upTo t (at.settings t .levels - 1 - level) level i o c
+  pub walk-last : level + 1 ≡ at.settings t .levels → (r : ℕ) → r ≡ inLeafBytes t level i (o + 1) c → r ≡ upTo t (at.settings t .levels - 1 - level) level i o c
   unfolding upTo
   walk-last e r f = let z : at.settings t .levels - 1 - level ≡ 0 = omega (arith, e) in f ∙ rw z
 
@@ -158,7 +159,7 @@ module _ (t : List ℕ) (size level b c i o : ℕ) (b-is : b ≡ at.fullLength t
     below-true : (m : ℕ) → level + 1 < m → m < at.settings t .levels → Level t m
     below-true m lt hm = w .below m (omega arith) hm
 
-    module _ (on : Hand) (on-is : on ≡ stepOf t level i o c) where
+    module _ (on : PrefixTarget) (on-is : on ≡ stepOf t level i o c) where
       pub walk-next : InKept t size (level + 1) (on .block .0) (on .place .0) c
       unfolding stepOf
       walk-next = rw on-is (record {

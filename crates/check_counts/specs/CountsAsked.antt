@@ -8,7 +8,7 @@ use Rattle.format.specs.TreeReading.{linksOk}
 use Rattle.format.specs.LayoutLaws.{Readable}
 use Rattle.theory_counts.specs.LevelTrue.{Level}
 use Rattle.layout.specs.declared.header.Header.{Header}
-use Rattle.layout.specs.HeaderSays.{HeaderOf}
+use Rattle.layout.specs.HeaderFields.{HeaderOf}
 
 module _ (t : List ℕ) (h : Header) where
   -- The tree passes questions 5 to 8, and this is its header.

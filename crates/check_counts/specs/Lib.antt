@@ -1,2 +1,2 @@
 pub mod CountsAsked
-pub mod Hand
+pub mod PrefixTargets

@@ -2,8 +2,8 @@
 use crate::prefix;
 use layout::place::BlockNumber;
 use layout::place::BlockPlace;
-use layout::place::On;
-use layout::place::Spot;
+use layout::place::BlockPosition;
+use layout::place::LevelAt;
 use layout::record;
 use walk_steps::fields;
 ghost use mathlib.Core.Bool.{true, false};
@@ -72,11 +72,11 @@ fn pointing_skip(t: &[u8], size: u32, level: u32, b: u32, block: BlockNumber, c:
         return 0;
     }
     let link = record::link(t, size, level, block);
-    let there = Spot {
+    let there = BlockPosition {
         block: BlockNumber(link.0),
         place: BlockPlace(gap.0 - 1),
     };
-    prefix::up_to(t, size, On { level, b }, there, c)
+    prefix::up_to(t, size, LevelAt { level, b }, there, c)
 }
 
 // How often the byte occurs in the linked blocks up to the end of the occurrence.
@@ -86,15 +86,15 @@ fn pointing_inside(t: &[u8], size: u32, level: u32, b: u32, block: BlockNumber, 
     ensures { λ r. ⌜ (r ≡ pointingInside (now (t .entry)) level (block .0) c) ⌝ }
 {
     let length = walk_steps::block_length(t, size, level, b, block);
-    let end = Spot {
+    let end = BlockPosition {
         block,
         place: BlockPlace(length - 1),
     };
-    let hand = prefix::hand_on(t, size, On { level, b }, end, c);
+    let hand = prefix::prefix_target(t, size, LevelAt { level, b }, end, c);
     let next = hand.block;
     let place = hand.place;
-    let there = Spot { block: next, place };
-    let rest = prefix::up_to(t, size, On { level, b }, there, c);
+    let there = BlockPosition { block: next, place };
+    let rest = prefix::up_to(t, size, LevelAt { level, b }, there, c);
     hand.plus + rest
 }
 
@@ -115,7 +115,7 @@ fn pointing_right(t: &[u8], size: u32, level: u32, b: u32, block: BlockNumber, c
 }
 
 // The counts before, inside and skip of one counted byte in one block; the levels below have been checked.
-pub fn block_right(t: &[u8], size: u32, on: On, up: u32, block: BlockNumber, c: u32) -> bool
+pub fn block_right(t: &[u8], size: u32, on: LevelAt, up: u32, block: BlockNumber, c: u32) -> bool
     requires { ⌜ (on .b ≡ at.fullLength (now t) (on .level)) × (up ≡ upLength (now t) (on .level)) × InTable (now t) size (on .level) (block .0) c
         × TrueBelow (now t) (on .level) ⌝ }
     ensures { λ r. ⌜ r ≡ blockLocal (now (t .entry)) (on .level) (block .0) c ⌝ }

@@ -2,7 +2,7 @@
 use crate::block_counts;
 use layout::header::Header;
 use layout::place::BlockNumber;
-use layout::place::On;
+use layout::place::LevelAt;
 use layout::record;
 ghost use mathlib.Core.Path.{_≡_};
 ghost use Prim.Native.Nat.{_+_, _-_, _<_};
@@ -11,7 +11,7 @@ ghost use Rattle.format.specs.Layout as at;
 ghost use Rattle.theory_counts.specs.CountsLocal.{upLength, blockLocal, levelLocal};
 ghost use Rattle.layout.specs.SettingsLevel.{Sized};
 ghost use Rattle.check_counts.specs.CountsAsked.{Linking, TrueBelow};
-ghost use Rattle.check_counts.specs.Hand.{upFrom};
+ghost use Rattle.check_counts.specs.PrefixTargets.{upFrom};
 
 // The counts of all counted bytes in one block.
 fn block_counts_right(t: &[u8], h: Header, level: u32, b: u32, up: u32, block: BlockNumber) -> bool
@@ -22,7 +22,7 @@ fn block_counts_right(t: &[u8], h: Header, level: u32, b: u32, up: u32, block: B
     let k = h.settings.counted;
     let mut c: u32 = 0;
     while c < k {
-        if !block_counts::block_right(t, h.record_size, On { level, b }, up, block, c) {
+        if !block_counts::block_right(t, h.record_size, LevelAt { level, b }, up, block, c) {
             return false;
         }
         c += 1;

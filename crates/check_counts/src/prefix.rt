@@ -2,19 +2,19 @@
 use layout::header;
 use layout::place::BlockNumber;
 use layout::place::BlockPlace;
-use layout::place::On;
-use layout::place::Spot;
+use layout::place::BlockPosition;
+use layout::place::LevelAt;
 use layout::record;
 use walk_steps::fields;
 ghost use mathlib.Core.Path.{_≡_};
 ghost use Prim.Native.Nat.{_+_, _-_, _≤_, _<_};
 ghost use Rattle.format.specs.Layout as at;
-ghost use Rattle.theory_counts.specs.CountsLocal.{inLeaves, upTo};
+ghost use Rattle.theory_counts.specs.CountsLocal.{inLeafBytes, upTo};
 ghost use Rattle.check_counts.specs.CountsAsked.{InTable, InBlock, InKept};
-ghost use Rattle.check_counts.specs.Hand.{handOf, stepOf};
+ghost use Rattle.check_counts.specs.PrefixTargets.{targetOf, stepOf};
 
 // The kept block of a level that contains a place, and what is added and subtracted on the way to it.
-pub struct Hand {
+pub struct PrefixTarget {
     pub block: BlockNumber,
     pub place: BlockPlace,
     pub plus: u64,
@@ -24,25 +24,25 @@ pub struct Hand {
 // How often counted byte number c occurs in the first n leaf bytes of a block of the last level.
 pub fn in_leaves(t: &[u8], size: u32, level: u32, block: BlockNumber, n: u32, c: u32) -> u64
     requires { ⌜ (InTable (now t) size level (block .0) c) × (level + 1 ≡ at.settings (now t) .levels) × (n ≤ at.blockLengthAt (now t) level (block .0)) ⌝ }
-    ensures { λ r. ⌜ (r ≡ inLeaves (now (t .entry)) level (block .0) n c) × (r ≤ n) ⌝ }
+    ensures { λ r. ⌜ (r ≡ inLeafBytes (now (t .entry)) level (block .0) n c) × (r ≤ n) ⌝ }
 {
     let shape = fields::shape_of(t);
     let link = record::link(t, size, level, block);
     let from = shape.leaf_offset as usize + link.0 as usize;
     let byte = t[header::COUNTED_AT + c as usize];
-    stretches::count_in(t, from, n, byte) as u64
+    byte_slices::count_in(t, from, n, byte) as u64
 }
 
 // The kept block for a place: a kept block itself; for a pointing block its first target, or the second if the place is past the end of the first.
-pub fn hand_on(t: &[u8], size: u32, on: On, spot: Spot, c: u32) -> Hand
+pub fn prefix_target(t: &[u8], size: u32, on: LevelAt, spot: BlockPosition, c: u32) -> PrefixTarget
     requires { ⌜ (on .b ≡ at.fullLength (now t) (on .level)) × InBlock (now t) size (on .level) (spot .block .0) (spot .place .0) c ⌝ }
-    ensures { λ r. ⌜ (r ≡ handOf (now (t .entry)) (on .level) (spot .block .0) (spot .place .0) c) × (r .plus < 4294967296) ⌝ }
+    ensures { λ r. ⌜ (r ≡ targetOf (now (t .entry)) (on .level) (spot .block .0) (spot .place .0) c) × (r .plus < 4294967296) ⌝ }
 {
     let from = spot.block;
     let kind = record::kind(t, size, on.level, from);
     if kind == 0 {
         let place = spot.place;
-        return Hand {
+        return PrefixTarget {
             block: from,
             place,
             plus: 0,
@@ -54,14 +54,14 @@ pub fn hand_on(t: &[u8], size: u32, on: On, spot: Spot, c: u32) -> Hand
     let skip = record::skip(t, size, on.level, from, c) as u64;
     let at = gap.0 + spot.place.0;
     if at < on.b {
-        return Hand {
+        return PrefixTarget {
             block: BlockNumber(link.0),
             place: BlockPlace(at),
             plus: 0,
             minus: skip,
         };
     }
-    Hand {
+    PrefixTarget {
         block: BlockNumber(link.0 + 1),
         place: BlockPlace(at - on.b),
         plus: record::inside(t, size, on.level, BlockNumber(link.0), c) as u64,
@@ -70,28 +70,28 @@ pub fn hand_on(t: &[u8], size: u32, on: On, spot: Spot, c: u32) -> Hand
 }
 
 // From a kept block to the child that contains a place; b is the block length of the children.
-fn step(t: &[u8], size: u32, level: u32, b: u32, spot: Spot, c: u32) -> Hand
+fn step(t: &[u8], size: u32, level: u32, b: u32, spot: BlockPosition, c: u32) -> PrefixTarget
     requires { ⌜ (b ≡ at.fullLength (now t) (level + 1)) × (level + 1 < at.settings (now t) .levels)
         × InKept (now t) size level (spot .block .0) (spot .place .0) c ⌝ }
     ensures { λ r. ⌜ (r ≡ stepOf (now (t .entry)) level (spot .block .0) (spot .place .0) c) × (r .plus < 8589934592) ⌝ }
 {
     let link = record::link(t, size, level, spot.block);
-    let part = walk_steps::part_of(spot.place, b);
+    let part = walk_steps::div_rem(spot.place, b);
     let child = BlockNumber(link.0 + part.blocks);
     let before = record::before(t, size, level + 1, child, c);
-    let under = On {
+    let under = LevelAt {
         level: level + 1,
         b,
     };
     let rest = part.place;
-    let there = Spot {
+    let there = BlockPosition {
         block: child,
         place: rest,
     };
-    let hand = hand_on(t, size, under, there, c);
+    let hand = prefix_target(t, size, under, there, c);
     let block = hand.block;
     let place = hand.place;
-    Hand {
+    PrefixTarget {
         block,
         place,
         plus: before as u64 + hand.plus,
@@ -100,11 +100,11 @@ fn step(t: &[u8], size: u32, level: u32, b: u32, spot: Spot, c: u32) -> Hand
 }
 
 // How often counted byte number c occurs in a kept block up to a place, included. The number of levels left decreases.
-pub fn up_to(t: &[u8], size: u32, on: On, spot: Spot, c: u32) -> u64
+pub fn up_to(t: &[u8], size: u32, on: LevelAt, spot: BlockPosition, c: u32) -> u64
     requires { ⌜ (on .b ≡ at.fullLength (now t) (on .level)) × InKept (now t) size (on .level) (spot .block .0) (spot .place .0) c ⌝ }
     ensures { λ r. ⌜ r ≡ upTo (now (t .entry)) (at.settings (now (t .entry)) .levels - 1 - on .level) (on .level) (spot .block .0) (spot .place .0) c ⌝ }
 {
-    let tree = fields::whole(t);
+    let tree = fields::reborrow(t);
     let shape = fields::shape_of(tree);
     let down = on.level + 1;
     if down == shape.levels {
@@ -114,10 +114,10 @@ pub fn up_to(t: &[u8], size: u32, on: On, spot: Spot, c: u32) -> u64
     let hand = step(tree, size, on.level, below, spot, c);
     let block = hand.block;
     let place = hand.place;
-    let under = On {
+    let under = LevelAt {
         level: down,
         b: below,
     };
-    let rest = up_to(tree, size, under, Spot { block, place }, c);
+    let rest = up_to(tree, size, under, BlockPosition { block, place }, c);
     hand.plus + rest - hand.minus
 }

@@ -22,16 +22,16 @@ use Rattle.theory_paths.specs.PlacesLand.{kept-block}
 use Rattle.theory_edges.specs.SpanSteps.{last-step}
 use Rattle.theory_edges.specs.ChildEdges.{Full, full-facts, Part, part}
 use Rattle.theory_edges.specs.EdgesLocal.{edgeIs, ownBytes, walkedEdges, childEdges, hasFullChildren, edgesLocal, levelEdges, allEdges}
-use Rattle.theory_edges.specs.Demands.{edges-exact}
+use Rattle.theory_edges.specs.Theorems.{edges-exact}
 use Rattle.layout.specs.declared.header.Header.{Header}
-use Rattle.layout.specs.HeaderSays.{HeaderOf}
+use Rattle.layout.specs.HeaderFields.{HeaderOf}
 use Rattle.layout.specs.Record.{FieldIn, EdgesIn, field-in}
 use Rattle.walk_steps.proofs.StepLaws.{field-there}
 use Rattle.walk_short.specs.declared.gather.Parts.{Parts}
 use Rattle.walk_short.specs.declared.gather.Gathered.{Gathered}
 use Rattle.walk_short.specs.declared.gather.Gathered.the-variants.{At, Broken}
-use Rattle.walk_short.specs.Gathered.{gathered, Walking, Within}
-use Rattle.check_edges.specs.Truths.{Linking, Edged, Leafy, foundIs}
+use Rattle.walk_short.specs.Gathered.{gathered, Walking, InRange}
+use Rattle.check_edges.specs.EdgesMatch.{Linking, Edged, Leafy, foundIs}
 use Rattle.walk_short.proofs.WholeLaws.{within-tree}
 
 -- One edge.
@@ -116,14 +116,14 @@ module _ (t : List ℕ) (h : Header) (level b i : ℕ) (k : Edged t h level b i)
       r-right : r ≡ gathered 0 (shortFrom t (at.settings t .levels - 1 - level) level i o own)
       r-right = r-is ∙ rw (add-zero i)
 
-      pub within : Within t own r
+      pub within : InRange t own r
       within = within-tree t h header
           (k .two) own own-low (omega (arith, own-is)) (at.settings t .levels - 1 - level) level i o (omega (arith, k .on .level-in))
           (omega (arith, own-low, long-few, k .on .b-is)) r 0 r-right
 
-      edge-says : (a : ℕ) → foundIs
+      edge-answers : (a : ℕ) → foundIs
           t m a own r ≡ edgeIs t a (ownBytes t level i) (shortFrom t (at.settings t .levels - 1 - level) level i o (ownBytes t level i))
-      edge-says a = rw (r-right, own-right, header .leaf-is)
+      edge-answers a = rw (r-right, own-right, header .leaf-is)
           (found-edge t a (ownBytes t level i) 0 (shortFrom t (at.settings t .levels - 1 - level) level i o (ownBytes t level i)))
 
     room : e + (m + m) ≤ length t
@@ -132,16 +132,16 @@ module _ (t : List ℕ) (h : Header) (level b i : ℕ) (k : Edged t h level b i)
     few : (own ≤ m) × (m ≤ maxLeaf)
     few = (omega (arith, own-is), omega (arith, header .leaf-is, facts .bounds .leaf-high))
 
-    pub first-asks : (r : Gathered) → Within t own r → (e + m ≤ length t) × (own ≤ m) × (m ≤ maxLeaf) × Within t own r
+    pub first-asks : (r : Gathered) → InRange t own r → (e + m ≤ length t) × (own ≤ m) × (m ≤ maxLeaf) × InRange t own r
     first-asks r w = (omega (arith, room), few .0, few .1, w)
 
-    pub last-asks : (r : Gathered) → Within t own r → (e + m + m ≤ length t) × (own ≤ m) × (m ≤ maxLeaf) × Within t own r
+    pub last-asks : (r : Gathered) → InRange t own r → (e + m + m ≤ length t) × (own ≤ m) × (m ≤ maxLeaf) × InRange t own r
     last-asks r w = (omega (arith, room), few .0, few .1, w)
 
     module _ (r : Gathered) (r-is : r ≡ gathered 0 (shortFrom t (at.settings t .levels - 1 - level) level (i + 0) 0 own)) where
       pub first-fails-block : foundIs t m e own r ≡ false → false ≡ walkedEdges t level i
       unfolding walkedEdges
-      first-fails-block f = rw (sym (edge-says 0 front-in r r-is (at.edgesAt t level i)) ∙ rw e-is at f)
+      first-fails-block f = rw (sym (edge-answers 0 front-in r r-is (at.edgesAt t level i)) ∙ rw e-is at f)
 
       pub last-decides : foundIs t m e own r ≡ true
           → (u : Gathered) → u ≡ gathered 0 (shortFrom t (at.settings t .levels - 1 - level) level (i + 0) (long - own) own)
@@ -150,10 +150,10 @@ module _ (t : List ℕ) (h : Header) (level b i : ℕ) (k : Edged t h level b i)
       last-decides f u u-is y y-is =
           let one : edgeIs t (at.edgesAt t level i)
           (ownBytes t level i) (shortFrom t (at.settings t .levels - 1 - level) level i 0 (ownBytes t level i)) ≡ true =
-          sym (edge-says 0 front-in r r-is (at.edgesAt t level i)) ∙ rw e-is at f in
+          sym (edge-answers 0 front-in r r-is (at.edgesAt t level i)) ∙ rw e-is at f in
           let two : y ≡ edgeIs t (at.edgesAt t level i + at.settings t .leaf) (ownBytes t level i)
           (shortFrom t (at.settings t .levels - 1 - level) level i (at.blockLengthAt t level i - ownBytes t level i) (ownBytes t level i)) =
-          rw (e-is, header .leaf-is, long-is, own-right) at (y-is ∙ edge-says (long - own) back-in u u-is (e + m)) in
+          rw (e-is, header .leaf-is, long-is, own-right) at (y-is ∙ edge-answers (long - own) back-in u u-is (e + m)) in
           two ∙ rw one
 
 -- A block of the last level, whose bytes are leaf bytes.

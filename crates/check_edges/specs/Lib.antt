@@ -1,2 +1,2 @@
-pub mod Truths
+pub mod EdgesMatch
 pub mod Eights

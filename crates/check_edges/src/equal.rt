@@ -1,4 +1,4 @@
-// Compares edges eight bytes at a time. The builders use `stretches::same_at`, whose short loop is inlined into their own.
+// Compares edges eight bytes at a time. The builders use `byte_slices::equal_at`, whose short loop is inlined into their own.
 ghost use mathlib.Core.Path.{_≡_};
 ghost use Prim.Native.Nat.{_+_, _≤_, _<_};
 ghost use lib.ListN.{length};
@@ -38,5 +38,5 @@ pub fn equal_at(t: &[u8], p: usize, q: usize, n: usize) -> bool
         }
         i += 8;
     }
-    stretches::same_at(t, p + i, q + i, n - i)
+    byte_slices::equal_at(t, p + i, q + i, n - i)
 }

@@ -1,3 +1,3 @@
 // Question 9 for edges.
+pub mod edges_match;
 pub mod equal;
-pub mod truth;

@@ -25,7 +25,7 @@ pieces-one x = let e : x + (1 - 1) ≡ x = omega arith in rw e (div-one x)
 module _ (t : List ℕ) (v : Level) (k : LevelOf t v) where
   -- A field of a record of the level.
   pub there : (i f : ℕ) → i < v .count → f < plainWords → FieldIn t (v .size) (v .number) i f
-  there i f h g = field-in t (k .readable) (v .size) (v .number) i f (k .size-is) (k .level-in) (omega (arith, k .count-is)) (omega arith)
+  there i f h g = field-in t (k .header-read) (v .size) (v .number) i f (k .size-is) (k .level-in) (omega (arith, k .count-is)) (omega arith)
 
   -- Above the last level.
   module _ (n : v .number ≡ v .last → ⊥) where
@@ -45,16 +45,16 @@ module _ (t : List ℕ) (v : Level) (k : LevelOf t v) where
     above = let m : v .number ≢ v .last = n in omega (arith, k .last-is, k .level-in)
 
     pub child-there : (i : ℕ) → i < v .room → FieldIn t (v .size) (v .number + 1) i startField
-    child-there i h = field-in t (k .readable) (v .size) (v .number + 1) i startField (k .size-is) above (omega (arith, room-above)) (omega arith)
+    child-there i h = field-in t (k .header-read) (v .size) (v .number + 1) i startField (k .size-is) above (omega (arith, room-above)) (omega arith)
 
   -- The sizes that a block is cut by.
   pub full-high : v .full ≤ maxText
-  full-high = omega (arith, k .full-is, full-small t (k .readable) (v .number))
+  full-high = omega (arith, k .full-is, full-small t (k .header-read) (v .number))
 
   part-bounds : (b : Bool) → eqb (v .number) (lastLevel t) ≡ b → (0 < v .part) × (v .part ≤ maxText)
   unfolding partLength
   part-bounds true e = rw (k .part-is, e) (omega arith, omega arith)
-  part-bounds false e = rw (k .part-is, e) (full-pos t (k .readable) (v .number + 1), full-small t (k .readable) (v .number + 1))
+  part-bounds false e = rw (k .part-is, e) (full-pos t (k .header-read) (v .number + 1), full-small t (k .header-read) (v .number + 1))
 
   pub part-low : 0 < v .part
   part-low = part-bounds _ refl .0

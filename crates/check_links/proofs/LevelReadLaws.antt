@@ -10,7 +10,7 @@ use Rattle.format.specs.Layout.{maxLevels, headerLength}
 use Rattle.format.specs.Layout as at
 use Rattle.format.specs.TreeReading.{lastLevel}
 use Rattle.layout.specs.declared.header.Header.{Header}
-use Rattle.layout.specs.HeaderSays.{HeaderOf, full-is}
+use Rattle.layout.specs.HeaderFields.{HeaderOf, full-is}
 use Rattle.check_links.specs.LevelAsked.{partLength, roomBelow}
 
 module _ (t : List ℕ) (h : Header) (k : HeaderOf t h) where

@@ -12,7 +12,7 @@ use Rattle.format.specs.Layout as at
 use Rattle.format.specs.TreeReading.{widthAt, blockRight, countBelowRight, linksOk}
 use Rattle.layout.specs.declared.header.Header.{Header}
 use Rattle.check_links.specs.declared.level_read.Level.{Level}
-use Rattle.layout.specs.HeaderSays.{HeaderOf}
+use Rattle.layout.specs.HeaderFields.{HeaderOf}
 use Rattle.check_links.specs.LevelAsked.{LevelOf, roomBelow, startAsCut, levelRight}
 use Rattle.check_links.proofs.LevelReadLaws.{levels-is}
 

@@ -20,7 +20,7 @@ roomBelow t l = cond (eqb l (lastLevel t)) (at.leafCount t) (at.levelCount t (l 
 
 -- A level of a tree that passes questions 5 to 7.
 pub record LevelOf (t : List ℕ) (v : Level) : Type 0 where
-  pub readable : Readable t
+  pub header-read : Readable t
   pub level-in : v .number < at.settings t .levels
   pub size-is : v .size ≡ at.recordSize t
   pub length-is : v .length ≡ at.textLength t

@@ -3,7 +3,7 @@ use layout::header::Header;
 use layout::record;
 ghost use mathlib.Core.Path.{_≡_};
 ghost use Prim.Native.Nat.{_<_};
-ghost use Rattle.layout.specs.HeaderSays.{HeaderOf};
+ghost use Rattle.layout.specs.HeaderFields.{HeaderOf};
 ghost use Rattle.check_links.specs.LevelAsked.{LevelOf, partLength, roomBelow};
 
 // The figures of a level.

@@ -10,7 +10,7 @@ ghost use mathlib.Core.Path.{_≡_};
 ghost use Prim.Native.Nat.{_<_};
 ghost use Rattle.text.specs.Text.{allBelow};
 ghost use Rattle.format.specs.TreeReading.{linksOk};
-ghost use Rattle.layout.specs.HeaderSays.{HeaderOf};
+ghost use Rattle.layout.specs.HeaderFields.{HeaderOf};
 ghost use Rattle.check_links.specs.LevelAsked.{LevelOf, startAsCut, levelRight};
 
 // Question 8, for a tree with the header h, which passes questions 5 to 7.

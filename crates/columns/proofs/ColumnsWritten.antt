@@ -10,7 +10,7 @@ use lib.ListN.{length, take, drop, getD, set, length-drop}
 use lib.Seq.{paste, paste-suc, getD-drop, take-add, take-all, drop-append-add, length-take-le, drop-drop, take-at}
 use lib.Dec.{leb}
 use borrow.Author.Tests.{le-leb, lt-leb, ne-eqb, leb-true}
-use Rattle.columns.specs.Columns.{transposed, columns, uncolumns, widthOk, refusalOf, columnsNumber, columnsLeaves, uncolumnsLeaves}
+use Rattle.columns.specs.Columns.{transposed, columns, uncolumns, widthOk, refusalOf, columnsRefusal, columnsBuffer, uncolumnsBuffer}
 use Rattle.columns.specs.ColumnLaws.{within, transposed-length, transposed-at, rows-are}
 
 -- A text of r rows of c bytes.
@@ -34,14 +34,14 @@ module _ (r c : ℕ) (T : List ℕ) (size : length T ≡ r * c) where
       rw (e, v, add-one a) (paste-suc d₀ (b * r) (drop (b * r) U) a 0 (omega (arith, column-in b hb)) long)
 
   -- Some columns have been written.
-  abbrev pub Filled : List ℕ → ℕ → List ℕ → Type 0
-  Filled d₀ b d = d ≡ take (b * r) U ++ drop (b * r) d₀
+  abbrev pub ColumnsUpTo : List ℕ → ℕ → List ℕ → Type 0
+  ColumnsUpTo d₀ b d = d ≡ take (b * r) U ++ drop (b * r) d₀
 
-  pub filled-none : (d₀ : List ℕ) → Filled d₀ 0 d₀
+  pub filled-none : (d₀ : List ℕ) → ColumnsUpTo d₀ 0 d₀
   filled-none d₀ = rw (zero-mul r)
 
-  pub filled-more : (d₀ d e : List ℕ) (b : ℕ) → length T ≤ length d₀ → b < c → Filled d₀ b d → e ≡ paste d (b * r) (drop (b * r) U) r
-      → Filled d₀ (b + 1) e
+  pub filled-more : (d₀ d e : List ℕ) (b : ℕ) → length T ≤ length d₀ → b < c → ColumnsUpTo d₀ b d → e ≡ paste d (b * r) (drop (b * r) U) r
+      → ColumnsUpTo d₀ (b + 1) e
   filled-more d₀ d e b room hb f is =
       let k = b * r in
       let s : (b + 1) * r ≡ k + r = rw (add-one b) (suc-mul b r) in
@@ -53,7 +53,7 @@ module _ (r c : ℕ) (T : List ℕ) (size : length T ≡ r * c) where
       let back : drop (k + r) d ≡ drop (k + r) d₀ = rw f (past ∙ drop-drop r k d₀) in
       is ∙ rw (s, front, back, take-add k r U)
 
-  pub filled-all : (d₀ d : List ℕ) (b : ℕ) → c ≤ b → b ≤ c → Filled d₀ b d → d ≡ U ++ drop (length T) d₀
+  pub filled-all : (d₀ d : List ℕ) (b : ℕ) → c ≤ b → b ≤ c → ColumnsUpTo d₀ b d → d ≡ U ++ drop (length T) d₀
   filled-all d₀ d b low high f =
       let e : b * r ≡ length T = (let z : b ≡ c = omega arith in ap (λ (x : ℕ). x * r) z) ∙ mul-comm c r ∙ sym size in
       f ∙ rw (e, take-all (length T) U (omega (arith, transposed-length r c T size)))
@@ -90,8 +90,8 @@ module _ (w : ℕ) (T out : List ℕ) where
       by false b e z = absurd (let x : ⊥ = omega arith in x)
 
   pub leaves-refused : (n : ℕ) → n ≡ refusalOf w (length T) (length out) → (n ≡ 0 → ⊥)
-      → (n ≡ columnsNumber w T out) × (out ≡ columnsLeaves w T out) × (out ≡ uncolumnsLeaves w T out)
-  unfolding columnsNumber columnsLeaves uncolumnsLeaves
+      → (n ≡ columnsRefusal w T out) × (out ≡ columnsBuffer w T out) × (out ≡ uncolumnsBuffer w T out)
+  unfolding columnsRefusal columnsBuffer uncolumnsBuffer
   leaves-refused n e some = let z = ne-eqb (refusalOf w (length T) (length out)) 0 (λ y. some (e ∙ y)) in (e, rw z, rw z)
 
   module _ (z : refusalOf w (length T) (length out) ≡ 0) where
@@ -106,11 +106,11 @@ module _ (w : ℕ) (T out : List ℕ) where
     by-columns = (rows-are w T ok ∙ mul-comm (length T / w) w, let-through z .1)
 
     pub leaves-columns : (d : List ℕ) → d ≡ transposed (length T / w) w T ++ drop (length T) out
-        → (0 ≡ columnsNumber w T out) × (d ≡ columnsLeaves w T out)
-    unfolding columnsNumber columnsLeaves columns
+        → (0 ≡ columnsRefusal w T out) × (d ≡ columnsBuffer w T out)
+    unfolding columnsRefusal columnsBuffer columns
     leaves-columns d e = (sym z, rw z e)
 
     pub leaves-rows : (d : List ℕ) → d ≡ transposed w (length T / w) T ++ drop (length T) out
-        → (0 ≡ columnsNumber w T out) × (d ≡ uncolumnsLeaves w T out)
-    unfolding columnsNumber uncolumnsLeaves uncolumns
+        → (0 ≡ columnsRefusal w T out) × (d ≡ uncolumnsBuffer w T out)
+    unfolding columnsRefusal uncolumnsBuffer uncolumns
     leaves-rows d e = (sym z, rw z e)

@@ -1,2 +1,2 @@
 pub mod ColumnsWritten
-pub mod Demands
+pub mod Theorems

@@ -4,12 +4,12 @@ ghost use mathlib.Core.Path.{_≡_};
 ghost use Prim.Native.Nat.{_*_, _≤_, _<_};
 ghost use lib.ListN.{length, drop};
 ghost use lib.Seq.{paste};
-ghost use Rattle.columns.specs.Columns.{transposed, widthOk, refusalOf, columnsNumber, columnsLeaves, uncolumnsLeaves};
+ghost use Rattle.columns.specs.Columns.{transposed, widthOk, refusalOf, columnsRefusal, columnsBuffer, uncolumnsBuffer};
 
 // Writes a text of rows of a width, end byte included, column by column: questions 20 and 21.
 pub fn to_columns(text: &[u8], width: u32, out: &mut [u8]) -> u32
-    ensures { λ r. ⌜ r ≡ columnsNumber width (now (text .entry)) (now (out .entry)) ⌝ }
-    ensures { λ _. ⌜ now (out .exit) ≡ columnsLeaves width (now (text .entry)) (now (out .entry)) ⌝ }
+    ensures { λ r. ⌜ r ≡ columnsRefusal width (now (text .entry)) (now (out .entry)) ⌝ }
+    ensures { λ _. ⌜ now (out .exit) ≡ columnsBuffer width (now (text .entry)) (now (out .entry)) ⌝ }
 {
     let number = refusal(text.len(), width, out.len());
     if number != 0 {
@@ -22,8 +22,8 @@ pub fn to_columns(text: &[u8], width: u32, out: &mut [u8]) -> u32
 
 // Writes a text that is by columns back by rows: questions 20 and 21.
 pub fn from_columns(text: &[u8], width: u32, out: &mut [u8]) -> u32
-    ensures { λ r. ⌜ r ≡ columnsNumber width (now (text .entry)) (now (out .entry)) ⌝ }
-    ensures { λ _. ⌜ now (out .exit) ≡ uncolumnsLeaves width (now (text .entry)) (now (out .entry)) ⌝ }
+    ensures { λ r. ⌜ r ≡ columnsRefusal width (now (text .entry)) (now (out .entry)) ⌝ }
+    ensures { λ _. ⌜ now (out .exit) ≡ uncolumnsBuffer width (now (text .entry)) (now (out .entry)) ⌝ }
 {
     let number = refusal(text.len(), width, out.len());
     if number != 0 {

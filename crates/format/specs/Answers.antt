@@ -8,7 +8,7 @@ use lib.ListN.{length, drop, replicate}
 use lib.Dec.{leb, eqb, ltb}
 use Rattle.format.specs.Layout.{Settings, lengthOk, sizesOk, countedOk}
 use Rattle.format.specs.Blocks.{treeOf}
-use Rattle.format.specs.TreeReading.{asks, orNext, readable, Path, Visit, pathOf, Short, shortOf, shortBytes, textOf}
+use Rattle.format.specs.TreeReading.{asks, orNext, headerResult, Path, Visit, pathOf, Short, shortOf, shortBytes, textOf}
 use mathlib.Core.Option.{Option, none, some}
 use Rattle.text.specs.Text.{tabulate, stretch, countIn, placeOf, rowOf}
 use Rattle.format.specs.Layout as at
@@ -17,17 +17,17 @@ use mathlib.Core.Logic.{_⊎_}
 -- The answer of a call as a refusal and two figures (docs/FORMAT.md, "The questions, in order").
 
 -- A refusal, 0 for none, and two figures.
-pub record Said : Type 0 where
+pub record Answer : Type 0 where
   pub number : ℕ
   pub value : ℕ
   pub entered : ℕ
 
 -- A refusal, with figures 0.
-abbrev pub refused : ℕ → Said
+abbrev pub refused : ℕ → Answer
 refused q = record { number = q; value = 0; entered = 0 }
 
 -- The refusal if there is one, else the answer that follows.
-abbrev pub unless : ℕ → Said → Said
+abbrev pub unless : ℕ → Answer → Answer
 unless zero answer = answer
 unless (suc q) answer = refused (suc q)
 
@@ -36,7 +36,7 @@ pub data Reply : Type 0 where
   figures : ℕ → ℕ → Reply
   refusal : ℕ → Reply
 
-abbrev pub replied : Reply → Said
+abbrev pub replied : Reply → Answer
 replied (figures value entered) = record { number = 0; value = value; entered = entered }
 replied (refusal number) = refused number
 
@@ -46,48 +46,48 @@ NeverZero (figures value entered) = Unit {0}
 NeverZero (refusal number) = 1 ≤ number
 
 -- r, an enum's value whose cases `reply` gives, is an answer that `allowed` lets through
-pub record Allowed {A : Type 0} (reply : A → Reply) (allowed : Said → Type 0) (r : A) : Type 0 where
-  pub says : allowed (replied (reply r))
+pub record Allowed {A : Type 0} (reply : A → Reply) (allowed : Answer → Type 0) (r : A) : Type 0 where
+  pub answers : allowed (replied (reply r))
   pub numbered : NeverZero (reply r)
 
 -- The one answer s.
-abbrev pub Is : {A : Type 0} → (A → Reply) → Said → A → Type 0
+abbrev pub Is : {A : Type 0} → (A → Reply) → Answer → A → Type 0
 Is reply s r = Allowed reply (λ said. said ≡ s) r
 
 -- A refusal and two figures.
-abbrev pub saying : ℕ → ℕ → ℕ → Said
-saying number value entered = record { number = number; value = value; entered = entered }
+abbrev pub answerWith : ℕ → ℕ → ℕ → Answer
+answerWith number value entered = record { number = number; value = value; entered = entered }
 
 -- What build returns, and what the caller's buffer `out` contains afterwards.
 -- docs/FORMAT.md: "Two builders", "What is left in lent buffers".
 
 module _ (S : Settings) (T out : List ℕ) where
   -- The refusal: questions 1 to 4 in order; 0 if all pass.
-  unfoldable pub buildNumber : ℕ
-  buildNumber = asks ((1, lengthOk (length T)) ∷ (2, sizesOk S) ∷ (3, countedOk (S .counted)) ∷ (4, leb (length (treeOf S T)) (length out)) ∷ [])
+  unfoldable pub buildRefusal : ℕ
+  buildRefusal = asks ((1, lengthOk (length T)) ∷ (2, sizesOk S) ∷ (3, countedOk (S .counted)) ∷ (4, leb (length (treeOf S T)) (length out)) ∷ [])
 
   -- The size of the tree; 0 if build refuses.
   unfoldable pub buildSize : ℕ
-  buildSize = cond (eqb buildNumber 0) (length (treeOf S T)) 0
+  buildSize = cond (eqb buildRefusal 0) (length (treeOf S T)) 0
 
   -- The buffer afterwards: the tree, then its old bytes; all zeros if the tree does not fit (4); unchanged for any other refusal.
-  unfoldable pub buildLeaves : List ℕ
-  buildLeaves =
-      cond (eqb buildNumber 0) (treeOf S T ++ drop (length (treeOf S T)) out)
-      (cond (eqb buildNumber 4) (replicate (length out) 0) out)
+  unfoldable pub buildBuffer : List ℕ
+  buildBuffer =
+      cond (eqb buildRefusal 0) (treeOf S T ++ drop (length (treeOf S T)) out)
+      (cond (eqb buildRefusal 4) (replicate (length out) 0) out)
 
 -- What byte, run and span return for any bytes given as a tree, and what the caller's buffer contains afterwards.
 -- docs/FORMAT.md: "Byte", "Run", "Span", "What is left in lent buffers".
 
 module _ (t : List ℕ) where
   -- Byte (access, in the literature): the leaf byte at the end of the path and the number of blocks on it; refused with 14 if there is no path.
-  abbrev pub byteOf : Option Path → Said
+  abbrev pub byteOf : Option Path → Answer
   byteOf none = refused 14
   byteOf (some p) = record { number = 0; value = at.leafByte t (p .leaf); entered = length (p .visits) }
 
   -- Byte: questions 5 to 7, then 10, then 14.
-  unfoldable pub byteSays : ℕ → Said
-  byteSays p = unless (readable t) (unless (asks ((10, ltb p (at.textLength t)) ∷ [])) (byteOf (pathOf t p)))
+  unfoldable pub byteAnswer : ℕ → Answer
+  byteAnswer p = unless (headerResult t) (unless (asks ((10, ltb p (at.textLength t)) ∷ [])) (byteOf (pathOf t p)))
 
   -- The number of bytes to the end of the nearest block on a path, at most `most`.
   unfoldable pub leftOver : List Visit → ℕ → ℕ
@@ -101,17 +101,17 @@ module _ (t : List ℕ) where
       (at.leafOffset t + q .leaf, leftOver (q .visits) (min (at.textLength t - p) (at.leafCount t - q .leaf)))
 
   -- Run; offset 0 and length 0 if byte refuses place p.
-  unfoldable pub runSays : ℕ → ℕ × ℕ
-  runSays p = cond (eqb (byteSays p .number) 0) (runOf p (pathOf t p)) (0, 0)
+  unfoldable pub runAnswer : ℕ → ℕ × ℕ
+  runAnswer p = cond (eqb (byteAnswer p .number) 0) (runOf p (pathOf t p)) (0, 0)
 
   -- The refusal of a span, where `reached` says whether its bytes can be read: questions 5 to 7, then 10, 13 and 14.
-  unfoldable pub asksSpan : ℕ → ℕ → ℕ → Bool → ℕ
-  asksSpan p len room reached =
-      orNext (readable t) (asks ((10, leb (p + len) (at.textLength t)) ∷ (13, leb len room) ∷ (14, reached) ∷ []))
+  unfoldable pub spanQuestions : ℕ → ℕ → ℕ → Bool → ℕ
+  spanQuestions p len room reached =
+      orNext (headerResult t) (asks ((10, leb (p + len) (at.textLength t)) ∷ (13, leb len room) ∷ (14, reached) ∷ []))
 
   -- The buffer afterwards: the bytes at its start; len zeros if refused with 14; unchanged for any other refusal.
-  unfoldable pub leavesSpan : ℕ → ℕ → List ℕ → List ℕ → List ℕ
-  leavesSpan number len bytes buffer =
+  unfoldable pub bufferAfter : ℕ → ℕ → List ℕ → List ℕ → List ℕ
+  bufferAfter number len bytes buffer =
       cond (eqb number 0) (bytes ++ drop len buffer) (cond (eqb number 14) (replicate len 0 ++ drop len buffer) buffer)
 
   -- Whether each of the len places from p has a path.
@@ -119,19 +119,19 @@ module _ (t : List ℕ) where
   pathsHold p zero = true
   pathsHold p (suc len) =
       let rest = pathsHold (p + 1) len in
-      eqb (byteSays p .number) 0 && rest
+      eqb (byteAnswer p .number) 0 && rest
 
   -- The refusal of copying the len places from p, each by its path, as row does.
-  unfoldable pub copyNumber : ℕ → ℕ → ℕ → ℕ
-  copyNumber p len room = asksSpan p len room (pathsHold p len)
+  unfoldable pub copyRefusal : ℕ → ℕ → ℕ → ℕ
+  copyRefusal p len room = spanQuestions p len room (pathsHold p len)
 
   -- The refusal of the copy, or the length.
-  unfoldable pub copySays : ℕ → ℕ → ℕ → Said
-  copySays p len room = unless (copyNumber p len room) (record { number = 0; value = len; entered = 0 })
+  unfoldable pub copyAnswer : ℕ → ℕ → ℕ → Answer
+  copyAnswer p len room = unless (copyRefusal p len room) (record { number = 0; value = len; entered = 0 })
 
   -- The buffer after copying.
-  unfoldable pub copyLeaves : ℕ → ℕ → List ℕ → List ℕ
-  copyLeaves p len buffer = leavesSpan (copyNumber p len (length buffer)) len (tabulate len (λ k. byteSays (p + k) .value)) buffer
+  unfoldable pub copyBuffer : ℕ → ℕ → List ℕ → List ℕ
+  copyBuffer p len buffer = bufferAfter (copyRefusal p len (length buffer)) len (tabulate len (λ k. byteAnswer (p + k) .value)) buffer
 
   -- A span is short if it has 1 to m bytes in a layout 2 tree. Any other span is read byte by byte along the paths and returns 0 as the number of blocks
   -- entered.
@@ -154,23 +154,23 @@ module _ (t : List ℕ) where
 
   -- The bytes of a span.
   unfoldable pub spanBytes : ℕ → ℕ → List ℕ
-  spanBytes p len = cond (isShort len) (shortBytes t len (shortOf t p len)) (tabulate len (λ k. byteSays (p + k) .value))
+  spanBytes p len = cond (isShort len) (shortBytes t len (shortOf t p len)) (tabulate len (λ k. byteAnswer (p + k) .value))
 
   -- The refusal of a span.
-  unfoldable pub spanNumber : ℕ → ℕ → ℕ → ℕ
-  spanNumber p len room = asksSpan p len room (spanReached p len)
+  unfoldable pub spanRefusal : ℕ → ℕ → ℕ → ℕ
+  spanRefusal p len room = spanQuestions p len room (spanReached p len)
 
   -- The number of blocks that a span enters; 0 if it is not short.
   unfoldable pub spanBlocks : ℕ → ℕ → ℕ
   spanBlocks p len = cond (isShort len) (blocksOf (shortOf t p len)) 0
 
   -- Span: its refusal, or its length with the number of blocks entered.
-  unfoldable pub spanSays : ℕ → ℕ → ℕ → Said
-  spanSays p len room = unless (spanNumber p len room) (record { number = 0; value = len; entered = spanBlocks p len })
+  unfoldable pub spanAnswer : ℕ → ℕ → ℕ → Answer
+  spanAnswer p len room = unless (spanRefusal p len room) (record { number = 0; value = len; entered = spanBlocks p len })
 
   -- The buffer after a span.
-  unfoldable pub spanLeaves : ℕ → ℕ → List ℕ → List ℕ
-  spanLeaves p len buffer = leavesSpan (spanNumber p len (length buffer)) len (spanBytes p len) buffer
+  unfoldable pub spanBuffer : ℕ → ℕ → List ℕ → List ℕ
+  spanBuffer p len buffer = bufferAfter (spanRefusal p len (length buffer)) len (spanBytes p len) buffer
 
 -- What count (rank) returns for any bytes given as a tree.
 -- docs/FORMAT.md: "Count".
@@ -221,7 +221,7 @@ module _ (t : List ℕ) where
   leavesReached p = let o = lastPlace (p .visits) in stretch t (at.leafOffset t + (p .leaf - o)) (o + 1)
 
   -- The count by a path, with the number of blocks on it. Refused with 14 if there is no path or the count is negative.
-  abbrev pub countOf : ℕ → ℕ → Option Path → Said
+  abbrev pub countOf : ℕ → ℕ → Option Path → Answer
   countOf byte c none = refused 14
   countOf byte c (some p) =
       let plus = added c (p .visits) + countIn byte (leavesReached p) in
@@ -237,11 +237,11 @@ module _ (t : List ℕ) where
   numberOfByte byte = indexOf byte (at.settings t .counted)
 
   -- Count: questions 5 to 7, then 10 and 11, then 14. The count of the first 0 bytes is 0 and enters no block.
-  unfoldable pub countSays : ℕ → ℕ → Said
-  countSays byte i =
+  unfoldable pub countAnswer : ℕ → ℕ → Answer
+  countAnswer byte i =
       let asked = asks ((10, leb i (at.textLength t)) ∷ (11, isCounted byte) ∷ []) in
       let walked = countOf byte (numberOfByte byte) (pathOf t (i - 1)) in
-      unless (readable t) (unless asked (cond (eqb i 0) (refused 0) walked))
+      unless (headerResult t) (unless asked (cond (eqb i 0) (refused 0) walked))
 
 -- What find (select) may return for any bytes given as a tree: one answer if a question refuses or the tree is valid, else any of those that the format
 -- leaves free.
@@ -255,9 +255,9 @@ module _ (t : List ℕ) where
       cond (eqb (at.levelCount t 0) 0) 0 (at.before t 0 last c + at.inside t 0 last c)
 
   -- The refusal before the walk: questions 5 to 7, then 11 and 12.
-  unfoldable pub selectNumber : ℕ → ℕ → ℕ
-  selectNumber byte j =
-      orNext (readable t) (asks ((11, isCounted t byte) ∷ (12, leb 1 j && leb j (total (numberOfByte t byte))) ∷ []))
+  unfoldable pub findRefusal : ℕ → ℕ → ℕ
+  findRefusal byte j =
+      orNext (headerResult t) (asks ((11, isCounted t byte) ∷ (12, leb 1 j && leb j (total (numberOfByte t byte))) ∷ []))
 
   -- The number of blocks on a path.
   abbrev pub pathLength : Option Path → ℕ
@@ -265,39 +265,39 @@ module _ (t : List ℕ) where
   pathLength (some p) = length (p .visits)
 
   -- The answer on a valid tree: the place of the j-th occurrence, and the number of blocks on its path.
-  unfoldable pub found : ℕ → ℕ → Said
+  unfoldable pub found : ℕ → ℕ → Answer
   found byte j =
       let p = placeOf byte j (textOf t) in
       record { number = 0; value = p; entered = pathLength (pathOf t p) }
 
   -- The answers s that find may return, where `ok` is 0 for a valid tree. On other trees: refused with 14, or some place of the text.
-  pub record FindBy (ok byte j : ℕ) (s : Said) : Type 0 where
-    pub asked : (0 < selectNumber byte j) → s ≡ refused (selectNumber byte j)
-    pub accepted : selectNumber byte j ≡ 0 → ok ≡ 0 → s ≡ found byte j
-    pub free : selectNumber byte j ≡ 0 → (ok ≡ 0 → ⊥) → (s ≡ refused 14) ⊎ ((s .number ≡ 0) × (s .value < at.textLength t))
+  pub record FindBy (ok byte j : ℕ) (s : Answer) : Type 0 where
+    pub asked : (0 < findRefusal byte j) → s ≡ refused (findRefusal byte j)
+    pub accepted : findRefusal byte j ≡ 0 → ok ≡ 0 → s ≡ found byte j
+    pub free : findRefusal byte j ≡ 0 → (ok ≡ 0 → ⊥) → (s ≡ refused 14) ⊎ ((s .number ≡ 0) × (s .value < at.textLength t))
 
 -- What row may return for any bytes given as a tree, and what the caller's buffer contains afterwards: one answer if a question refuses or the tree is valid;
 -- else the copy of some substring of the text, or 14.
 -- docs/FORMAT.md: "Row", "What is left in lent buffers", "What is left free".
 
 -- The refusal for the last byte of the text, or 12 if that byte is 10.
-abbrev pub lastNumber : Said → ℕ
-lastNumber last = orNext (last .number) (asks ((12, not (eqb 10 (last .value))) ∷ []))
+abbrev pub lastRowRefusal : Answer → ℕ
+lastRowRefusal last = orNext (last .number) (asks ((12, not (eqb 10 (last .value))) ∷ []))
 
 module _ (t : List ℕ) where
   -- Whether q is the total of byte 10 plus one: the row after the last byte 10.
-  unfoldable pub asksLast : ℕ → Bool
-  asksLast q = eqb (readable t) 0 && isCounted t 10 && ltb 0 (at.textLength t) && eqb q (total t (numberOfByte t 10) + 1)
+  unfoldable pub isUnterminatedRow : ℕ → Bool
+  isUnterminatedRow q = eqb (headerResult t) 0 && isCounted t 10 && ltb 0 (at.textLength t) && eqb q (total t (numberOfByte t 10) + 1)
 
   -- The refusal before the walk: that of find for the q-th byte 10; for the total plus one, that of the last byte.
-  unfoldable pub rowNumber : ℕ → ℕ
-  rowNumber q =
-      let last = lastNumber (byteSays t (at.textLength t - 1)) in
-      cond (asksLast q) last (selectNumber t 10 q)
+  unfoldable pub rowRefusal : ℕ → ℕ
+  rowRefusal q =
+      let last = lastRowRefusal (byteAnswer t (at.textLength t - 1)) in
+      cond (isUnterminatedRow q) last (findRefusal t 10 q)
 
   -- The largest number of bytes of row q: the whole text if the row has no byte 10 before or after it, else one less.
   unfoldable pub rowMost : ℕ → ℕ
-  rowMost q = cond (asksLast q && eqb q 1) (at.textLength t) (at.textLength t - 1)
+  rowMost q = cond (isUnterminatedRow q && eqb q 1) (at.textLength t) (at.textLength t - 1)
 
   -- Some substring of the text, copied along the paths of its places. With 0 the buffer starts with its bytes, 13 means that the buffer is shorter, 14 that a
   -- path breaks.
@@ -306,15 +306,15 @@ module _ (t : List ℕ) where
     pub len : ℕ
     pub within : start + len ≤ at.textLength t
     pub short : len ≤ rowMost q
-    pub number-is : number ≡ copySays t start len (length buffer) .number
-    pub size-is : size ≡ copySays t start len (length buffer) .value
-    pub after-is : after ≡ copyLeaves t start len buffer
+    pub number-is : number ≡ copyAnswer t start len (length buffer) .number
+    pub size-is : size ≡ copyAnswer t start len (length buffer) .value
+    pub after-is : after ≡ copyBuffer t start len buffer
 
   -- The answers that row may return, where `ok` is 0 for a valid tree. On other trees: refused with 14 before anything is copied, or the copy of some
   -- substring.
   pub record RowBy (ok q : ℕ) (buffer : List ℕ) (number size : ℕ) (after : List ℕ) : Type 0 where
-    pub asked : (0 < rowNumber q) → (number ≡ rowNumber q) × (size ≡ 0) × (after ≡ buffer)
-    pub short : rowNumber q ≡ 0 → ok ≡ 0 → length buffer < length (rowOf (textOf t) q) → (number ≡ 13) × (size ≡ 0) × (after ≡ buffer)
-    pub accepted : rowNumber q ≡ 0 → ok ≡ 0 → length (rowOf (textOf t) q) ≤ length buffer
+    pub asked : (0 < rowRefusal q) → (number ≡ rowRefusal q) × (size ≡ 0) × (after ≡ buffer)
+    pub short : rowRefusal q ≡ 0 → ok ≡ 0 → length buffer < length (rowOf (textOf t) q) → (number ≡ 13) × (size ≡ 0) × (after ≡ buffer)
+    pub accepted : rowRefusal q ≡ 0 → ok ≡ 0 → length (rowOf (textOf t) q) ≤ length buffer
         → (number ≡ 0) × (size ≡ length (rowOf (textOf t) q)) × (after ≡ rowOf (textOf t) q ++ drop size buffer)
-    pub free : rowNumber q ≡ 0 → (ok ≡ 0 → ⊥) → ((number ≡ 14) × (size ≡ 0) × (after ≡ buffer)) ⊎ RowStretch q buffer number size after
+    pub free : rowRefusal q ≡ 0 → (ok ≡ 0 → ⊥) → ((number ≡ 14) × (size ≡ 0) × (after ≡ buffer)) ⊎ RowStretch q buffer number size after

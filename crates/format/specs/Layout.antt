@@ -336,8 +336,8 @@ module _ (t : List ℕ) where
   hasEdges = eqb layout 2
 
   -- Question 5: the bytes have room for a header.
-  unfoldable pub longEnough : Bool
-  longEnough = leb headerLength (length t)
+  unfoldable pub holdsHeader : Bool
+  holdsHeader = leb headerLength (length t)
 
   -- Question 6: the layout is 1 or 2.
   unfoldable pub layoutOk : Bool

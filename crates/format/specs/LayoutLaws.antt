@@ -19,8 +19,8 @@ use Rattle.format.specs.SizeLaws.{Bounds, within-bounds, length-step, le
 use Rattle.format.specs.SizeLaws.{record-edged}
 use Rattle.format.specs.PieceLaws.{pieces-hold}
 use Rattle.format.specs.Layout.{layout, textLength, countedCount, settings, levelCount, levelOffset, leafOffset, leafCount, recordSize, edgesAt}
-use Rattle.format.specs.Layout.{fullLength, longEnough, layoutOk, headerOk}
-use Rattle.format.specs.TreeReading.{ask, readable}
+use Rattle.format.specs.Layout.{fullLength, holdsHeader, layoutOk, headerOk}
+use Rattle.format.specs.TreeReading.{ask, headerResult}
 
 -- The words of a record with k counted bytes.
 abbrev pub fieldCount : ℕ → ℕ
@@ -110,11 +110,11 @@ layout-cases t h = go (or-cases (eqb (layout t) 1) (eqb (layout t) 2) h)
     go (inl e) = inl (eqb-true (layout t) 1 e)
     go (inr e) = inr (eqb-true (layout t) 2 e)
 
-pub readable-facts : (t : List ℕ) → readable t ≡ 0 → Readable t
-unfolding readable longEnough lengthOk countedOk
-readable-facts t h =
-    let five = ask-test 4 (longEnough t) (ask 6 (layoutOk t) (ask 7 (headerOk t) 0)) h in
-    let after5 = ask-rest 4 (longEnough t) (ask 6 (layoutOk t) (ask 7 (headerOk t) 0)) h in
+pub header-facts : (t : List ℕ) → headerResult t ≡ 0 → Readable t
+unfolding headerResult holdsHeader lengthOk countedOk
+header-facts t h =
+    let five = ask-test 4 (holdsHeader t) (ask 6 (layoutOk t) (ask 7 (headerOk t) 0)) h in
+    let after5 = ask-rest 4 (holdsHeader t) (ask 6 (layoutOk t) (ask 7 (headerOk t) 0)) h in
     let six = ask-test 5 (layoutOk t) (ask 7 (headerOk t) 0) after5 in
     let d = header t (ask-test 6 (headerOk t) 0 (ask-rest 5 (layoutOk t) (ask 7 (headerOk t) 0) after5)) in
     let long : headerLength ≤ length t = leb-true headerLength (length t) five in

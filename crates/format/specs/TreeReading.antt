@@ -255,9 +255,10 @@ abbrev pub orNext : ℕ → ℕ → ℕ
 orNext number next = cond (eqb number 0) next number
 
 -- Questions 5 to 7, which every question put to a tree asks first.
-unfoldable pub readable : List ℕ → ℕ
-readable t = asks ((5, at.longEnough t) ∷ (6, at.layoutOk t) ∷ (7, at.headerOk t) ∷ [])
+unfoldable pub headerResult : List ℕ → ℕ
+headerResult t = asks ((5, at.holdsHeader t) ∷ (6, at.layoutOk t) ∷ (7, at.headerOk t) ∷ [])
 
 -- Questions 5 to 9, in order: what check returns.
-unfoldable pub verdict : List ℕ → ℕ
-verdict t = asks ((5, at.longEnough t) ∷ (6, at.layoutOk t) ∷ (7, at.headerOk t) ∷ (8, linksOk t) ∷ (9, countsTrue (textOf t) t && edgesTrue (textOf t) t) ∷ [])
+unfoldable pub checkResult : List ℕ → ℕ
+checkResult t = asks ((5, at.holdsHeader t) ∷ (6, at.layoutOk t) ∷ (7, at.headerOk t) ∷ (8, linksOk t) ∷
+    (9, countsTrue (textOf t) t && edgesTrue (textOf t) t) ∷ [])

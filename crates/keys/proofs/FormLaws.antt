@@ -7,10 +7,10 @@ use lib.ListN.{length, getD}
 use lib.Dec.{leb}
 use borrow.Author.Tests.{lt-ltb, le-ltb, le-leb, lt-leb, eq-eqb, ne-eqb, eqb-true}
 use Rattle.text.specs.ListLaws.{bool-clash}
-use Rattle.keys.specs.declared.form.Form.{Form}
-use Rattle.keys.specs.declared.form.Form.the-variants.{Code, Cuts, Ended, Wrong}
+use Rattle.keys.specs.declared.key_state.KeyState.{KeyState}
+use Rattle.keys.specs.declared.key_state.KeyState.the-variants.{Code, Cuts, Ended, Wrong}
 use Rattle.keys.specs.Keys.{cutCount, low, high, maxCode}
-use Rattle.keys.specs.Forms.{inCode, cutFits, inCuts, isNone}
+use Rattle.keys.specs.KeyStates.{inCode, cutFits, inCuts, isNone}
 
 -- In the code.
 module _ (k x : ℕ) where
@@ -73,7 +73,7 @@ module _ (ranges : List ℕ) (i x : ℕ) where
     cuts-wrong e = rw (lt-ltb i (length ranges / 2) within, e)
 
 -- A row of which no byte was read.
-pub none-read : (f : Form) → isNone f ≡ true → f ≡ Code 0
+pub none-read : (f : KeyState) → isNone f ≡ true → f ≡ Code 0
 unfolding isNone
 none-read (Code k) e = rw (eqb-true k 0 e)
 none-read (Cuts i) e = bool-clash false e refl

@@ -14,23 +14,23 @@ use Rattle.text.specs.RowLaws.{trimmed, trimmed-none, trimmed-mark, trimmed-pla
 use Rattle.search_byte.specs.FirstByte.{Without}
 use Rattle.row_filter.specs.RowAutomaton.{Automaton, Scan, found, on, RowBetween, runFrom, scanByte, scanBytes}
 use Rattle.row_filter.specs.RowAutomatonLaws.{byte-step, byte-next, scan-on, scan-found, on-next, found-next}
-use Rattle.keys.specs.declared.form.Form.{Form}
-use Rattle.keys.specs.declared.form.Form.the-variants.{Code}
-use Rattle.keys.specs.declared.row_scan.Scanned.{Scanned}
-use Rattle.keys.specs.declared.row_scan.Scanned.the-variants.{Found, On}
+use Rattle.keys.specs.declared.key_state.KeyState.{KeyState}
+use Rattle.keys.specs.declared.key_state.KeyState.the-variants.{Code}
+use Rattle.keys.specs.declared.row_scan.RowScanAnswer.{RowScanAnswer}
+use Rattle.keys.specs.declared.row_scan.RowScanAnswer.the-variants.{Found, On}
 use Rattle.keys.specs.declared.row_scan.Turned.{Turned}
 use Rattle.keys.specs.declared.row_scan.Turned.the-variants as turned
 use Rattle.keys.specs.Keys.{cutCount}
-use Rattle.keys.specs.Forms.{cutFits, isDone, isWhole, isNone, keyAutomaton}
+use Rattle.keys.specs.KeyStates.{cutFits, isDone, isWhole, isNone, keyAutomaton}
 use Rattle.keys.specs.RowScanned.{asScan, BytesEnd, Misfit, CutsFit, MayMatch, RowPassed, TurnedOn}
 use Rattle.keys.proofs.FormLaws.{none-read}
-use Rattle.keys.proofs.RowForms.{done-whole, too-short, not-fitting}
+use Rattle.keys.proofs.RowKeyStates.{done-whole, too-short, not-fitting}
 
-module _ (r : Scanned) (n : ℕ) where
-  pub as-found : (y : Scan Form) → r ≡ Found n → asScan r ≡ y → found n ≡ y
+module _ (r : RowScanAnswer) (n : ℕ) where
+  pub as-found : (y : Scan KeyState) → r ≡ Found n → asScan r ≡ y → found n ≡ y
   as-found y e f = rw e at f
 
-  pub as-on : (form : Form) (y : Scan Form) → r ≡ On form n → asScan r ≡ y → on form n ≡ y
+  pub as-on : (form : KeyState) (y : Scan KeyState) → r ≡ On form n → asScan r ≡ y → on form n ≡ y
   as-on form y e f = rw e at f
 
 -- The end of a row's bytes.
@@ -131,29 +131,29 @@ module _ (ranges part : List ℕ) (from : ℕ) where
   }
 
 -- From a place on.
-module _ (ranges part : List ℕ) (form : Form) (row i : ℕ) (h : i < length part) where
+module _ (ranges part : List ℕ) (form : KeyState) (row i : ℕ) (h : i < length part) where
   pub turned-past : (past : ℕ) → isNone form ≡ true → RowPassed ranges part i past → i < past
       → TurnedOn ranges part form row i (turned.On (Code 0) (row + 1) past)
   turned-past past none p l = (l, p .high, omega arith, omega arith, rw (none-read form none) (p .scans l row))
 
-  module _ (x : Scanned) (x-is : asScan x ≡ scanByte (keyAutomaton ranges) form row (getD part i 0)) where
+  module _ (x : RowScanAnswer) (x-is : asScan x ≡ scanByte (keyAutomaton ranges) form row (getD part i 0)) where
     pub turned-found : (n : ℕ) → x ≡ Found n → TurnedOn ranges part form row i (turned.Found n)
     turned-found n e =
         let f = as-found x n _ e x-is in
         let b = found-next (keyAutomaton ranges) form row (getD part i 0) n f in
         (b .0, b .1, scan-found (keyAutomaton ranges) part i h form row n f)
 
-    pub turned-on : (f : Form) (n : ℕ) → x ≡ On f n → TurnedOn ranges part form row i (turned.On f n (i + 1))
+    pub turned-on : (f : KeyState) (n : ℕ) → x ≡ On f n → TurnedOn ranges part form row i (turned.On f n (i + 1))
     turned-on f n e =
         let g = as-on x n f _ e x-is in
         let b = on-next (keyAutomaton ranges) form row (getD part i 0) f n g in
         (omega arith, omega arith, b .0, b .1, scan-on (keyAutomaton ranges) part i h form row f n g)
 
 -- What was returned.
-module _ (ranges part : List ℕ) (form : Form) (row i : ℕ) (x : Turned) (x-is : TurnedOn ranges part form row i x) where
+module _ (ranges part : List ℕ) (form : KeyState) (row i : ℕ) (x : Turned) (x-is : TurnedOn ranges part form row i x) where
   pub found-there : (n : ℕ) → x ≡ turned.Found n → (row ≤ n) × (n ≤ row + 1) × (found n ≡ scanBytes (keyAutomaton ranges) (drop i part) form row)
   found-there n e = rw e at x-is
 
-  pub goes-on : (f : Form) (n p : ℕ) → x ≡ turned.On f n p → (i < p) × (p ≤ length part) × (row ≤ n) × (n ≤ row + 1)
+  pub goes-on : (f : KeyState) (n p : ℕ) → x ≡ turned.On f n p → (i < p) × (p ≤ length part) × (row ≤ n) × (n ≤ row + 1)
       × (scanBytes (keyAutomaton ranges) (drop p part) f n ≡ scanBytes (keyAutomaton ranges) (drop i part) form row)
   goes-on f n p e = rw e at x-is

@@ -7,16 +7,16 @@ use lib.ListN.{length, getD, drop}
 use Rattle.text.specs.Text.{stretch}
 use Rattle.text.specs.RowLaws.{trimmed}
 use Rattle.row_filter.specs.RowAutomaton.{Scan, found, on, runFrom, scanBytes}
-use Rattle.keys.specs.declared.form.Form.{Form}
-use Rattle.keys.specs.declared.form.Form.the-variants.{Code}
-use Rattle.keys.specs.declared.row_scan.Scanned.{Scanned}
-use Rattle.keys.specs.declared.row_scan.Scanned.the-variants.{Found, On}
+use Rattle.keys.specs.declared.key_state.KeyState.{KeyState}
+use Rattle.keys.specs.declared.key_state.KeyState.the-variants.{Code}
+use Rattle.keys.specs.declared.row_scan.RowScanAnswer.{RowScanAnswer}
+use Rattle.keys.specs.declared.row_scan.RowScanAnswer.the-variants.{Found, On}
 use Rattle.keys.specs.declared.row_scan.Turned.{Turned}
 use Rattle.keys.specs.declared.row_scan.Turned.the-variants as turned
 use Rattle.keys.specs.Keys.{cutCount}
-use Rattle.keys.specs.Forms.{cutFits, isDone, keyAutomaton}
+use Rattle.keys.specs.KeyStates.{cutFits, isDone, keyAutomaton}
 
-abbrev pub asScan : Scanned → Scan Form
+abbrev pub asScan : RowScanAnswer → Scan KeyState
 asScan (Found q) = found q
 asScan (On form q) = on form q
 
@@ -46,7 +46,7 @@ pub record RowPassed (ranges part : List ℕ) (from r : ℕ) : Type 0 where
   pub scans : from < r → (q : ℕ) → scanBytes (keyAutomaton ranges) (drop r part) (Code 0) (q + 1) ≡ scanBytes (keyAutomaton ranges) (drop from part) (Code 0) q
 
 -- The scan from place i goes on as the one that is returned.
-abbrev pub TurnedOn : List ℕ → List ℕ → Form → ℕ → ℕ → Turned → Type 0
+abbrev pub TurnedOn : List ℕ → List ℕ → KeyState → ℕ → ℕ → Turned → Type 0
 TurnedOn ranges part form row i (turned.Found n) =
     (row ≤ n) × (n ≤ row + 1) × (found n ≡ scanBytes (keyAutomaton ranges) (drop i part) form row)
 TurnedOn ranges part form row i (turned.On f n p) =

@@ -1,32 +1,32 @@
 // Scans a part of the text for a row that matches.
-use crate::form;
-use crate::form::Form;
+use crate::key_state;
+use crate::key_state::KeyState;
 ghost use mathlib.Core.Path.{_≡_};
 ghost use Prim.Native.Nat.{_+_, _*_, _/_, _≤_, _<_};
 ghost use lib.ListN.{length};
 ghost use Rattle.row_filter.specs.RowAutomaton.{scanByte, scanBytes, RowBetween};
-ghost use Rattle.keys.specs.Forms.{keyAutomaton};
+ghost use Rattle.keys.specs.KeyStates.{keyAutomaton};
 ghost use Rattle.keys.specs.RowScanned.{asScan, BytesEnd, CutsFit, MayMatch, RowPassed, TurnedOn};
 ghost use Rattle.keys.specs.Keys.{maxCuts};
 
 // The number of the first row that ends in the part and matches; or else the state and the number of the row in which the part ends.
-pub enum Scanned {
+pub enum RowScanAnswer {
     Found(u32),
-    On(Form, u32),
+    On(KeyState, u32),
 }
 
 // Reads one byte of the row with this number, from a state.
-fn turn(ranges: &[u8], form: Form, row: u32, byte: u8) -> Scanned
+fn turn(ranges: &[u8], form: KeyState, row: u32, byte: u8) -> RowScanAnswer
     requires { ⌜ (length (now ranges) ≤ 2 * maxCuts) × (row + 1 < 4294967296) ⌝ }
     ensures { λ r. ⌜ asScan r ≡ scanByte (keyAutomaton (now (ranges .entry))) form row byte ⌝ }
 {
     if byte == 10 {
-        if form::done(ranges, form) {
-            return Scanned::Found(row);
+        if key_state::matches_at_newline(ranges, form) {
+            return RowScanAnswer::Found(row);
         }
-        return Scanned::On(Form::Code(0), row + 1);
+        return RowScanAnswer::On(KeyState::Code(0), row + 1);
     }
-    Scanned::On(form::step(ranges, form, byte), row)
+    RowScanAnswer::On(key_state::step(ranges, form, byte), row)
 }
 
 // The end of a row's bytes, where a newline is at `end`: a carriage return directly before the newline is none of them.
@@ -51,7 +51,7 @@ fn cuts_fit(ranges: &[u8], part: &[u8], at: usize) -> bool
     let cuts = ranges.len() / 2;
     let mut k: usize = 0;
     while k < cuts {
-        if !form::cut_fits(ranges, k, part[at + k]) {
+        if !key_state::cut_fits(ranges, k, part[at + k]) {
             return false;
         }
         k += 1;
@@ -91,29 +91,29 @@ fn past_row(ranges: &[u8], part: &[u8], from: usize) -> usize
 // As Scanned, with the place from which the scan goes on.
 pub enum Turned {
     Found(u32),
-    On(Form, u32, usize),
+    On(KeyState, u32, usize),
 }
 
 // From a place on: one byte, or at a row's first byte a whole row that cannot match.
-fn advance(ranges: &[u8], part: &[u8], form: Form, row: u32, i: usize) -> Turned
+fn advance(ranges: &[u8], part: &[u8], form: KeyState, row: u32, i: usize) -> Turned
     requires { ⌜ (length (now ranges) ≤ 2 * maxCuts) × (row + 1 < 4294967296) × (i < length (now part)) ⌝ }
     ensures { λ r. ⌜ TurnedOn (now (ranges .entry)) (now (part .entry)) form row i r ⌝ }
 {
-    if form::none(form) {
+    if key_state::is_empty(form) {
         let past = past_row(ranges, part, i);
         if i < past {
-            return Turned::On(Form::Code(0), row + 1, past);
+            return Turned::On(KeyState::Code(0), row + 1, past);
         }
     }
     let next = turn(ranges, form, row, part[i]);
     match next {
-        Scanned::Found(q) => Turned::Found(q),
-        Scanned::On(after, q) => Turned::On(after, q, i + 1),
+        RowScanAnswer::Found(q) => Turned::Found(q),
+        RowScanAnswer::On(after, q) => Turned::On(after, q, i + 1),
     }
 }
 
 // A stretch of the text, from a row so far read, with its number.
-pub fn scan(ranges: &[u8], part: &[u8], form: Form, row: u32) -> Scanned
+pub fn scan(ranges: &[u8], part: &[u8], form: KeyState, row: u32) -> RowScanAnswer
     requires { ⌜ (length (now ranges) ≤ 2 * maxCuts) × (row + length (now part) < 4294967296) ⌝ }
     ensures { λ r. ⌜ (asScan r ≡ scanBytes (keyAutomaton (now (ranges .entry))) (now (part .entry)) form row)
         × (RowBetween row (length (now (part .entry))) (asScan r)) ⌝ }
@@ -125,7 +125,7 @@ pub fn scan(ranges: &[u8], part: &[u8], form: Form, row: u32) -> Scanned
         let next = advance(ranges, part, so_far, q, i);
         match next {
             Turned::Found(number) => {
-                return Scanned::Found(number);
+                return RowScanAnswer::Found(number);
             }
             Turned::On(after, number, place) => {
                 so_far = after;
@@ -134,5 +134,5 @@ pub fn scan(ranges: &[u8], part: &[u8], form: Form, row: u32) -> Scanned
             }
         }
     }
-    Scanned::On(so_far, q)
+    RowScanAnswer::On(so_far, q)
 }

@@ -7,15 +7,15 @@ use native.Mathlib.Omega.{arith}
 use lib.ListN.{length}
 use borrow.Author.Tests.{le-leb, lt-leb}
 use lib.Dec.{eqb}
-use Rattle.format.specs.Layout.{wordAt, layoutAt, headerLength, layout, longEnough, layoutOk, headerOk}
-use Rattle.format.specs.TreeReading.{readable}
-use Rattle.format.specs.LayoutLaws.{Readable, readable-facts}
+use Rattle.format.specs.Layout.{wordAt, layoutAt, headerLength, layout, holdsHeader, layoutOk, headerOk}
+use Rattle.format.specs.TreeReading.{headerResult}
+use Rattle.format.specs.LayoutLaws.{Readable, header-facts}
 use Rattle.layout.specs.declared.header.Header.{Header}
-use Rattle.layout.specs.declared.header.HeaderRead.the-variants.{Good, Refused}
+use Rattle.layout.specs.declared.header.HeaderAnswer.the-variants.{Good, Refused}
 use Rattle.layout.specs.declared.settings.Settings.{Settings}
-use Rattle.layout.specs.declared.settings.Checked.{Checked}
-use Rattle.layout.specs.declared.settings.Checked.the-variants as settings
-use Rattle.layout.specs.Header.{headerSays, settingsOf, settingsSay, fieldsOf}
+use Rattle.layout.specs.declared.settings.SettingsAnswer.{SettingsAnswer}
+use Rattle.layout.specs.declared.settings.SettingsAnswer.the-variants as settings
+use Rattle.layout.specs.Header.{headerAnswer, settingsOf, settingsSay, fieldsOf}
 
 -- What the settings of a header tell of question 7.
 fine-cases : (b : Bool) (s r : Settings) → settings.Fine s ≡ cond b (settings.Fine r) (settings.Refused 7) → (b ≡ true) × (s ≡ r)
@@ -35,8 +35,8 @@ unfolding settingsSay
 settings-refused t q e = refused-cases (headerOk t) q (settingsOf t) e
 
 module _ (t : List ℕ) where
-  pub asked-5 : length t < headerLength → Refused 5 ≡ headerSays t
-  unfolding headerSays readable longEnough
+  pub asked-5 : length t < headerLength → Refused 5 ≡ headerAnswer t
+  unfolding headerAnswer headerResult holdsHeader
   asked-5 h = rw (lt-leb headerLength (length t) h)
 
   module _ (long : headerLength ≤ length t) (v : ℕ) (is : v ≡ wordAt t layoutAt) where
@@ -44,22 +44,22 @@ module _ (t : List ℕ) where
     unfolding layoutOk layout
     layout-is = rw is
 
-    pub asked-6 : (eqb v 1 || eqb v 2) ≡ false → Refused 6 ≡ headerSays t
-    unfolding headerSays readable longEnough
+    pub asked-6 : (eqb v 1 || eqb v 2) ≡ false → Refused 6 ≡ headerAnswer t
+    unfolding headerAnswer headerResult holdsHeader
     asked-6 h = rw (le-leb headerLength (length t) long, sym layout-is ∙ h)
 
-    module _ (l : (eqb v 1 || eqb v 2) ≡ true) (x : Checked) (says : x ≡ settingsSay t) where
-      pub asked-7 : (q : ℕ) → x ≡ settings.Refused q → Refused 7 ≡ headerSays t
-      unfolding headerSays readable longEnough
+    module _ (l : (eqb v 1 || eqb v 2) ≡ true) (x : SettingsAnswer) (says : x ≡ settingsSay t) where
+      pub asked-7 : (q : ℕ) → x ≡ settings.Refused q → Refused 7 ≡ headerAnswer t
+      unfolding headerAnswer headerResult holdsHeader
       asked-7 q e = rw (le-leb headerLength (length t) long, sym layout-is ∙ l, settings-refused t q (sym e ∙ says))
 
       module _ (s : Settings) (e : x ≡ settings.Fine s) where
         pub asked-fields : Readable t × (s ≡ settingsOf t)
-        unfolding readable longEnough
+        unfolding headerResult holdsHeader
         asked-fields =
             let z = settings-fine t s (sym e ∙ says) in
-            (readable-facts t (rw (le-leb headerLength (length t) long, sym layout-is ∙ l, z .0)), z .1)
+            (header-facts t (rw (le-leb headerLength (length t) long, sym layout-is ∙ l, z .0)), z .1)
 
-        pub asked-all : (h : Header) → h ≡ fieldsOf t → Good h ≡ headerSays t
-        unfolding headerSays readable longEnough
+        pub asked-all : (h : Header) → h ≡ fieldsOf t → Good h ≡ headerAnswer t
+        unfolding headerAnswer headerResult holdsHeader
         asked-all h f = rw (le-leb headerLength (length t) long, sym layout-is ∙ l, settings-fine t s (sym e ∙ says) .0, f)

@@ -1,7 +1,7 @@
 mod HeaderQuestions
-pub mod Demands
+pub mod Theorems
 mod HeaderLaws
-mod QuestionSeven
+mod HeaderCheck
 mod RecordLaws
 mod SettingsLaws
 pub mod TestLoops

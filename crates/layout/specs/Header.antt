@@ -10,21 +10,21 @@ use Rattle.format.specs.Layout.{wordAt, pieces, maxLevels, maxCounted}
 use Rattle.format.specs.Layout.{layoutAt, textLengthAt, leafAt, arityAt, levelsAt, countedCountAt, countedAt, leafOffsetAt, leafCountAt, headerLength}
 use Rattle.format.specs.SizeLaws.{Bounds}
 use Rattle.format.specs.Layout as at
-use Rattle.format.specs.TreeReading.{readable}
+use Rattle.format.specs.TreeReading.{headerResult}
 use Rattle.layout.specs.declared.settings.Settings.{Settings}
-use Rattle.layout.specs.declared.settings.Checked.{Checked}
-use Rattle.layout.specs.declared.settings.Checked.the-variants as settings
-use Rattle.layout.specs.declared.settings.Checked.the-variants.{Fine}
+use Rattle.layout.specs.declared.settings.SettingsAnswer.{SettingsAnswer}
+use Rattle.layout.specs.declared.settings.SettingsAnswer.the-variants as settings
+use Rattle.layout.specs.declared.settings.SettingsAnswer.the-variants.{Fine}
 use Rattle.layout.specs.declared.header.Header.{Header}
-use Rattle.layout.specs.declared.header.HeaderRead.{HeaderRead}
-use Rattle.layout.specs.declared.header.HeaderRead.the-variants.{Good, Refused}
+use Rattle.layout.specs.declared.header.HeaderAnswer.{HeaderAnswer}
+use Rattle.layout.specs.declared.header.HeaderAnswer.the-variants.{Good, Refused}
 
 -- The settings in the words of the header.
 abbrev pub settingsOf : List ℕ → Settings
 settingsOf t = record { leaf = wordAt t leafAt; arity = wordAt t arityAt; levels = wordAt t levelsAt; counted = wordAt t countedCountAt }
 
 -- These settings, if question 7 passes.
-unfoldable pub settingsSay : List ℕ → Checked
+unfoldable pub settingsSay : List ℕ → SettingsAnswer
 settingsSay t = cond (at.headerOk t) (Fine (settingsOf t)) (settings.Refused 7)
 
 -- The words of the header, and the lengths of a level 0 block and of a record.
@@ -40,12 +40,12 @@ fieldsOf t = record {
 }
 
 -- The header, or the refusal.
-abbrev pub goodUnless : ℕ → Header → HeaderRead
+abbrev pub goodUnless : ℕ → Header → HeaderAnswer
 goodUnless zero h = Good h
 goodUnless (suc q) h = Refused (suc q)
 
-unfoldable pub headerSays : List ℕ → HeaderRead
-headerSays t = goodUnless (readable t) (fieldsOf t)
+unfoldable pub headerAnswer : List ℕ → HeaderAnswer
+headerAnswer t = goodUnless (headerResult t) (fieldsOf t)
 
 module _ (t : List ℕ) where
   -- The unused places for counted bytes are zero.

@@ -1,5 +1,5 @@
 pub mod CheckedSettings
 pub mod Header
-pub mod HeaderSays
+pub mod HeaderFields
 pub mod Record
 pub mod SettingsLevel

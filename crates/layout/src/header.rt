@@ -1,7 +1,7 @@
 // The header: questions 5 to 7.
 use crate::settings;
-use crate::settings::Checked;
 use crate::settings::Settings;
+use crate::settings::SettingsAnswer;
 use crate::word;
 ghost use mathlib.Core.Path.{_≡_};
 ghost use mathlib.Core.Bool.{_||_};
@@ -11,7 +11,7 @@ ghost use lib.Dec.{eqb};
 ghost use Rattle.format.specs.Layout.{maxLevels, maxCounted, headerLength, recordSize};
 ghost use Rattle.format.specs.SizeLaws.{maxRecord};
 ghost use Rattle.format.specs.LayoutLaws.{Readable};
-ghost use Rattle.layout.specs.Header.{headerSays, restRight, spareCounted, spareLevels, tablesMeet, HasSettings, settingsOf, settingsSay, fieldsOf};
+ghost use Rattle.layout.specs.Header.{headerAnswer, restRight, spareCounted, spareLevels, tablesMeet, HasSettings, settingsOf, settingsSay, fieldsOf};
 
 // Offsets in the header. Six words and the bytes for counted bytes.
 pub const LAYOUT_AT: usize = 0;
@@ -62,26 +62,26 @@ pub struct Header {
     pub record_size: u32,
 }
 
-pub enum HeaderRead {
+pub enum HeaderAnswer {
     Good(Header),
     Refused(u32),
 }
 
 // The header of any bytes, or the first of the questions 5, 6 and 7 that fails.
-pub fn read_header(t: &[u8]) -> HeaderRead
-    ensures { λ r. ⌜ r ≡ headerSays (now (t .entry)) ⌝ }
+pub fn read_header(t: &[u8]) -> HeaderAnswer
+    ensures { λ r. ⌜ r ≡ headerAnswer (now (t .entry)) ⌝ }
 {
     if t.len() < HEADER_LENGTH {
-        return HeaderRead::Refused(5);
+        return HeaderAnswer::Refused(5);
     }
     if !known(word::read(t, LAYOUT_AT)) {
-        return HeaderRead::Refused(6);
+        return HeaderAnswer::Refused(6);
     }
     let checked = header_settings(t);
-    let Checked::Fine(settings) = checked else {
-        return HeaderRead::Refused(7);
+    let SettingsAnswer::Fine(settings) = checked else {
+        return HeaderAnswer::Refused(7);
     };
-    HeaderRead::Good(fields(t, settings))
+    HeaderAnswer::Good(fields(t, settings))
 }
 
 // The layouts that are read.
@@ -112,17 +112,17 @@ fn fields(t: &[u8], settings: Settings) -> Header
 }
 
 // Question 7: the checked settings, if the whole header is right.
-fn header_settings(t: &[u8]) -> Checked
+fn header_settings(t: &[u8]) -> SettingsAnswer
     requires { ⌜ headerLength ≤ length (now t) ⌝ }
     ensures { λ r. ⌜ r ≡ settingsSay (now (t .entry)) ⌝ }
 {
     let n = word::read(t, TEXT_LENGTH_AT);
     if Settings::MAX_TEXT < n {
-        return Checked::Refused(7);
+        return SettingsAnswer::Refused(7);
     }
     let k = word::read(t, COUNTED_COUNT_AT) as usize;
     if Settings::MAX_COUNTED < k {
-        return Checked::Refused(7);
+        return SettingsAnswer::Refused(7);
     }
     let end = COUNTED_AT + k;
     let checked = Settings::new(
@@ -131,13 +131,13 @@ fn header_settings(t: &[u8]) -> Checked
         word::read(t, LEVELS_AT),
         &t[COUNTED_AT..end],
     );
-    let Checked::Fine(settings) = checked else {
-        return Checked::Refused(7);
+    let SettingsAnswer::Fine(settings) = checked else {
+        return SettingsAnswer::Refused(7);
     };
     if !rest_right(t, n, settings) {
-        return Checked::Refused(7);
+        return SettingsAnswer::Refused(7);
     }
-    Checked::Fine(settings)
+    SettingsAnswer::Fine(settings)
 }
 
 // The other conditions of question 7: unused places, the block count of level 0, offsets, and the length.

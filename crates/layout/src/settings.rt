@@ -25,7 +25,7 @@ pub struct Settings {
     pub counted: u32,
 }
 
-pub enum Checked {
+pub enum SettingsAnswer {
     Fine(Settings),
     Refused(u32),
 }
@@ -54,19 +54,19 @@ impl Settings {
     pub const EDGED: u32 = 2;
 
     // The settings, or the question that refuses them: 2 for m, r and H, 3 for the counted bytes.
-    pub fn new(leaf: u32, arity: u32, levels: u32, counted: &[u8]) -> Checked
+    pub fn new(leaf: u32, arity: u32, levels: u32, counted: &[u8]) -> SettingsAnswer
         ensures { λ r. ⌜ r ≡ checked leaf arity levels (now (counted .entry)) ⌝ }
     {
         if !sizes_fit(leaf, arity, levels) {
-            return Checked::Refused(2);
+            return SettingsAnswer::Refused(2);
         }
         if Settings::MAX_COUNTED < counted.len() {
-            return Checked::Refused(3);
+            return SettingsAnswer::Refused(3);
         }
         if !rises(counted) {
-            return Checked::Refused(3);
+            return SettingsAnswer::Refused(3);
         }
-        Checked::Fine(Settings {
+        SettingsAnswer::Fine(Settings {
             leaf,
             arity,
             levels,

@@ -2,4 +2,4 @@ pub mod WrittenLaws
 mod PutLaws
 mod LineLaws
 mod ListAnswerLaws
-pub mod Demands
+pub mod Theorems

@@ -11,15 +11,15 @@ use lib.Dec.{eqb, leb}
 use Rattle.text.specs.Text.{countBelow}
 use Rattle.format.specs.Layout.{maxLevels, headerLength}
 use Rattle.format.specs.Layout as at
-use Rattle.format.specs.TreeReading.{verdict}
-use Rattle.format.specs.VerdictLaws.{accepted-readable}
+use Rattle.format.specs.TreeReading.{checkResult}
+use Rattle.format.specs.CheckResultLaws.{accepted-header}
 use Rattle.layout.specs.Record.{FieldIn, field-in}
-use Rattle.layout.specs.Header.{headerSays}
-use Rattle.layout.specs.HeaderSays.{HeaderOf, header-refused}
+use Rattle.layout.specs.Header.{headerAnswer}
+use Rattle.layout.specs.HeaderFields.{HeaderOf, header-refused}
 use Rattle.layout.specs.declared.header.Header.{Header}
-use Rattle.layout.specs.declared.header.HeaderRead.{HeaderRead}
-use Rattle.layout.specs.declared.header.HeaderRead.the-variants as header
-use Rattle.list_lines.specs.ListedLines.{Put, figure, line, levelLine, linesBelow, refusedLine, linesOf, maxInput, inputNumber, printed, maxFigure}
+use Rattle.layout.specs.declared.header.HeaderAnswer.{HeaderAnswer}
+use Rattle.layout.specs.declared.header.HeaderAnswer.the-variants as header
+use Rattle.list_lines.specs.ListedLines.{ListPut, figure, line, levelLine, linesBelow, refusedLine, linesOf, maxInput, listRefusal, printed, maxFigure}
 use Rattle.list_lines.specs.LevelTable.{hasKind, maxRefused, Level}
 use Rattle.list_lines.specs.ListedLines.{maxLine, maxLines}
 use Rattle.list_lines.proofs.WrittenLaws.{then-put, put-nothing, put-within}
@@ -32,9 +32,9 @@ same-one a b e = rw (eq-eqb a b e)
 pub other-none : (a b : ℕ) → (a ≡ b → ⊥) → _≡_ {A = ℕ} 0 (cond (eqb a b) 1 0)
 other-none a b n = rw (ne-eqb a b n)
 
-pub count-none : (p : ℕ → Bool) → 0 ≡ countBelow 0 p
+pub list-count-none : (p : ℕ → Bool) → 0 ≡ countBelow 0 p
 unfolding countBelow
-count-none p = refl
+list-count-none p = refl
 
 more : (b : Bool) (n : ℕ) → cond b (n + 1) n ≡ n + cond b 1 0
 more true n = refl
@@ -47,22 +47,22 @@ count-more t l k i found kind one e q w = rw (add-one, e, w, q) (sym (more (hasK
 
 module _ (t : List ℕ) (size l : ℕ) (k : Level t size l) where
   pub table-there : (l < maxLevels) × (headerLength ≤ length t)
-  table-there = (omega (arith, k .level-in, k .readable .bounds .levels-high), k .readable .long)
+  table-there = (omega (arith, k .level-in, k .header-read .bounds .levels-high), k .header-read .long)
 
   pub kind-there : (i : ℕ) → i < at.levelCount t l → FieldIn t size l i 1
-  kind-there i h = field-in t (k .readable) size l i 1 (k .size-is) (k .level-in) h (omega arith)
+  kind-there i h = field-in t (k .header-read) size l i 1 (k .size-is) (k .level-in) h (omega arith)
 
 -- The lines.
 
 pub line-put : {d e₁ e₂ e₃ e₄ : List ℕ} {from m₁ m₂ m₃ end : ℕ} (a b c f : ℕ)
-    → from + maxLine ≤ length d → Put d e₁ from m₁ (figure a 32) maxFigure → Put e₁ e₂ m₁ m₂ (figure b 32) maxFigure
-    → Put e₂ e₃ m₂ m₃ (figure c 32) maxFigure → Put e₃ e₄ m₃ end (figure f 10) maxFigure → Put d e₄ from end (line a b c f) maxLine
+    → from + maxLine ≤ length d → ListPut d e₁ from m₁ (figure a 32) maxFigure → ListPut e₁ e₂ m₁ m₂ (figure b 32) maxFigure
+    → ListPut e₂ e₃ m₂ m₃ (figure c 32) maxFigure → ListPut e₃ e₄ m₃ end (figure f 10) maxFigure → ListPut d e₄ from end (line a b c f) maxLine
 unfolding line
 line-put a b c f h p q r s = then-put (omega arith) (then-put (omega arith) (then-put (omega arith) p q) r) s
 
 pub refused-put : {d e f : List ℕ} {mid end : ℕ} (number : ℕ)
-    → maxRefused ≤ length d → Put d e 0 mid (114 ∷ 101 ∷ 102 ∷ 117 ∷ 115 ∷ 101 ∷ 100 ∷ 32 ∷ []) 8 → Put e f mid end (figure number 10) maxFigure
-    → Put d f 0 end (refusedLine number) maxRefused
+    → maxRefused ≤ length d → ListPut d e 0 mid (114 ∷ 101 ∷ 102 ∷ 117 ∷ 115 ∷ 101 ∷ 100 ∷ 32 ∷ []) 8 → ListPut e f mid end (figure number 10) maxFigure
+    → ListPut d f 0 end (refusedLine number) maxRefused
 unfolding refusedLine
 refused-put number h p q = then-put (omega arith) p q
 
@@ -70,18 +70,18 @@ module _ (t : List ℕ) where
   pub level-put : {d e : List ℕ} {from end : ℕ} (l blocks kept pointing : ℕ)
       → blocks ≡ at.levelCount t l → kept ≡ countBelow (at.levelCount t l) (hasKind t l 0)
       → pointing ≡ countBelow (at.levelCount t l) (hasKind t l 1)
-      → Put d e from end (line l blocks kept pointing) maxLine → Put d e from end (levelLine t l) maxLine
+      → ListPut d e from end (line l blocks kept pointing) maxLine → ListPut d e from end (levelLine t l) maxLine
   unfolding levelLine at.isKept at.isPointing
   level-put l blocks kept pointing b k p w = rw (b, k, p) at w
 
   -- The levels' lines, one more with each turn.
-  pub no-lines : (d : List ℕ) → Put d d 0 0 (linesBelow t 0) (maxLine * 0)
+  pub no-lines : (d : List ℕ) → ListPut d d 0 0 (linesBelow t 0) (maxLine * 0)
   unfolding linesBelow
   no-lines d = put-nothing d
 
   pub lines-more : {d e f : List ℕ} {mid end : ℕ} (l : ℕ)
-      → maxLine * l + maxLine ≤ length d → Put d e 0 mid (linesBelow t l) (maxLine * l) → Put e f mid end (levelLine t l) maxLine
-      → Put d f 0 end (linesBelow t (l + 1)) (maxLine * (l + 1))
+      → maxLine * l + maxLine ≤ length d → ListPut d e 0 mid (linesBelow t l) (maxLine * l) → ListPut e f mid end (levelLine t l) maxLine
+      → ListPut d f 0 end (linesBelow t (l + 1)) (maxLine * (l + 1))
   unfolding linesBelow
   lines-more l h p q = rw add-one (put-within (maxLine * suc l) (omega arith) (then-put (omega arith) p q))
 
@@ -93,24 +93,24 @@ module _ (t : List ℕ) where
     levels-few = omega (arith, k .levels-is, k .facts .bounds .levels-high)
 
     pub level-there : (l : ℕ) → l < count → Level t (h .«record_size») l
-    level-there l low = record { readable = k .facts; size-is = k .size-is; level-in = omega (arith, k .levels-is) }
+    level-there l low = record { header-read = k .facts; size-is = k .size-is; level-in = omega (arith, k .levels-is) }
 
     pub lines-done : {d e : List ℕ} {end : ℕ} (l : ℕ)
-        → l ≤ count → count ≤ l → Put d e 0 end (linesBelow t l) (maxLine * l) → Put d e 0 end (linesBelow t (at.settings t .levels)) maxLines
+        → l ≤ count → count ≤ l → ListPut d e 0 end (linesBelow t l) (maxLine * l) → ListPut d e 0 end (linesBelow t (at.settings t .levels)) maxLines
     lines-done l a b p = let q : l ≡ at.settings t .levels = omega (arith, k .levels-is) in put-within maxLines (omega (arith, levels-few)) (rw q at p)
 
   -- Question 15 first, then the check's.
-  pub input-long : maxInput < length t → 15 ≡ inputNumber t
-  unfolding inputNumber
+  pub input-long : maxInput < length t → 15 ≡ listRefusal t
+  unfolding listRefusal
   input-long h = rw (lt-leb (length t) maxInput h)
 
-  pub input-short : length t ≤ maxInput → verdict t ≡ inputNumber t
-  unfolding inputNumber
+  pub input-short : length t ≤ maxInput → checkResult t ≡ listRefusal t
+  unfolding listRefusal
   input-short h = rw (le-leb (length t) maxInput h)
 
   -- The number decides what is printed.
   pub print-refused : {d e : List ℕ} {end : ℕ} (n : ℕ)
-      → n ≡ inputNumber t → (n ≡ 0 → ⊥) → Put d e 0 end (refusedLine n) maxRefused → Put d e 0 end (printed t) maxLines
+      → n ≡ listRefusal t → (n ≡ 0 → ⊥) → ListPut d e 0 end (refusedLine n) maxRefused → ListPut d e 0 end (printed t) maxLines
   unfolding printed
   print-refused n is m p = put-within maxLines (omega arith) (rw (lines-of n m ∙ ap (λ (x : ℕ). linesOf x t) is) at p)
     where
@@ -118,8 +118,8 @@ module _ (t : List ℕ) where
       lines-of zero m = absurd (m refl)
       lines-of (suc x) m = refl
 
-  module _ (passed : inputNumber t ≡ 0) where
-    pub print-lines : {d e : List ℕ} {end : ℕ} → Put d e 0 end (linesBelow t (at.settings t .levels)) maxLines → Put d e 0 end (printed t) maxLines
+  module _ (passed : listRefusal t ≡ 0) where
+    pub print-lines : {d e : List ℕ} {end : ℕ} → ListPut d e 0 end (linesBelow t (at.settings t .levels)) maxLines → ListPut d e 0 end (printed t) maxLines
     unfolding printed
     print-lines p = rw (ap (λ (x : ℕ). linesOf x t) (sym passed)) at p
 
@@ -127,13 +127,13 @@ module _ (t : List ℕ) where
     passes true v e = e
     passes false v e = absurd (let z : ⊥ = omega arith in z)
 
-    accepted : verdict t ≡ 0
-    unfolding inputNumber
-    accepted = passes (leb (length t) maxInput) (verdict t) passed
+    accepted : checkResult t ≡ 0
+    unfolding listRefusal
+    accepted = passes (leb (length t) maxInput) (checkResult t) passed
 
     -- The header of an accepted tree is not refused.
-    pub never-refused : (x : HeaderRead) → x ≡ headerSays t → (q : ℕ) → x ≡ header.Refused q → ⊥
-    never-refused x is q e = let z = header-refused t x is q e in omega (arith, z .1, accepted-readable t accepted)
+    pub never-refused : (x : HeaderAnswer) → x ≡ headerAnswer t → (q : ℕ) → x ≡ header.Refused q → ⊥
+    never-refused x is q e = let z = header-refused t x is q e in omega (arith, z .1, accepted-header t accepted)
 
 pub count-done : (p : ℕ → Bool) (i count n found : ℕ) → i ≤ count → count ≤ i → count ≡ n → found ≡ countBelow i p → found ≡ countBelow n p
 count-done p i count n found a b e f = let q : i ≡ n = omega arith in rw q at f

@@ -9,7 +9,7 @@ use borrow.Author.Tests.{lt-ltb, le-ltb}
 use lib.ListN.{length, set, length-append}
 use Rattle.text.specs.ListLaws.{lt-or-ge}
 use Rattle.io.specs.Digits.{digits, glyph, Fewest}
-use Rattle.list_lines.specs.ListedLines.{digitsWithin, decimal, figure, maxFigure, Put}
+use Rattle.list_lines.specs.ListedLines.{digitsWithin, decimal, figure, maxFigure, ListPut}
 use Rattle.list_lines.proofs.WrittenLaws.{then-put, length-put, put-byte}
 
 -- More than ten digits make 10 ^ 10 or more.
@@ -33,23 +33,23 @@ unfolding digitsWithin
 one-digit zero n h = refl
 one-digit (suc more) n h = rw (lt-ltb n 10 h)
 
-within : (k more n : ℕ) → n < 10 ^ suc k → (0 < k → 10 ^ k ≤ n) → k ≤ more → digits 10 (suc k) n ≡ digitsWithin more n
+list-within : (k more n : ℕ) → n < 10 ^ suc k → (0 < k → 10 ^ k ≤ n) → k ≤ more → digits 10 (suc k) n ≡ digitsWithin more n
 unfolding digitsWithin
-within zero more n h l m =
+list-within zero more n h l m =
     let small : n < 10 = h in
     rw (mod-eq-of-lt small, last-digit n small) (one-digit more n small)
-within (suc k) zero n h l m = absurd (let z : ⊥ = omega arith in z)
-within (suc k) (suc more) n h l m =
+list-within (suc k) zero n h l m = absurd (let z : ⊥ = omega arith in z)
+list-within (suc k) (suc more) n h l m =
     let high : 10 ^ suc k ≤ n = l (omega arith) in
     let ten : 10 ≤ n = omega (arith, pow-suc 10 k, one-le-pow k 10 (omega arith)) in
     let low : 10 ^ k ≤ n / 10 = le-div-iff-mul-le {k = 10} {x = 10 ^ k} {y = n} (omega arith) .1 (rw (pow-suc 10 k) at high) in
     let top : n / 10 < 10 ^ suc k = div-lt-iff-lt-mul {k = 10} {x = n} {y = 10 ^ suc k} (omega arith) .1 (rw (pow-suc 10 (suc k)) at h) in
-    rw (le-ltb n 10 ten, last-digit (n % 10) (mod-lt n (omega arith)), within k more (n / 10) top (λ _. low) (omega arith))
+    rw (le-ltb n 10 ten, last-digit (n % 10) (mod-lt n (omega arith)), list-within k more (n / 10) top (λ _. low) (omega arith))
 
 pub digits-are : (n k : ℕ) → Fewest 10 1 n k → digits 10 k n ≡ decimal n
 unfolding decimal
 digits-are n zero f = absurd (let z : ⊥ = omega (arith, f .0) in z)
-digits-are n (suc k) f = within k n n (f .1) high (go (lt-or-ge 0 k))
+digits-are n (suc k) f = list-within k n n (f .1) high (go (lt-or-ge 0 k))
   where
     high : 0 < k → 10 ^ k ≤ n
     high h = let e : suc k - 1 ≡ k = omega arith in rw e at (f .2 (omega arith))
@@ -67,14 +67,14 @@ module _ (n k : ℕ) (s : List ℕ) (small : n < 4294967296) (f : Fewest 10 1 n 
   pub digits-fit : length s ≤ 10
   digits-fit = omega (arith, ap length e, length-digits n k, few-digits n k small f)
 
-  pub number-put : {d o : List ℕ} {at r : ℕ} → Put d o at r s (length s) → Put d o at r (decimal n) 10
+  pub number-put : {d o : List ℕ} {at r : ℕ} → ListPut d o at r s (length s) → ListPut d o at r (decimal n) 10
   number-put {d} {o} {at} {r} w =
       let same : s ≡ decimal n = e ∙ digits-are n k f in
       record { bytes = rw same at (w .bytes); after = rw same at (w .after); short = omega (arith, w .short, digits-fit) }
 
 -- A number with the byte after it.
 pub figure-put : {d o : List ℕ} {at r : ℕ} (n after : ℕ)
-    → at + maxFigure ≤ length d → Put d o at r (decimal n) 10 → Put d (set o r after) at (r + 1) (figure n after) maxFigure
+    → at + maxFigure ≤ length d → ListPut d o at r (decimal n) 10 → ListPut d (set o r after) at (r + 1) (figure n after) maxFigure
 unfolding figure
 figure-put {d} {o} {at} {r} n after h w =
     then-put (omega arith) w (put-byte o r after (omega (arith, w .short, length-put (omega arith) w)))

@@ -20,6 +20,6 @@ maxRefused = 8 + maxFigure
 
 -- A level of a tree that passes questions 5 to 7.
 pub record Level (t : List ℕ) (size level : ℕ) : Type 0 where
-  pub readable : Readable t
+  pub header-read : Readable t
   pub size-is : size ≡ recordSize t
   pub level-in : level < settings t .levels

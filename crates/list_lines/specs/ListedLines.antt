@@ -9,20 +9,20 @@ use lib.Dec.{leb, ltb, eqb}
 use Rattle.text.specs.Text.{countBelow}
 use Rattle.format.specs.Layout.{maxLevels}
 use Rattle.format.specs.Layout as at
-use Rattle.format.specs.TreeReading.{verdict, asks, orNext}
-use Rattle.format.specs.Answers.{Said, unless, Reply, figures, refusal, Is}
-use Rattle.list_lines.specs.declared.Listed.{Listed}
-use Rattle.list_lines.specs.declared.Listed.the-variants.{Bytes, Refused}
+use Rattle.format.specs.TreeReading.{checkResult, asks, orNext}
+use Rattle.format.specs.Answers.{Answer, unless, Reply, figures, refusal, Is}
+use Rattle.list_lines.specs.declared.ListAnswer.{ListAnswer}
+use Rattle.list_lines.specs.declared.ListAnswer.the-variants.{Bytes, Refused}
 
 -- A buffer after bytes were written to it.
 
 -- The buffer d with the bytes s written from place `at` on.
-unfoldable pub written : List ℕ → ℕ → List ℕ → List ℕ
-written d at s = take at d ++ s ++ drop (at + length s) d
+unfoldable pub list-written : List ℕ → ℕ → List ℕ → List ℕ
+list-written d at s = take at d ++ s ++ drop (at + length s) d
 
 -- Writing s at `at` turns the buffer d into e. The next free place is `end`, at most `most` after `at`.
-pub record Put (d e : List ℕ) (at end : ℕ) (s : List ℕ) (most : ℕ) : Type 0 where
-  pub bytes : e ≡ written d at s
+pub record ListPut (d e : List ℕ) (at end : ℕ) (s : List ℕ) (most : ℕ) : Type 0 where
+  pub bytes : e ≡ list-written d at s
   pub after : end ≡ at + length s
   pub short : end ≤ at + most
 
@@ -79,8 +79,8 @@ abbrev pub maxLines : ℕ
 maxLines = maxLevels * maxLine
 
 -- Question 15, then the check's.
-unfoldable pub inputNumber : List ℕ → ℕ
-inputNumber input = cond (leb (length input) maxInput) (verdict input) 15
+unfoldable pub listRefusal : List ℕ → ℕ
+listRefusal input = cond (leb (length input) maxInput) (checkResult input) 15
 
 -- The lines of all levels, or the line of a refused tree if the number is not 0.
 abbrev pub linesOf : ℕ → List ℕ → List ℕ
@@ -89,27 +89,27 @@ linesOf (suc q) t = refusedLine (suc q)
 
 -- What the list program prints for any input.
 unfoldable pub printed : List ℕ → List ℕ
-printed input = linesOf (inputNumber input) input
+printed input = linesOf (listRefusal input) input
 
 -- What list returns, and what the caller's buffer contains afterwards.
 -- docs/FORMAT.md: "The list program".
 
 -- The refusal: questions 15 and 5 to 9, then 13 if the buffer is too short for the lines.
 unfoldable pub listRefusal : List ℕ → ℕ → ℕ
-listRefusal t room = orNext (inputNumber t) (asks ((13, leb (length (printed t)) room) ∷ []))
+listRefusal t room = orNext (listRefusal t) (asks ((13, leb (length (printed t)) room) ∷ []))
 
 -- The length of the lines, or the refusal.
-unfoldable pub listSays : List ℕ → ℕ → Said
-listSays t room = unless (listRefusal t room) (record { number = 0; value = length (printed t); entered = 0 })
+unfoldable pub listAnswer : List ℕ → ℕ → Answer
+listAnswer t room = unless (listRefusal t room) (record { number = 0; value = length (printed t); entered = 0 })
 
 -- The answer by its number and length.
-abbrev pub listReply : Listed → Reply
+abbrev pub listReply : ListAnswer → Reply
 listReply (Bytes size) = figures size 0
 listReply (Refused number) = refusal number
 
-abbrev pub ListAnswer : (t : List ℕ) (room : ℕ) → Listed → Type 0
-ListAnswer t room = Is listReply (listSays t room)
+abbrev pub IsListAnswer : (t : List ℕ) (room : ℕ) → ListAnswer → Type 0
+IsListAnswer t room = Is listReply (listAnswer t room)
 
 -- The buffer afterwards: the lines at its start; unchanged if refused.
-unfoldable pub listLeaves : List ℕ → List ℕ → List ℕ
-listLeaves t out = cond (eqb (listRefusal t (length out)) 0) (printed t ++ drop (length (printed t)) out) out
+unfoldable pub listBuffer : List ℕ → List ℕ → List ℕ
+listBuffer t out = cond (eqb (listRefusal t (length out)) 0) (printed t ++ drop (length (printed t)) out) out

@@ -8,12 +8,12 @@ use native.Mathlib.Nat.{sub-zero}
 use borrow.Author.Tests.{le-leb, lt-leb, ne-eqb}
 use lib.ListN.{length, drop, replicate}
 use Rattle.format.specs.Layout as at
-use Rattle.format.specs.TreeReading.{textOf, ask, readable}
-use Rattle.format.specs.Answers.{pathsHold, leavesSpan}
-use Rattle.layout.specs.declared.header.HeaderRead.{HeaderRead}
-use Rattle.layout.specs.declared.header.HeaderRead.the-variants as read
-use Rattle.layout.specs.Header.{headerSays}
-use Rattle.layout.specs.HeaderSays.{header-refused, readable-small}
+use Rattle.format.specs.TreeReading.{textOf, ask, headerResult}
+use Rattle.format.specs.Answers.{pathsHold, bufferAfter}
+use Rattle.layout.specs.declared.header.HeaderAnswer.{HeaderAnswer}
+use Rattle.layout.specs.declared.header.HeaderAnswer.the-variants as read
+use Rattle.layout.specs.Header.{headerAnswer}
+use Rattle.layout.specs.HeaderFields.{header-refused, header-small}
 use Rattle.sha256.specs.declared.HashState.{HashState}
 use Rattle.sha256.specs.Sha256.{stateBytes, hashOf, sha256}
 use Rattle.query_digest.specs.declared.HashAnswer.{HashAnswer}
@@ -28,17 +28,17 @@ module _ (t out : List ℕ) where
 
   -- Any refusal but 14 leaves the buffer unchanged.
   stays : (n : ℕ) → digestRefusal t (length out) ≡ suc n → (suc n ≡ 14 → ⊥) → DigestResult (suc n) out
-  unfolding digestBuffer leavesSpan
+  unfolding digestBuffer bufferAfter
   stays n e other = (sym e, rw (e, ne-eqb (suc n) 0 (λ z. omega arith), ne-eqb (suc n) 14 other))
 
-  pub unread : (x : HeaderRead) → x ≡ headerSays t → (q : ℕ) → x ≡ read.Refused q → DigestResult q out
+  pub unread : (x : HeaderAnswer) → x ≡ headerAnswer t → (q : ℕ) → x ≡ read.Refused q → DigestResult q out
   unfolding digestRefusal
   unread x is q e =
       let z = header-refused t x is q e in
-      let n : digestRefusal t (length out) ≡ suc (z .0) = rw (ne-eqb (readable t) 0 (λ y. omega (arith, z .1))) (z .1) in
-      rw (z .2) (stays (z .0) n (λ y. omega (arith, readable-small t, z .1)))
+      let n : digestRefusal t (length out) ≡ suc (z .0) = rw (ne-eqb (headerResult t) 0 (λ y. omega (arith, z .1))) (z .1) in
+      rw (z .2) (stays (z .0) n (λ y. omega (arith, header-small t, z .1)))
 
-  module _ (passes : readable t ≡ 0) where
+  module _ (passes : headerResult t ≡ 0) where
     pub short : length out < 32 → DigestResult 13 out
     unfolding digestRefusal
     short l = stays 12 (rw (passes, lt-leb 32 (length out) l)) (λ z. omega arith)
@@ -53,7 +53,7 @@ module _ (t out : List ℕ) where
       whole = let z = sub-zero (at.textLength t) in rw z at x-is
 
       pub broken : x ≡ BrokenPath → (after : List ℕ) → after ≡ replicate 32 0 ++ drop 32 out → DigestResult 14 after
-      unfolding digestBuffer leavesSpan
+      unfolding digestBuffer bufferAfter
       broken e after is =
           let b = none (pathsHold t 0 (at.textLength t)) (sym e ∙ whole) in
           let n : digestRefusal t (length out) ≡ 14 = asked ∙ rw b in
@@ -64,7 +64,7 @@ module _ (t out : List ℕ) where
           none false e = refl
 
       pub answered : (v : HashState) → x ≡ Value v → (after : List ℕ) → after ≡ stateBytes v ++ drop 32 out → DigestResult 0 after
-      unfolding digestBuffer leavesSpan sha256
+      unfolding digestBuffer bufferAfter sha256
       answered v e after is =
           let b = all (pathsHold t 0 (at.textLength t)) (sym e ∙ whole) in
           let n : digestRefusal t (length out) ≡ 0 = asked ∙ rw (b .0) in

@@ -11,16 +11,16 @@ use Rattle.text.specs.Text.{tabulate}
 use Rattle.text.specs.ListLaws.{bool-clash, length-tabulate, getD-tabulate}
 use Rattle.format.specs.Layout as at
 use Rattle.format.specs.TreeReading.{textOf, ask}
-use Rattle.format.specs.Answers.{Said, replied, byteSays, pathsHold, asksSpan, leavesSpan, copyNumber, copySays, copyLeaves}
-use Rattle.format.specs.SaidLaws.{unless-number}
+use Rattle.format.specs.Answers.{Answer, replied, byteAnswer, pathsHold, spanQuestions, bufferAfter, copyRefusal, copyAnswer, copyBuffer}
+use Rattle.format.specs.AnswerLaws.{unless-number}
 use Rattle.theory_paths.specs.OneText.{text-length}
 use Rattle.theory_paths.specs.PlaceBytes.{hold-at, holds-split, byte-text}
 use Rattle.layout.specs.declared.header.Header.{Header}
-use Rattle.layout.specs.HeaderSays.{HeaderOf}
-use Rattle.ask_access.specs.declared.Copied.{Copied}
-use Rattle.ask_access.specs.declared.Copied.the-variants.{Bytes, Refused}
-use Rattle.ask_access.specs.ReadAnswers.{copiedReply}
-use Rattle.ask_access.specs.ReadByRuns.{CopyAnswer}
+use Rattle.layout.specs.HeaderFields.{HeaderOf}
+use Rattle.query_access.specs.declared.SpanAnswer.{SpanAnswer}
+use Rattle.query_access.specs.declared.SpanAnswer.the-variants.{Bytes, Refused}
+use Rattle.query_access.specs.ReadAnswers.{spanReply}
+use Rattle.query_access.specs.ReadByRuns.{IsCopyAnswer}
 use Rattle.sha256.specs.declared.HashState.{HashState}
 use Rattle.sha256.specs.Sha256.{initialState, padding, stateAfter, hashOf}
 use Rattle.sha256.specs.Sha256Laws.{state-continued, hash-by-parts}
@@ -38,27 +38,27 @@ asked-broken true q l e = absurd (let z : ⊥ = omega arith in z)
 asked-broken false q l e = refl
 
 module _ (t : List ℕ) (h : Header) (k : HeaderOf t h) (p len : ℕ) (low : p + len ≤ h .«text_length») (d after : List ℕ) (room : len ≤ length d)
-    (r : Copied) (a : CopyAnswer t p len (length d) r) (after-is : after ≡ copyLeaves t p len d) where
-  number-is : copyNumber t p len (length d) ≡ ask 14 (pathsHold t p len) 0
-  unfolding copyNumber asksSpan
+    (r : SpanAnswer) (a : IsCopyAnswer t p len (length d) r) (after-is : after ≡ copyBuffer t p len d) where
+  number-is : copyRefusal t p len (length d) ≡ ask 14 (pathsHold t p len) 0
+  unfolding copyRefusal spanQuestions
   number-is = rw (k .passes, le-leb (p + len) (at.textLength t) (omega (arith, k .length-is)), le-leb len (length d) room)
 
-  said-is : replied (copiedReply r) .number ≡ ask 14 (pathsHold t p len) 0
-  unfolding copySays
-  said-is = ap (λ (s : Said). s .number) (a .says)
-      ∙ unless-number (copyNumber t p len (length d)) (record { number = 0; value = len; entered = 0 }) refl ∙ number-is
+  said-is : replied (spanReply r) .number ≡ ask 14 (pathsHold t p len) 0
+  unfolding copyAnswer
+  said-is = ap (λ (s : Answer). s .number) (a .answers)
+      ∙ unless-number (copyRefusal t p len (length d)) (record { number = 0; value = len; entered = 0 }) refl ∙ number-is
 
   module _ (n e : ℕ) (is : r ≡ Bytes n e) where
     hold : pathsHold t p len ≡ true
-    hold = asked-good (pathsHold t p len) (sym (ap (λ (x : Copied). replied (copiedReply x) .number) is) ∙ said-is)
+    hold = asked-good (pathsHold t p len) (sym (ap (λ (x : SpanAnswer). replied (spanReply x) .number) is) ∙ said-is)
 
-    left : after ≡ tabulate len (λ x. byteSays t (p + x) .value) ++ drop len d
-    unfolding copyLeaves leavesSpan
-    left = let z : copyNumber t p len (length d) ≡ 0 = number-is ∙ rw hold in after-is ∙ rw z
+    left : after ≡ tabulate len (λ x. byteAnswer t (p + x) .value) ++ drop len d
+    unfolding copyBuffer bufferAfter
+    left = let z : copyRefusal t p len (length d) ≡ 0 = number-is ∙ rw hold in after-is ∙ rw z
 
     pub part-read : PartRead t p len true after
     part-read =
-        let f : ℕ → ℕ = λ x. byteSays t (p + x) .value in record {
+        let f : ℕ → ℕ = λ x. byteAnswer t (p + x) .value in record {
           holds = sym hold;
           bytes = λ y x l. rw left
               (List·getD-append (tabulate len f) (drop len d) 0 x (rw (length-tabulate len f) l) ∙ getD-tabulate len f x 0 l
@@ -68,7 +68,7 @@ module _ (t : List ℕ) (h : Header) (k : HeaderOf t h) (p len : ℕ) (low : p +
   pub part-broken : (q : ℕ) → r ≡ Refused q → PartRead t p len false after
   part-broken q is =
       let pos : 1 ≤ q = rw is at (a .numbered) in
-      let b = asked-broken (pathsHold t p len) q pos (sym (ap (λ (x : Copied). replied (copiedReply x) .number) is) ∙ said-is) in
+      let b = asked-broken (pathsHold t p len) q pos (sym (ap (λ (x : SpanAnswer). replied (spanReply x) .number) is) ∙ said-is) in
       record { holds = sym b; bytes = λ y. bool-clash false y refl }
 
 -- Parts hashed one after the other.

@@ -1,15 +1,15 @@
 // digest: the SHA-256 of the text of a tree, for any bytes given as a tree.
-use ask_access::Copied;
-use ask_access::read_by_header;
 use layout::header;
 use layout::header::Header;
-use layout::header::HeaderRead;
+use layout::header::HeaderAnswer;
 use layout::place::TextPlace;
+use query_access::SpanAnswer;
+use query_access::read_by_header;
 use sha256::HashState;
 ghost use mathlib.Core.Path.{_≡_};
 ghost use Prim.Native.Nat.{_+_, _-_, _≤_, _<_};
 ghost use lib.ListN.{length};
-ghost use Rattle.layout.specs.HeaderSays.{HeaderOf};
+ghost use Rattle.layout.specs.HeaderFields.{HeaderOf};
 ghost use Rattle.query_digest.specs.Digest.{digestRefusal, digestBuffer};
 ghost use Rattle.query_digest.specs.TextHashed.{hashAnswer, PartRead, HashedUpTo};
 
@@ -31,8 +31,8 @@ pub fn digest(t: &[u8], out: &mut [u8]) -> u32
 {
     let read = header::read_header(t);
     match read {
-        HeaderRead::Good(h) => digest_at(t, h, out),
-        HeaderRead::Refused(number) => number,
+        HeaderAnswer::Good(h) => digest_at(t, h, out),
+        HeaderAnswer::Refused(number) => number,
     }
 }
 
@@ -47,7 +47,7 @@ fn digest_at(t: &[u8], h: Header, out: &mut [u8]) -> u32
     }
     let hashed = hash(t, h);
     let HashAnswer::Value(value) = hashed else {
-        stretches::clear(out, 32);
+        byte_slices::clear(out, 32);
         return 14;
     };
     sha256::write_state(value, out);
@@ -103,7 +103,7 @@ fn read_part(t: &[u8], h: Header, at: u32, len: u32, part: &mut [u8]) -> bool
 {
     let copied = read_by_header::copy(t, h, TextPlace(at), len, part);
     match copied {
-        Copied::Bytes(_, _) => true,
-        Copied::Refused(_) => false,
+        SpanAnswer::Bytes(_, _) => true,
+        SpanAnswer::Refused(_) => false,
     }
 }

@@ -1,2 +1,2 @@
 pub mod PrefixSearchLaws
-pub mod Demands
+pub mod Theorems

@@ -5,11 +5,11 @@ use Prim.Native.Nat.{ℕ, _≤_, _<_}
 use native.Mathlib.Omega.{arith}
 use lib.ListN.{length}
 use borrow.Author.Tests.{le-leb, lt-leb}
-use Rattle.format.specs.TreeReading.{readable}
-use Rattle.layout.specs.declared.header.HeaderRead.{HeaderRead}
-use Rattle.layout.specs.declared.header.HeaderRead.the-variants as read
-use Rattle.layout.specs.Header.{headerSays}
-use Rattle.ask_patterns.specs.Places.{maxPattern, patternOk}
+use Rattle.format.specs.TreeReading.{headerResult}
+use Rattle.layout.specs.declared.header.HeaderAnswer.{HeaderAnswer}
+use Rattle.layout.specs.declared.header.HeaderAnswer.the-variants as read
+use Rattle.layout.specs.Header.{headerAnswer}
+use Rattle.query_places.specs.Places.{maxPattern, patternOk}
 use Rattle.query_row_filter.specs.declared.NextRowAnswer.{NextRowAnswer}
 use Rattle.query_row_filter.specs.declared.NextRowAnswer.the-variants.{Refused}
 use Rattle.query_row_filter.specs.AllowedRows.{newlineRefusal, queryRefusal, AllowedAnswer}
@@ -17,11 +17,11 @@ use Rattle.query_row_filter.proofs.AllowedAnswerLaws.{ask-unread, ask-bad, ask-
 use Rattle.row_filter.specs.SelectedRows.{startsWith}
 
 module _ (t : List ℕ) (ok : ℕ) (prefix : List ℕ) (mark : ℕ) where
-  pub prefix-unread : (x : HeaderRead) → x ≡ headerSays t → (q : ℕ) → x ≡ read.Refused q
+  pub prefix-unread : (x : HeaderAnswer) → x ≡ headerAnswer t → (q : ℕ) → x ≡ read.Refused q
       → AllowedAnswer t ok (queryRefusal t 16 (patternOk prefix)) (startsWith prefix) mark (Refused q)
   prefix-unread x is q e = ask-unread t ok (startsWith prefix) mark 16 (patternOk prefix) x is q e
 
-  module _ (pass : readable t ≡ 0) where
+  module _ (pass : headerResult t ≡ 0) where
     pub prefix-short : length prefix < 1 → AllowedAnswer t ok (queryRefusal t 16 (patternOk prefix)) (startsWith prefix) mark (Refused 16)
     unfolding patternOk
     prefix-short h = ask-bad t ok (startsWith prefix) mark 16 (patternOk prefix) pass (rw (lt-leb 1 (length prefix) h)) (omega arith)

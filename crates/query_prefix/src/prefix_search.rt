@@ -1,21 +1,21 @@
 // The search for the next row that starts with a prefix, in a tree that passes questions 5 to 7.
-use ask_access::read_by_header::Ran;
 use layout::header::Header;
 use layout::place::TextPlace;
 use prefix_match::prefix_scan;
 use prefix_match::prefix_scan::PrefixScan;
 use prefix_match::prefix_state;
 use prefix_match::prefix_state::PrefixState;
+use query_access::read_by_header::RunRangeAnswer;
 use query_row_filter::NextRowAnswer;
 use query_row_filter::rows_after;
 use query_row_filter::rows_after::RowsStart;
 ghost use Prim.Native.Nat.{_≤_};
 ghost use lib.ListN.{length};
-ghost use Rattle.layout.specs.HeaderSays.{HeaderOf};
+ghost use Rattle.layout.specs.HeaderFields.{HeaderOf};
 ghost use Rattle.row_filter.specs.SelectedRows.{startsWith};
 ghost use Rattle.prefix_match.specs.PrefixStates.{prefixAutomaton};
-ghost use Rattle.ask_patterns.specs.Places.{maxPattern, patternOk};
-ghost use Rattle.ask_rows.specs.RowSpans.{settledBy};
+ghost use Rattle.query_places.specs.Places.{maxPattern, patternOk};
+ghost use Rattle.query_rows.specs.RowSpans.{settledBy};
 ghost use Rattle.query_row_filter.specs.AllowedRows.{AllowedAnswer, queryRefusal};
 ghost use Rattle.query_row_filter.specs.RowsAfter.{SearchFrom};
 
@@ -35,7 +35,7 @@ pub fn next_at(
     if prefix.len() < 1 {
         return NextRowAnswer::Refused(16);
     }
-    if ask_patterns::MAX_PATTERN < prefix.len() {
+    if query_places::MAX_PATTERN < prefix.len() {
         return NextRowAnswer::Refused(16);
     }
     let start = rows_after::begin(t, h, guide, used, mark);
@@ -59,7 +59,7 @@ fn from(t: &[u8], h: Header, prefix: &[u8], place: TextPlace, q: u32) -> NextRow
     let mut at = place.0;
     while at < h.text_length {
         let ran = rows_after::next_part(t, h, at);
-        let Ran::At(part) = ran else {
+        let RunRangeAnswer::At(part) = ran else {
             return NextRowAnswer::Refused(14);
         };
         let begin = part.from;

@@ -12,14 +12,14 @@ use Rattle.text.specs.declared.TextPlace.{TextPlace}
 use Rattle.text.specs.Text.{rowsOf}
 use Rattle.text.specs.RowLaws.{rows-few}
 use Rattle.format.specs.Layout as at
-use Rattle.format.specs.TreeReading.{textOf, readable, verdict}
+use Rattle.format.specs.TreeReading.{textOf, headerResult, checkResult}
 use Rattle.format.specs.Answers.{isCounted, numberOfByte, total}
 use Rattle.theory_paths.specs.OneText.{text-length}
 use Rattle.theory_counts.specs.RowsOfText.{rows-total}
-use Rattle.layout.specs.declared.header.HeaderRead.{HeaderRead}
-use Rattle.layout.specs.declared.header.HeaderRead.the-variants as read
-use Rattle.layout.specs.Header.{headerSays}
-use Rattle.layout.specs.HeaderSays.{header-refused}
+use Rattle.layout.specs.declared.header.HeaderAnswer.{HeaderAnswer}
+use Rattle.layout.specs.declared.header.HeaderAnswer.the-variants as read
+use Rattle.layout.specs.Header.{headerAnswer}
+use Rattle.layout.specs.HeaderFields.{header-refused}
 use Rattle.row_filter.specs.SelectedRows.{NextRowOutcome, firstSelected, nextSelected, outcomeAt, nextOutcome}
 use Rattle.row_filter.specs.SelectedRowLaws.{Next, no-more, next, next-of}
 use Rattle.row_filter.specs.RowAutomaton.{Automaton, Recognizes, at-row, nothing, scanBytes, finishScan}
@@ -33,7 +33,7 @@ use Rattle.query_row_filter.specs.RowsAfter.{FromRow, answerOf, SearchFr
 -- A refusal before the walk.
 pub refuses : (t : List ℕ) (ok : ℕ) (selected : List ℕ → Bool) (mark refusal n : ℕ) → refusal ≡ n → 1 ≤ n → AllowedAnswer t ok refusal selected mark (Refused n)
 refuses t ok selected mark refusal n e low = record {
-  says = record {
+  answers = record {
     asked = λ l. rw e;
     accepted = λ z v. absurd (let x : ⊥ = omega arith in x);
     free = λ z v. absurd (let x : ⊥ = omega arith in x);
@@ -43,13 +43,14 @@ refuses t ok selected mark refusal n e low = record {
 
 -- Questions 5 to 7, the query's own, and 11.
 module _ (t : List ℕ) (settled : ℕ) (selected : List ℕ → Bool) (mark k : ℕ) (ok : Bool) where
-  pub ask-unread : (x : HeaderRead) → x ≡ headerSays t → (q : ℕ) → x ≡ read.Refused q → AllowedAnswer t settled (queryRefusal t k ok) selected mark (Refused q)
+  pub ask-unread : (x : HeaderAnswer) → x ≡ headerAnswer t → (q : ℕ) → x ≡ read.Refused q
+      → AllowedAnswer t settled (queryRefusal t k ok) selected mark (Refused q)
   unfolding queryRefusal
   ask-unread x is q e =
       let z = header-refused t x is q e in
-      refuses t settled selected mark _ q (rw (ne-eqb (readable t) 0 (λ y. omega (arith, z .1))) (z .1 ∙ sym (z .2))) (omega (arith, z .2))
+      refuses t settled selected mark _ q (rw (ne-eqb (headerResult t) 0 (λ y. omega (arith, z .1))) (z .1 ∙ sym (z .2))) (omega (arith, z .2))
 
-  module _ (pass : readable t ≡ 0) where
+  module _ (pass : headerResult t ≡ 0) where
     pub ask-bad : ok ≡ false → 1 ≤ k → AllowedAnswer t settled (queryRefusal t k ok) selected mark (Refused k)
     unfolding queryRefusal
     ask-bad e low = refuses t settled selected mark _ k (rw (pass, e)) low
@@ -73,7 +74,7 @@ module _ (t : List ℕ) (ok mark : ℕ) where
     settles : (r : NextRowAnswer) → (ok ≡ 0 → outcomeOf mark r ≡ nextOutcome selected (rowsOf (textOf t)) mark) → FreeOutcome t selected mark (outcomeOf mark r)
         → Numbered r → AllowedAnswer t ok (newlineRefusal t) selected mark r
     settles r a f n = record {
-      says = record { asked = λ l. absurd (let x : ⊥ = omega (arith, asked) in x); accepted = λ z v. a v; free = λ z v. f };
+      answers = record { asked = λ l. absurd (let x : ⊥ = omega (arith, asked) in x); accepted = λ z v. a v; free = λ z v. f };
       numbered = n;
     }
 
@@ -95,7 +96,7 @@ module _ (t : List ℕ) (ok mark : ℕ) where
         (λ v. rw (drop-of-length-le (rowsOf (textOf t)) (few v), stays (length (rowsOf (textOf t))) (few v)))
         (inr (inl (refl, refl, omega arith, inl refl))) tt
 
-    pub few-total : (ok ≡ 0 → verdict t ≡ 0) → total t (numberOfByte t 10) < mark → AllowedAnswer t ok (newlineRefusal t) selected mark (Nothing mark)
+    pub few-total : (ok ≡ 0 → checkResult t ≡ 0) → total t (numberOfByte t 10) < mark → AllowedAnswer t ok (newlineRefusal t) selected mark (Nothing mark)
     few-total sound h = newline-stays (λ v. omega (arith, rows-total t (sound v) counted .1))
 
     pub few-bytes : at.textLength t ≤ mark → AllowedAnswer t ok (newlineRefusal t) selected mark (Nothing mark)
@@ -117,7 +118,7 @@ module _ (t : List ℕ) (ok mark : ℕ) where
 
 -- The rows after the mark, scanned from where they begin.
 module _ {S : Type 0} (m : Automaton S) (selected : List ℕ → Bool) (reads : Recognizes m selected)
-    (t : List ℕ) (ok mark p newlines : ℕ) (sound : ok ≡ 0 → verdict t ≡ 0)
+    (t : List ℕ) (ok mark p newlines : ℕ) (sound : ok ≡ 0 → checkResult t ≡ 0)
     (b : StartFacts t ok mark p newlines) (r : NextRowAnswer) (s : SearchFrom t m p (mark + 1) r) where
   abbrev rows : List (List ℕ)
   rows = drop mark (rowsOf (textOf t))
@@ -127,7 +128,7 @@ module _ {S : Type 0} (m : Automaton S) (selected : List ℕ → Bool) (reads : 
   right v = by (s .settled)
     where
       by : (r ≡ answerOf (finishScan m (scanBytes m (drop p (textOf t)) (m .start) (mark + 1))))
-          ⊎ ((r ≡ Refused 14) × (verdict t ≡ 0 → ⊥)) → r ≡ answerOf (result selected (mark + 1) rows)
+          ⊎ ((r ≡ Refused 14) × (checkResult t ≡ 0 → ⊥)) → r ≡ answerOf (result selected (mark + 1) rows)
       by (inl e) = e ∙ ap answerOf (scan-rows m selected reads (drop p (textOf t)) (mark + 1) (omega arith) ∙ ap (result selected (mark + 1)) (b .place-is v))
       by (inr e) = absurd (e .1 (sound v))
 
@@ -139,7 +140,7 @@ module _ {S : Type 0} (m : Automaton S) (selected : List ℕ → Bool) (reads : 
   found-from : (q : ℕ) → Row q ≡ r → FoundFrom t selected mark q
   found-from q e = record { start = p; start-in = b .place-in; row-is = by (s .settled) }
     where
-      by : (r ≡ answerOf (finishScan m (scanBytes m (drop p (textOf t)) (m .start) (mark + 1)))) ⊎ ((r ≡ Refused 14) × (verdict t ≡ 0 → ⊥))
+      by : (r ≡ answerOf (finishScan m (scanBytes m (drop p (textOf t)) (m .start) (mark + 1)))) ⊎ ((r ≡ Refused 14) × (checkResult t ≡ 0 → ⊥))
           → q ≡ firstSelected selected (mark + 1) (rowsOf (drop p (textOf t)))
       by (inl z) =
           row-first q _ _ (eqb (firstSelected selected (mark + 1) (rowsOf (drop p (textOf t)))) 0)

@@ -10,9 +10,9 @@ use lib.Dec.{leb, eqb}
 use borrow.Author.Tests.{leb-true, eqb-false, ne-eqb}
 use Rattle.text.specs.ListLaws.{lt-or-ge}
 use Rattle.text.specs.Text.{rowsOf}
-use Rattle.format.specs.TreeReading.{textOf, ask, readable, verdict}
+use Rattle.format.specs.TreeReading.{textOf, ask, headerResult, checkResult}
 use Rattle.format.specs.LayoutLaws.{ask-test, ask-rest}
-use Rattle.format.specs.SaidLaws.{next-passes}
+use Rattle.format.specs.AnswerLaws.{next-passes}
 use Rattle.format.specs.Answers.{isCounted}
 use Rattle.theory_counts.specs.RowsOfText.{rows-total}
 use Rattle.row_filter.specs.SelectedRows.{NextRowOutcome, nextSelected, outcomeAt, nextOutcome}
@@ -24,10 +24,10 @@ use Rattle.query_row_filter.specs.AllowedRows.{refusedAt, newlineRefusal
 use Rattle.query_row_filter.specs.AllowedRows.{outcomeOf, Numbered, AllowedAnswer, MarkMoved}
 
 -- The outcome of a refusal determines the answer.
-refused-is : (mark : ℕ) (r : NextRowAnswer) (q : ℕ) → outcomeOf mark r ≡ refusedAt (suc q) mark → r ≡ Refused (suc q)
-refused-is mark (Row n) q e = absurd (let z : ⊥ = omega (arith, ap (λ (s : NextRowOutcome). s .refusal) e) in z)
-refused-is mark (Nothing m) q e = absurd (let z : ⊥ = omega (arith, ap (λ (s : NextRowOutcome). s .refusal) e) in z)
-refused-is mark (Refused p) q e = ap Refused (ap (λ (s : NextRowOutcome). s .refusal) e)
+filter-refused-is : (mark : ℕ) (r : NextRowAnswer) (q : ℕ) → outcomeOf mark r ≡ refusedAt (suc q) mark → r ≡ Refused (suc q)
+filter-refused-is mark (Row n) q e = absurd (let z : ⊥ = omega (arith, ap (λ (s : NextRowOutcome). s .refusal) e) in z)
+filter-refused-is mark (Nothing m) q e = absurd (let z : ⊥ = omega (arith, ap (λ (s : NextRowOutcome). s .refusal) e) in z)
+filter-refused-is mark (Refused p) q e = ap Refused (ap (λ (s : NextRowOutcome). s .refusal) e)
 
 -- Two answers with the same outcome are the same.
 same-next-row : (mark : ℕ) (x y : NextRowAnswer) → Numbered x → Numbered y → outcomeOf mark x ≡ outcomeOf mark y → x ≡ y
@@ -47,8 +47,8 @@ pub one-next-row : (t : List ℕ) (refusal : ℕ) (selected : List ℕ → Bool)
 one-next-row t refusal selected mark ok other v w x y a b = same-next-row mark x y (a .numbered) (b .numbered) (go (lt-or-ge 0 refusal))
   where
     go : (0 < refusal) ⊎ (refusal ≤ 0) → outcomeOf mark x ≡ outcomeOf mark y
-    go (inl l) = a .says .asked l ∙ sym (b .says .asked l)
-    go (inr l) = let z : refusal ≡ 0 = omega arith in a .says .accepted z v ∙ sym (b .says .accepted z w)
+    go (inl l) = a .answers .asked l ∙ sym (b .answers .asked l)
+    go (inr l) = let z : refusal ≡ 0 = omega arith in a .answers .accepted z v ∙ sym (b .answers .accepted z w)
 
 -- On an accepted tree none leaves the mark or moves it to the number of rows, and nothing is refused.
 module _ (q R mark : ℕ) where
@@ -98,19 +98,19 @@ module _ (q R mark : ℕ) where
 
 -- The questions before the walk: 5 to 7, the query's own, and 11.
 module _ (t : List ℕ) (k : ℕ) (ok : Bool) where
-  pub asked-unread : (q : ℕ) → readable t ≡ suc q → queryRefusal t k ok ≡ suc q
+  pub asked-unread : (q : ℕ) → headerResult t ≡ suc q → queryRefusal t k ok ≡ suc q
   unfolding queryRefusal
   asked-unread q e = rw (e, ne-eqb (suc q) 0 (λ z. omega arith))
 
-  pub asked-bad : readable t ≡ 0 → ok ≡ false → queryRefusal t k ok ≡ k
+  pub asked-bad : headerResult t ≡ 0 → ok ≡ false → queryRefusal t k ok ≡ k
   unfolding queryRefusal
   asked-bad pass e = rw (pass, e)
 
-  pub asked-uncounted : readable t ≡ 0 → ok ≡ true → isCounted t 10 ≡ false → queryRefusal t k ok ≡ 11
+  pub asked-uncounted : headerResult t ≡ 0 → ok ≡ true → isCounted t 10 ≡ false → queryRefusal t k ok ≡ 11
   unfolding queryRefusal newlineRefusal
   asked-uncounted pass e c = rw (pass, e, c)
 
-  pub asked-all : readable t ≡ 0 → ok ≡ true → isCounted t 10 ≡ true → queryRefusal t k ok ≡ 0
+  pub asked-all : headerResult t ≡ 0 → ok ≡ true → isCounted t 10 ≡ true → queryRefusal t k ok ≡ 0
   unfolding queryRefusal newlineRefusal
   asked-all pass e c = rw (pass, e, c)
 
@@ -118,11 +118,11 @@ pub asked-counted : (t : List ℕ) (k : ℕ) (ok : Bool) → queryRefusal t (suc
 unfolding queryRefusal newlineRefusal
 asked-counted t k ok h =
     let eleven = ask 11 (isCounted t 10) 0 in
-    let a = next-passes (readable t) (ask (suc k) ok eleven) h in
+    let a = next-passes (headerResult t) (ask (suc k) ok eleven) h in
     ask-test 10 (isCounted t 10) 0 (ask-rest k ok eleven (a .1))
 
 -- `ok` is 0 where the outcome is settled.
-module _ (t : List ℕ) (ok : ℕ) (sound : ok ≡ 0 → verdict t ≡ 0) (refusal : ℕ) (selected : List ℕ → Bool) where
+module _ (t : List ℕ) (ok : ℕ) (sound : ok ≡ 0 → checkResult t ≡ 0) (refusal : ℕ) (selected : List ℕ → Bool) where
   -- For any bytes.
 
   -- A refusal leaves the mark.
@@ -132,14 +132,14 @@ module _ (t : List ℕ) (ok : ℕ) (sound : ok ≡ 0 → verdict t ≡ 0) (refus
   module _ (mark : ℕ) (r : NextRowAnswer) (a : AllowedAnswer t ok refusal selected mark r) where
     -- A question that refuses before the walk determines the answer.
     pub refused-first : (q : ℕ) → refusal ≡ suc q → r ≡ Refused (suc q)
-    refused-first q e = refused-is mark r q (a .says .asked (rw e (omega arith)) ∙ rw e)
+    refused-first q e = filter-refused-is mark r q (a .answers .asked (rw e (omega arith)) ∙ rw e)
 
     -- An answer that is no refusal passed every question before the walk.
     let-through : outcomeOf mark r .refusal ≡ 0 → refusal ≡ 0
     let-through z = go (lt-or-ge 0 refusal)
       where
         go : (0 < refusal) ⊎ (refusal ≤ 0) → refusal ≡ 0
-        go (inl l) = absurd (let e : outcomeOf mark r .refusal ≡ refusal = ap (λ (s : NextRowOutcome). s .refusal) (a .says .asked l) in
+        go (inl l) = absurd (let e : outcomeOf mark r .refusal ≡ refusal = ap (λ (s : NextRowOutcome). s .refusal) (a .answers .asked l) in
             let x : ⊥ = omega arith in x)
         go (inr g) = omega arith
 
@@ -150,13 +150,13 @@ module _ (t : List ℕ) (ok : ℕ) (sound : ok ≡ 0 → verdict t ≡ 0) (refus
 
     settled : (mark : ℕ) (r : NextRowAnswer) → AllowedAnswer t ok refusal selected mark r → outcomeOf mark r .refusal ≡ 0
         → outcomeOf mark r ≡ nextOutcome selected rows mark
-    settled mark r a z = a .says .accepted (let-through mark r a z) v
+    settled mark r a z = a .answers .accepted (let-through mark r a z) v
 
     -- Where no question refuses: the next selected row; or none, with the mark of `nextOutcome`.
     pub answer-is : (mark : ℕ) (r : NextRowAnswer) → AllowedAnswer t ok refusal selected mark r → refusal ≡ 0
         → r ≡ cond (eqb (nextSelected selected rows mark) 0) (Nothing (nextOutcome selected rows mark .mark)) (Row (nextSelected selected rows mark))
     unfolding nextOutcome
-    answer-is mark r a z = next-answer (nextSelected selected rows mark) (length rows) mark r (a .numbered) (a .says .accepted z v)
+    answer-is mark r a z = next-answer (nextSelected selected rows mark) (length rows) mark r (a .numbered) (a .answers .accepted z v)
 
     -- A returned row is after the mark and becomes the mark: so there are at most as many calls before none as rows.
     pub row-rises : (mark n after : ℕ) → MarkMoved t ok refusal selected mark (Row n) after → (mark < n) × (n ≤ length rows) × (after ≡ n)
@@ -197,7 +197,7 @@ module _ (t : List ℕ) (ok : ℕ) (sound : ok ≡ 0 → verdict t ≡ 0) (refus
     module _ (through : refusal ≡ 0) (call : (mark : ℕ) → mark ≤ length rows → (r : NextRowAnswer) × AllowedAnswer t ok refusal selected mark r) where
       answer-row : (mark n : ℕ) (r : NextRowAnswer) → AllowedAnswer t ok refusal selected mark r → 1 ≤ n
           → nextOutcome selected rows mark ≡ record { refusal = 0; row = n; mark = n } → r ≡ Row n
-      answer-row mark n r a low e = go r (a .numbered) (a .says .accepted through v ∙ e)
+      answer-row mark n r a low e = go r (a .numbered) (a .answers .accepted through v ∙ e)
         where
           go : (x : NextRowAnswer) → Numbered x → outcomeOf mark x ≡ record { refusal = 0; row = n; mark = n } → x ≡ Row n
           go (Row k) l s = ap Row (ap (λ (w : NextRowOutcome). w .row) s)
@@ -207,7 +207,7 @@ module _ (t : List ℕ) (ok : ℕ) (sound : ok ≡ 0 → verdict t ≡ 0) (refus
       answer-none : (mark : ℕ) (r : NextRowAnswer) → AllowedAnswer t ok refusal selected mark r → nextOutcome selected rows mark .row ≡ 0
           → (m : ℕ) × (r ≡ Nothing m)
       unfolding nextOutcome
-      answer-none mark r a e = go r (a .numbered) (a .says .accepted through v)
+      answer-none mark r a e = go r (a .numbered) (a .answers .accepted through v)
         where
           go : (x : NextRowAnswer) → Numbered x → outcomeOf mark x ≡ nextOutcome selected rows mark → (m : ℕ) × (x ≡ Nothing m)
           go (Row k) l s = absurd (let y : ⊥ = omega (arith, ap (λ (w : NextRowOutcome). w .row) s) in y)
@@ -243,7 +243,7 @@ module _ (t : List ℕ) (ok : ℕ) (sound : ok ≡ 0 → verdict t ≡ 0) (refus
         free (inr (inr h)) = (h .1, h .2)
 
         go : (0 < ok) ⊎ (ok ≤ 0) → (mark < n) × (n ≤ maxRows t)
-        go (inl low) = free (a .says .free through (λ v. omega arith))
+        go (inl low) = free (a .answers .free through (λ v. omega arith))
         go (inr high) =
             let v : ok ≡ 0 = omega arith in
             let w = row-rises v mark n n (record { answer = a; mark-is = refl }) in
@@ -274,7 +274,7 @@ module _ (t : List ℕ) (ok : ℕ) (sound : ok ≡ 0 → verdict t ≡ 0) (refus
         moved v e (l, inr s) = (omega arith, inr (omega (arith, rows-total t (sound v) (counted-of through) .1)))
 
         go : (0 < ok) ⊎ (ok ≤ 0) → (mark ≤ m) × ((m ≡ mark) ⊎ (m ≤ maxRows t))
-        go (inl low) = free (a .says .free through (λ v. omega arith))
+        go (inl low) = free (a .answers .free through (λ v. omega arith))
         go (inr high) =
             let v : ok ≡ 0 = omega arith in
             let w = none-moves v mark m m (record { answer = a; mark-is = refl }) in
@@ -291,8 +291,8 @@ module _ (t : List ℕ) (ok : ℕ) (sound : ok ≡ 0 → verdict t ≡ 0) (refus
       free (inr (inr h)) = absurd (let z : ⊥ = omega (arith, a .numbered, h .0) in z)
 
       go : (0 < refusal) ⊎ (refusal ≤ 0) → (0 < ok) ⊎ (ok ≤ 0) → (n ≡ refusal) ⊎ ((n ≡ 14) × (ok ≡ 0 → ⊥))
-      go (inl l) w = inl (ap (λ (s : NextRowOutcome). s .refusal) (a .says .asked l))
-      go (inr z) (inl w) = inr (free (a .says .free (omega arith) (λ v. omega arith)), λ v. omega arith)
+      go (inl l) w = inl (ap (λ (s : NextRowOutcome). s .refusal) (a .answers .asked l))
+      go (inr z) (inl w) = inr (free (a .answers .free (omega arith) (λ v. omega arith)), λ v. omega arith)
       go (inr z) (inr w) =
-          let said = a .says .accepted (omega arith) (omega arith) in
+          let said = a .answers .accepted (omega arith) (omega arith) in
           absurd (next-only (nextSelected selected (rowsOf (textOf t)) mark) (length (rowsOf (textOf t))) mark n (a .numbered) said)

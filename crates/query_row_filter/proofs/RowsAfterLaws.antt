@@ -13,26 +13,26 @@ use Rattle.text.specs.declared.TextPlace.{TextPlace}
 use Rattle.text.specs.RowLaws.{rows-past}
 use Rattle.format.specs.Layout as at
 use Rattle.format.specs.LayoutLaws.{Readable}
-use Rattle.format.specs.VerdictLaws.{accepted-links}
-use Rattle.format.specs.TreeReading.{textOf, verdict}
+use Rattle.format.specs.CheckResultLaws.{accepted-links}
+use Rattle.format.specs.TreeReading.{textOf, checkResult}
 use Rattle.format.specs.Answers.{isCounted, numberOfByte, total}
-use Rattle.format.specs.FindSaysLaws.{Selected}
+use Rattle.format.specs.FindAnswerLaws.{Selected}
 use Rattle.layout.specs.declared.header.Header.{Header}
-use Rattle.layout.specs.HeaderSays.{HeaderOf}
+use Rattle.layout.specs.HeaderFields.{HeaderOf}
 use Rattle.theory_paths.specs.OneText.{text-length}
 use Rattle.theory_paths.specs.PlaceBytes.{never-14}
-use Rattle.theory_counts.specs.Demands as tallies
+use Rattle.theory_counts.specs.Theorems as tallies
 use Rattle.row_filter.specs.RowAutomaton.{Automaton, Scan, found, on, at-row, nothing, resumeScan, RowBetween, scanBytes, atEndOfText, finishScan}
 use Rattle.row_filter.specs.RowAutomatonLaws.{scan-append}
-use Rattle.ask_access.specs.declared.read_by_header.Part.{Part}
-use Rattle.ask_access.specs.declared.read_by_header.Ran.{Ran}
-use Rattle.ask_access.specs.declared.read_by_header.Ran.the-variants as ran
-use Rattle.ask_access.specs.ReadByRuns.{ReadsOn, RangeAnswer}
-use Rattle.ask_access.proofs.RunLaws.{reads-stretch}
+use Rattle.query_access.specs.declared.read_by_header.TreeRange.{TreeRange}
+use Rattle.query_access.specs.declared.read_by_header.RunRangeAnswer.{RunRangeAnswer}
+use Rattle.query_access.specs.declared.read_by_header.RunRangeAnswer.the-variants as ran
+use Rattle.query_access.specs.ReadByRuns.{ReadsOn, IsRangeAnswer}
+use Rattle.query_access.proofs.RunLaws.{reads-stretch}
 use Rattle.query_row_filter.specs.declared.NextRowAnswer.{NextRowAnswer}
 use Rattle.query_row_filter.specs.declared.NextRowAnswer.the-variants.{Row, Nothing, Refused}
 use Rattle.query_row_filter.specs.declared.rows_after.StartPlace.the-variants as start
-use Rattle.query_row_filter.specs.RowsAfter.{StartIs, PartFrom, FromRow, answerOf, endResult, SearchFrom, limited}
+use Rattle.query_row_filter.specs.RowsAfter.{FilterStartIs, PartFrom, FromRow, answerOf, endResult, SearchFrom, limited}
 
 -- The rest of a text, cut after x bytes.
 rest-parts : (T : List ℕ) (p x : ℕ) → drop p T ≡ stretch T p x ++ drop (p + x) T
@@ -55,17 +55,17 @@ module _ (newlines : ℕ) (x : NextRowAnswer) where
 
 -- Where the rows after a mark begin.
 start-at : (t : List ℕ) (ok mark p : ℕ)
-    → p ≤ at.textLength t → (ok ≡ 0 → rowsOf (drop p (textOf t)) ≡ drop mark (rowsOf (textOf t))) → StartIs t ok mark (start.At (record { 0 = p }))
+    → p ≤ at.textLength t → (ok ≡ 0 → rowsOf (drop p (textOf t)) ≡ drop mark (rowsOf (textOf t))) → FilterStartIs t ok mark (start.At (record { 0 = p }))
 start-at t ok mark p low is = record {
   place-in = λ s e. (let z : record { 0 = p } ≡ s = cc in let y : p ≡ s .0 = ap (λ (w : TextPlace). w .0) z in rw (← y) low);
   place-is = λ s e v. (let z : record { 0 = p } ≡ s = cc in let y : p ≡ s .0 = ap (λ (w : TextPlace). w .0) z in rw (← y) (is v));
   broken = λ e v. absurd (let z : _≡_ {A = ℕ} 0 1 = cc in omega arith);
 }
 
-pub start-first : (t : List ℕ) (ok mark : ℕ) → mark ≡ 0 → StartIs t ok mark (start.At (record { 0 = 0 }))
+pub start-first : (t : List ℕ) (ok mark : ℕ) → mark ≡ 0 → FilterStartIs t ok mark (start.At (record { 0 = 0 }))
 start-first t ok mark e = rw e (start-at t ok 0 0 (omega arith) (λ v. refl))
 
-pub start-broken : (t : List ℕ) (ok mark : ℕ) → (ok ≡ 0 → ⊥) → StartIs t ok mark start.Broken
+pub start-broken : (t : List ℕ) (ok mark : ℕ) → (ok ≡ 0 → ⊥) → FilterStartIs t ok mark start.Broken
 start-broken t ok mark never = record {
   place-in = λ s e. absurd (let z : _≡_ {A = ℕ} 0 1 = cc in omega arith);
   place-is = λ s e v. absurd (never v);
@@ -73,8 +73,8 @@ start-broken t ok mark never = record {
 }
 
 -- After a byte 10.
-pub start-past : (t : List ℕ) (ok mark p : ℕ) → (ok ≡ 0 → verdict t ≡ 0)
-    → Selected t 10 mark → p < at.textLength t → (ok ≡ 0 → p ≡ placeOf 10 mark (textOf t)) → StartIs t ok mark (start.At (record { 0 = p + 1 }))
+pub start-past : (t : List ℕ) (ok mark p : ℕ) → (ok ≡ 0 → checkResult t ≡ 0)
+    → Selected t 10 mark → p < at.textLength t → (ok ≡ 0 → p ≡ placeOf 10 mark (textOf t)) → FilterStartIs t ok mark (start.At (record { 0 = p + 1 }))
 start-past t ok mark p sound s low is =
     start-at t ok mark (p + 1) (omega arith) (λ v. rows-past (textOf t) mark p (rw (is v) (tallies.stands t (sound v) 10 mark s)))
 
@@ -84,18 +84,18 @@ pub start-asked : (t : List ℕ) (h : Header) (mark : ℕ)
 start-asked t h mark k c some high = record { pass = k .passes; counted = c; low = omega (arith, some); high = high }
 
 -- The bytes that are scanned next.
-module _ (t : List ℕ) (p : ℕ) (x : Ran) where
-  pub part-from : (h : Header) → HeaderOf t h → p < h .«text_length» → (most : ℕ) → RangeAnswer t p most x → PartFrom t p x
+module _ (t : List ℕ) (p : ℕ) (x : RunRangeAnswer) where
+  pub part-from : (h : Header) → HeaderOf t h → p < h .«text_length» → (most : ℕ) → IsRangeAnswer t p most x → PartFrom t p x
   part-from h k low most e = by x refl e
     where
-      by : (y : Ran) → x ≡ y → RangeAnswer t p most y → PartFrom t p y
+      by : (y : RunRangeAnswer) → x ≡ y → IsRangeAnswer t p most y → PartFrom t p y
       by (ran.At part) z a = (a .0, a .1)
       by (ran.Refused number) z a = λ v. never-14 t (k .passes) p (omega (arith, k .length-is)) (accepted-links t v) (a .1)
 
-  pub part-reads : (part : Part) → x ≡ ran.At part → PartFrom t p x → (ReadsOn t p (part .from) (part .length)) × (1 ≤ part .length)
+  pub part-reads : (part : TreeRange) → x ≡ ran.At part → PartFrom t p x → (ReadsOn t p (part .from) (part .length)) × (1 ≤ part .length)
   part-reads part e a = rw e at a
 
-  pub part-none : (number : ℕ) → x ≡ ran.Refused number → PartFrom t p x → verdict t ≡ 0 → ⊥
+  pub part-none : (number : ℕ) → x ≡ ran.Refused number → PartFrom t p x → checkResult t ≡ 0 → ⊥
   part-none number e a = rw e at a
 
 -- The text is scanned part by part. Row q begins at place p₀; the scan has reached place p, in state f of row `row`.
@@ -116,7 +116,7 @@ module _ {S : Type 0} (t : List ℕ) (m : Automaton S) (p₀ q : ℕ) where
   pub search-begins : p₀ ≤ at.textLength t → Searching p₀ q (m .start)
   search-begins h = record { low = omega arith; high = h; above = omega arith; few = omega arith; far = refl }
 
-  pub search-broken : (verdict t ≡ 0 → ⊥) → SearchFrom t m p₀ q (Refused 14)
+  pub search-broken : (checkResult t ≡ 0 → ⊥) → SearchFrom t m p₀ q (Refused 14)
   search-broken never = record { settled = inr (refl, never); rows = refl }
 
   module _ (p row : ℕ) (f : S) (k : Searching p row f) where

@@ -8,7 +8,7 @@ use Prim.Native.Nat.{ℕ, _+_, _≤_, _<_}
 use lib.ListN.{drop}
 use Rattle.text.specs.Text.{rowsOf}
 use Rattle.format.specs.Layout as at
-use Rattle.format.specs.TreeReading.{textOf, ask, asks, orNext, readable}
+use Rattle.format.specs.TreeReading.{textOf, ask, asks, orNext, headerResult}
 use Rattle.format.specs.Answers.{isCounted, numberOfByte, total}
 use Rattle.row_filter.specs.SelectedRows.{NextRowOutcome, firstSelected, nextOutcome}
 use Rattle.query_row_filter.specs.declared.NextRowAnswer.{NextRowAnswer}
@@ -29,7 +29,7 @@ module _ (t : List ℕ) where
 
   -- The refusal before the walk: questions 5 to 7, then the question of the query under its number, then 11.
   unfoldable pub queryRefusal : ℕ → Bool → ℕ
-  queryRefusal refusal ok = orNext (readable t) (ask refusal ok newlineRefusal)
+  queryRefusal refusal ok = orNext (headerResult t) (ask refusal ok newlineRefusal)
 
   -- No accepted tree has a row number above this one, the total of byte 10 plus one.
   abbrev pub maxRows : ℕ
@@ -72,7 +72,7 @@ Numbered (Refused refusal) = 1 ≤ refusal
 
 -- An allowed answer to a search from a mark.
 pub record AllowedAnswer (t : List ℕ) (ok refusal : ℕ) (selected : List ℕ → Bool) (mark : ℕ) (r : NextRowAnswer) : Type 0 where
-  pub says : AllowedOutcome t ok refusal selected mark (outcomeOf mark r)
+  pub answers : AllowedOutcome t ok refusal selected mark (outcomeOf mark r)
   pub numbered : Numbered r
 
 -- An allowed answer to a search from the mark `before`, and the mark `after` it.

@@ -9,11 +9,11 @@ use lib.Dec.{ltb}
 use Rattle.text.specs.declared.TextPlace.{TextPlace}
 use Rattle.text.specs.Text.{rowsOf}
 use Rattle.format.specs.Layout as at
-use Rattle.format.specs.TreeReading.{textOf, verdict}
+use Rattle.format.specs.TreeReading.{textOf, checkResult}
 use Rattle.format.specs.Answers.{isCounted, numberOfByte, total}
-use Rattle.ask_access.specs.declared.read_by_header.Ran.{Ran}
-use Rattle.ask_access.specs.declared.read_by_header.Ran.the-variants as ran
-use Rattle.ask_access.specs.ReadByRuns.{ReadsOn}
+use Rattle.query_access.specs.declared.read_by_header.RunRangeAnswer.{RunRangeAnswer}
+use Rattle.query_access.specs.declared.read_by_header.RunRangeAnswer.the-variants as ran
+use Rattle.query_access.specs.ReadByRuns.{ReadsOn}
 use Rattle.row_filter.specs.RowAutomaton.{Automaton, SearchResult, at-row, nothing, scanBytes, finishScan}
 use Rattle.query_row_filter.specs.declared.NextRowAnswer.{NextRowAnswer}
 use Rattle.query_row_filter.specs.declared.NextRowAnswer.the-variants.{Row, Nothing, Refused}
@@ -24,7 +24,7 @@ use Rattle.query_row_filter.specs.declared.rows_after.StartPlace.the-var
 use Rattle.query_row_filter.specs.AllowedRows.{newlineRefusal, AllowedAnswer}
 
 -- The place is in the text, and where `ok` is 0 the rows after the mark begin there and the walk does not fail.
-pub record StartIs (t : List ℕ) (ok mark : ℕ) (r : StartPlace) : Type 0 where
+pub record FilterStartIs (t : List ℕ) (ok mark : ℕ) (r : StartPlace) : Type 0 where
   pub place-in : (p : TextPlace) → r ≡ start.At p → p .0 ≤ at.textLength t
   pub place-is : (p : TextPlace) → r ≡ start.At p → ok ≡ 0 → rowsOf (drop (p .0) (textOf t)) ≡ drop mark (rowsOf (textOf t))
   pub broken : r ≡ start.Broken → ok ≡ 0 → ⊥
@@ -44,9 +44,9 @@ pub record BeginIs (t : List ℕ) (ok mark : ℕ) (r : RowsStart) : Type 0 where
   pub answered : (s : NextRowAnswer) → r ≡ begins.Answered s → (selected : List ℕ → Bool) → AllowedAnswer t ok (newlineRefusal t) selected mark s
 
 -- A range of the tree's bytes that has the next bytes of the text from place p on; there is none only in a tree that the check refuses.
-abbrev pub PartFrom : List ℕ → ℕ → Ran → Type 0
+abbrev pub PartFrom : List ℕ → ℕ → RunRangeAnswer → Type 0
 PartFrom t p (ran.At part) = (ReadsOn t p (part .from) (part .length)) × (1 ≤ part .length)
-PartFrom t p (ran.Refused number) = verdict t ≡ 0 → ⊥
+PartFrom t p (ran.Refused number) = checkResult t ≡ 0 → ⊥
 
 -- The answer names no row below q.
 abbrev pub FromRow : ℕ → NextRowAnswer → Type 0
@@ -65,7 +65,7 @@ endResult selected empty q = cond selected (at-row q) (cond empty (nothing (q - 
 
 -- The answer of a search from place p, where row q begins: that of the text's scan from there; or 14, on a tree that the check refuses.
 pub record SearchFrom {S : Type 0} (t : List ℕ) (m : Automaton S) (p q : ℕ) (r : NextRowAnswer) : Type 0 where
-  pub settled : (r ≡ answerOf (finishScan m (scanBytes m (drop p (textOf t)) (m .start) q))) ⊎ ((r ≡ Refused 14) × (verdict t ≡ 0 → ⊥))
+  pub settled : (r ≡ answerOf (finishScan m (scanBytes m (drop p (textOf t)) (m .start) q))) ⊎ ((r ≡ Refused 14) × (checkResult t ≡ 0 → ⊥))
   pub rows : FromRow q r
 
 -- A row number above total + 1 becomes 14.

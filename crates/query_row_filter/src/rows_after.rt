@@ -1,20 +1,20 @@
 // Where the rows after a mark begin, in a tree that passes questions 5 to 7; the bytes that are scanned from there; and the largest row number that may
 // be returned.
 use crate::NextRowAnswer;
-use ask_access::read_by_header;
-use ask_access::read_by_header::Ran;
-use ask_rows::row_edges;
-use ask_select::Found;
 use layout::header::Header;
 use layout::place::TextPlace;
+use query_access::read_by_header;
+use query_access::read_by_header::RunRangeAnswer;
+use query_rows::row_bounds;
+use query_select::FindAnswer;
 ghost use mathlib.Core.Path.{_≡_};
 ghost use mathlib.Core.Bool.{true};
 ghost use Prim.Native.Nat.{_+_, _≤_, _<_};
 ghost use lib.Dec.{ltb};
 ghost use Rattle.format.specs.Answers.{isCounted, numberOfByte, total};
-ghost use Rattle.layout.specs.HeaderSays.{HeaderOf};
-ghost use Rattle.ask_rows.specs.RowSpans.{settledBy};
-ghost use Rattle.query_row_filter.specs.RowsAfter.{StartIs, BeginIs, PartFrom, answerOf, endResult, limited};
+ghost use Rattle.layout.specs.HeaderFields.{HeaderOf};
+ghost use Rattle.query_rows.specs.RowSpans.{settledBy};
+ghost use Rattle.query_row_filter.specs.RowsAfter.{FilterStartIs, BeginIs, PartFrom, answerOf, endResult, limited};
 
 // The most bytes that are read at once: a selected row is often near.
 const MOST: u32 = 1024;
@@ -30,14 +30,14 @@ pub fn begin(t: &[u8], h: Header, guide: &[u8], used: bool, mark: u32) -> RowsSt
     requires { ⌜ HeaderOf (now t) h ⌝ }
     ensures { λ r. ⌜ BeginIs (now (t .entry)) (settledBy (now (t .entry)) (now (guide .entry)) used) mark r ⌝ }
 {
-    let number = ask_totals::number_of(t, h.settings.counted, 10);
+    let number = query_counted::number_of(t, h.settings.counted, 10);
     if h.settings.counted <= number {
         return RowsStart::Answered(NextRowAnswer::Refused(11));
     }
     if h.text_length <= mark {
         return RowsStart::Answered(NextRowAnswer::Nothing(mark));
     }
-    let newlines = ask_totals::total(t, h, number);
+    let newlines = query_counted::total(t, h, number);
     if newlines < mark as u64 {
         return RowsStart::Answered(NextRowAnswer::Nothing(mark));
     }
@@ -49,7 +49,7 @@ pub fn begin(t: &[u8], h: Header, guide: &[u8], used: bool, mark: u32) -> RowsSt
 }
 
 // The bytes of the text from a place on that are scanned next, as a range of the tree's bytes.
-pub fn next_part(t: &[u8], h: Header, at: u32) -> Ran
+pub fn next_part(t: &[u8], h: Header, at: u32) -> RunRangeAnswer
     requires { ⌜ (HeaderOf (now t) h) × (at < h .«text_length») ⌝ }
     ensures { λ r. ⌜ PartFrom (now (t .entry)) at r ⌝ }
 {
@@ -80,13 +80,13 @@ pub enum StartPlace {
 fn start(t: &[u8], h: Header, guide: &[u8], used: bool, number: u32, mark: u32) -> StartPlace
     requires { ⌜ (HeaderOf (now t) h) × (isCounted (now t) 10 ≡ true) × (mark ≤ total (now t) (numberOfByte (now t) 10))
         × (number ≡ numberOfByte (now t) 10) × (number < h .settings .counted) ⌝ }
-    ensures { λ r. ⌜ StartIs (now (t .entry)) (settledBy (now (t .entry)) (now (guide .entry)) used) mark r ⌝ }
+    ensures { λ r. ⌜ FilterStartIs (now (t .entry)) (settledBy (now (t .entry)) (now (guide .entry)) used) mark r ⌝ }
 {
     if mark == 0 {
         return StartPlace::At(TextPlace(0));
     }
-    let found = row_edges::ten(t, h, guide, used, number, mark);
-    let Found::At(end, _) = found else {
+    let found = row_bounds::find_newline(t, h, guide, used, number, mark);
+    let FindAnswer::At(end, _) = found else {
         return StartPlace::Broken;
     };
     StartPlace::At(TextPlace(end.0 + 1))

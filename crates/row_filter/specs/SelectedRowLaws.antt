@@ -16,10 +16,10 @@ use Rattle.row_filter.specs.SelectedRowNumbers.{selectedFrom, selectedRo
 -- The first selected row of a list that begins with row q, and the selected rows after it.
 
 -- No row is selected; or row q + k is the first, and the others are the selected rows after it.
-data First (selected : List ℕ → Bool) (q : ℕ) (rows : List (List ℕ)) : Type 0 where
-  none : firstSelected selected q rows ≡ 0 → selectedFrom selected q rows ≡ [] → First selected q rows
+data SelectedFirst (selected : List ℕ → Bool) (q : ℕ) (rows : List (List ℕ)) : Type 0 where
+  none : firstSelected selected q rows ≡ 0 → selectedFrom selected q rows ≡ [] → SelectedFirst selected q rows
   first : (k : ℕ) → firstSelected selected q rows ≡ q + k → k < length rows
-      → selectedFrom selected q rows ≡ (q + k) ∷ selectedFrom selected (q + k + 1) (drop (k + 1) rows) → First selected q rows
+      → selectedFrom selected q rows ≡ (q + k) ∷ selectedFrom selected (q + k + 1) (drop (k + 1) rows) → SelectedFirst selected q rows
 
 module _ (selected : List ℕ → Bool) where
   selected-cons : (q : ℕ) (row : List ℕ) (rows : List (List ℕ)) (b : Bool) → selected row ≡ b
@@ -32,12 +32,12 @@ module _ (selected : List ℕ → Bool) where
   unfolding firstSelected
   first-cons q row rows b e = rw e
 
-  first-of : (q : ℕ) (rows : List (List ℕ)) → First selected q rows
+  first-of : (q : ℕ) (rows : List (List ℕ)) → SelectedFirst selected q rows
   unfolding firstSelected selectedFrom
   first-of q [] = none refl refl
   first-of q (row ∷ rows) = go (selected row) refl (first-of (q + 1) rows)
     where
-      go : (b : Bool) → selected row ≡ b → First selected (q + 1) rows → First selected q (row ∷ rows)
+      go : (b : Bool) → selected row ≡ b → SelectedFirst selected (q + 1) rows → SelectedFirst selected q (row ∷ rows)
       go true e later =
           let z : q + 0 ≡ q = omega arith in
           first 0 (first-cons q row rows true e ∙ sym z) (omega arith) (selected-cons q row rows true e ∙ rw z)
@@ -61,7 +61,7 @@ module _ (selected : List ℕ → Bool) (rows : List (List ℕ)) where
   unfolding nextOutcome outcomeAt nextSelected
   next-of mark = go (first-of selected (mark + 1) (drop mark rows))
     where
-      go : First selected (mark + 1) (drop mark rows) → Next mark
+      go : SelectedFirst selected (mark + 1) (drop mark rows) → Next mark
       go (none f m) = no-more (rw f) m
       go (first k f l m) =
           let n = mark + 1 + k in

@@ -1,6 +1,6 @@
 pub mod Modulo
-pub mod FingerLaws
+pub mod FingerprintLaws
 pub mod ScanLaws
 pub mod Usable
 pub mod AnswerCases
-pub mod Demands
+pub mod Theorems

@@ -24,9 +24,9 @@ usable b q = record { base = b % usableModulus q; modulus = usableModulus q }
 -- docs/FORMAT.md: "Searching".
 
 -- The leftmost occurrence of the len bytes at a place; `Outside` if they extend past the end of the text.
-unfoldable pub leftmostSays : List ℕ → ℕ → ℕ → Occurrence
-leftmostSays T at len = cond (leb (at + len) (length T)) (At (record { 0 = leftmost T at len })) Outside
+unfoldable pub leftmostAnswer : List ℕ → ℕ → ℕ → Occurrence
+leftmostAnswer T at len = cond (leb (at + len) (length T)) (At (record { 0 = leftmost T at len })) Outside
 
 -- Whether the len bytes at a place are in the text and also occur at an earlier place.
-unfoldable pub earlierSays : List ℕ → ℕ → ℕ → Bool
-earlierSays T at len = leb (at + len) (length T) && ltb (leftmost T at len) at
+unfoldable pub occursEarlierAnswer : List ℕ → ℕ → ℕ → Bool
+occursEarlierAnswer T at len = leb (at + len) (length T) && ltb (leftmost T at len) at

@@ -1,11 +1,11 @@
 // The leftmost occurrence of bytes of a text, by Karp-Rabin fingerprints: equal fingerprints only
 // propose a place, and a comparison of bytes decides.
-mod finger;
+mod karp_rabin;
 mod scan;
 
 use text::TextPlace;
 ghost use mathlib.Core.Path.{_≡_};
-ghost use Rattle.search.specs.Occurrences.{leftmostSays, earlierSays, usable, usableModulus};
+ghost use Rattle.search.specs.Occurrences.{leftmostAnswer, occursEarlierAnswer, usable, usableModulus};
 
 // The base and the modulus of the fingerprints.
 pub struct Fingerprint {
@@ -49,7 +49,7 @@ fn usable_modulus(modulus: u32) -> u32
 
 // The leftmost occurrence of the len bytes at a place of the text.
 pub fn leftmost(text: &[u8], at: TextPlace, len: u32, by: Fingerprint) -> Occurrence
-    ensures { λ r. ⌜ r ≡ leftmostSays (now (text .entry)) (at .0) len ⌝ }
+    ensures { λ r. ⌜ r ≡ leftmostAnswer (now (text .entry)) (at .0) len ⌝ }
 {
     let start = at.0 as usize;
     let n = len as usize;
@@ -62,7 +62,7 @@ pub fn leftmost(text: &[u8], at: TextPlace, len: u32, by: Fingerprint) -> Occurr
 
 // Whether the len bytes at a place are in the text and also occur at an earlier place.
 pub fn occurs_earlier(text: &[u8], at: TextPlace, len: u32, by: Fingerprint) -> bool
-    ensures { λ r. ⌜ r ≡ earlierSays (now (text .entry)) (at .0) len ⌝ }
+    ensures { λ r. ⌜ r ≡ occursEarlierAnswer (now (text .entry)) (at .0) len ⌝ }
 {
     let start = at.0;
     match leftmost(text, at, len, by) {

@@ -1,6 +1,6 @@
 // The search: one pass over the text up to the place.
 use crate::Fingerprint;
-use crate::finger;
+use crate::karp_rabin;
 use text::TextPlace;
 ghost use mathlib.Core.Path.{_≡_};
 ghost use Prim.Native.Nat.{_+_, _≤_, _<_};
@@ -9,13 +9,13 @@ ghost use Rattle.text.specs.Text.{sameList, stretch, leftmost};
 ghost use Rattle.search.specs.FingerValues.{Ready, finger};
 
 // A place of the text, and the fingerprint of the bytes there.
-struct Printed {
+struct WindowPrint {
     start: TextPlace,
     print: u64,
 }
 
 // Whether the same n bytes are at two places. Equal fingerprints only propose; a comparison of the bytes decides.
-fn stands(text: &[u8], here: Printed, wanted: Printed, n: usize, by: Fingerprint) -> bool
+fn occurs_at(text: &[u8], here: WindowPrint, wanted: WindowPrint, n: usize, by: Fingerprint) -> bool
     requires { ⌜ (here .start .0 + n ≤ length (now text)) × (wanted .start .0 + n ≤ length (now text)) ⌝ }
     requires { ⌜ here .print ≡ finger (by .base) (by .modulus) (stretch (now text) (here .start .0) n) ⌝ }
     requires { ⌜ wanted .print ≡ finger (by .base) (by .modulus) (stretch (now text) (wanted .start .0) n) ⌝ }
@@ -24,7 +24,7 @@ fn stands(text: &[u8], here: Printed, wanted: Printed, n: usize, by: Fingerprint
     if here.print != wanted.print {
         return false;
     }
-    stretches::same_at(text, here.start.0 as usize, wanted.start.0 as usize, n)
+    byte_slices::equal_at(text, here.start.0 as usize, wanted.start.0 as usize, n)
 }
 
 // The first place with the n bytes at `at`.
@@ -32,22 +32,22 @@ pub fn scan(text: &[u8], at: TextPlace, n: usize, by: Fingerprint) -> TextPlace
     requires { ⌜ (at .0 + n ≤ length (now text)) × (Ready (by .base) (by .modulus)) ⌝ }
     ensures { λ r. ⌜ r .0 ≡ leftmost (now (text .entry)) (at .0) n ⌝ }
 {
-    let top = finger::power(by, n);
-    let wanted = Printed {
+    let top = karp_rabin::power(by, n);
+    let wanted = WindowPrint {
         start: at,
-        print: finger::fingerprint_at(by, text, at, n),
+        print: karp_rabin::fingerprint_at(by, text, at, n),
     };
-    let mut h = finger::fingerprint_at(by, text, TextPlace(0), n);
+    let mut h = karp_rabin::fingerprint_at(by, text, TextPlace(0), n);
     let mut p: u32 = 0;
     while p < at.0 {
-        let here = Printed {
+        let here = WindowPrint {
             start: TextPlace(p),
             print: h,
         };
-        if stands(text, here, wanted, n, by) {
+        if occurs_at(text, here, wanted, n, by) {
             return TextPlace(p);
         }
-        h = finger::roll(by, h, top, text[p as usize], text[p as usize + n]);
+        h = karp_rabin::roll(by, h, top, text[p as usize], text[p as usize + n]);
         p += 1;
     }
     TextPlace(p)

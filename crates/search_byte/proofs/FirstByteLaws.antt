@@ -81,14 +81,14 @@ module _ (t : List ℕ) (byte : ℕ) where
 
   -- A stretch in which none is found.
   pub first-none : (from k r : ℕ) → FirstByte t from k byte r → k ≤ r → Without t from k byte
-  first-none from k r f past = without-fewer from k r past (f .none)
+  first-none from k r f past = without-fewer from k r past (f .absent)
 
   -- i bytes without one, then the first of k
   pub first-after : (from n i k r : ℕ) → Without t from i byte → FirstByte t (from + i) k byte r → i + k ≤ n → i + r < n → r < k
       → FirstByte t from n byte (i + r)
   first-after from n i k r w f fits low here = record {
     high = omega arith;
-    none = without-join from i r w (f .none);
+    absent = without-join from i r w (f .absent);
     there = λ h. let e : from + (i + r) ≡ from + i + r = omega arith in rw e (f .there here);
   }
 
@@ -96,18 +96,18 @@ module _ (t : List ℕ) (byte : ℕ) where
   pub first-rest : (from n i r : ℕ) → Without t from i byte → i ≤ n → FirstByte t (from + i) (n - i) byte r → FirstByte t from n byte (i + r)
   first-rest from n i r w low f = record {
     high = omega (arith, f .high);
-    none = without-join from i r w (f .none);
+    absent = without-join from i r w (f .absent);
     there = λ h. let e : from + (i + r) ≡ from + i + r = omega arith in rw e (f .there (omega arith));
   }
 
   -- More bytes than those that are looked at were compared.
   pub first-within : (from n k r : ℕ) → FirstByte t from k byte r → n < k → r ≤ n → FirstByte t from n byte r
-  first-within from n k r f less low = record { high = low; none = f .none; there = λ h. f .there (omega arith) }
+  first-within from n k r f less low = record { high = low; absent = f .absent; there = λ h. f .there (omega arith) }
 
   pub first-past : (from n k r : ℕ) → FirstByte t from k byte r → n < r → FirstByte t from n byte n
   first-past from n k r f past = record {
     high = omega arith;
-    none = without-fewer from n r (omega arith) (f .none);
+    absent = without-fewer from n r (omega arith) (f .absent);
     there = λ h. absurd (let z : ⊥ = omega arith in z);
   }
 
@@ -122,7 +122,7 @@ module _ (t : List ℕ) (byte : ℕ) where
   first-here : (at k : ℕ) → getD t at 0 ≡ byte → FirstByte t at (suc k) byte 0
   first-here at k e = record {
     high = omega arith;
-    none = without-none at;
+    absent = without-none at;
     there = λ h. let z : at + 0 ≡ at = omega arith in rw z e;
   }
 
@@ -131,7 +131,7 @@ module _ (t : List ℕ) (byte : ℕ) where
       let z : at + 0 ≡ at = omega arith in
       let e : suc r ≡ 1 + r = omega arith in record {
         high = omega (arith, f .high);
-        none = rw e (without-join at 1 r (without-more at 0 (without-none at) (rw z differs)) (f .none));
+        absent = rw e (without-join at 1 r (without-more at 0 (without-none at) (rw z differs)) (f .absent));
         there = λ h. let y : at + suc r ≡ at + 1 + r = omega arith in rw y (f .there (omega arith));
       }
 
@@ -140,7 +140,7 @@ module _ (t : List ℕ) (byte : ℕ) where
   first-digit k zero at h = absurd (let z : ⊥ = omega arith in z)
   first-digit zero (suc d) at h =
       rw (digit-one d 0 (2 ^ 0 + maskOf 0 t at byte) (mask-zero at))
-      (record { high = omega arith; none = without-none at; there = λ l. absurd (let y : ⊥ = omega arith in y) })
+      (record { high = omega arith; absent = without-none at; there = λ l. absurd (let y : ⊥ = omega arith in y) })
   first-digit (suc k) (suc d) at h = go (bool-cases (eqb (getD t at 0) byte)) (first-digit k d (at + 1) (omega arith))
     where
       m : ℕ

@@ -13,7 +13,7 @@ pub record Without (t : List ℕ) (from n byte : ℕ) : Type 0 where
 -- The first of the n bytes at a place that is equal is the r-th, from 0; r is n if there is none.
 pub record FirstByte (t : List ℕ) (from n byte r : ℕ) : Type 0 where
   pub high : r ≤ n
-  pub none : Without t from r byte
+  pub absent : Without t from r byte
   pub there : r < n → getD t (from + r) 0 ≡ byte
 
 unfoldable pub bitOf : ℕ → ℕ → ℕ

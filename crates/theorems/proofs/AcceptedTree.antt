@@ -10,14 +10,14 @@ use lib.Dec.{eqb}
 use borrow.Author.Tests.{lt-ltb, eq-eqb}
 use Rattle.text.specs.ListLaws.{bool-cases}
 use Rattle.format.specs.Layout as at
-use Rattle.format.specs.TreeReading.{pathOf, textOf, verdict}
-use Rattle.format.specs.VerdictLaws.{accepted-readable, accepted-links}
+use Rattle.format.specs.TreeReading.{pathOf, textOf, checkResult}
+use Rattle.format.specs.CheckResultLaws.{accepted-header, accepted-links}
 use Rattle.format.specs.Answers.{indexOf, isCounted, numberOfByte, pathLength}
-use Rattle.format.specs.LayoutLaws.{readable-facts}
-use Rattle.theory_paths.specs.Demands as paths
+use Rattle.format.specs.LayoutLaws.{header-facts}
+use Rattle.theory_paths.specs.Theorems as paths
 use Rattle.theory_counts.specs.CountsLocal.{byteOf}
 use Rattle.theory_counts.specs.Ranks as ranks
-use Rattle.theorems.specs.Promises.{Among, LengthOfPath}
+use Rattle.theorems.specs.Promises.{CallAmong, LengthOfPath}
 use Rattle.theorems.proofs.BlocksEntered.{length-of-path}
 
 -- A byte that is one of a list has an index in it.
@@ -31,13 +31,13 @@ among-index c (x ∷ xs) (suc i) h e = go (eqb c x) (among-index c xs i (omega a
     go true l = omega arith
     go false l = omega arith
 
-pub among-counted : (t : List ℕ) (byte : ℕ) → Among byte (at.settings t .counted) → isCounted t byte ≡ true
+pub among-counted : (t : List ℕ) (byte : ℕ) → CallAmong byte (at.settings t .counted) → isCounted t byte ≡ true
 unfolding isCounted
 among-counted t byte a = lt-ltb _ _ (among-index byte (at.settings t .counted) (a .0) (a .1) (a .2))
 
-module _ (t : List ℕ) (v : verdict t ≡ 0) where
+module _ (t : List ℕ) (v : checkResult t ≡ 0) where
   pub text-size : length (textOf t) ≡ at.textLength t
-  text-size = paths.text-size t (accepted-readable t v) (accepted-links t v)
+  text-size = paths.text-size t (accepted-header t v) (accepted-links t v)
 
   -- Below n, in the header's terms.
   pub below : {p : ℕ} → p < length (textOf t) → p < at.textLength t
@@ -46,18 +46,18 @@ module _ (t : List ℕ) (v : verdict t ≡ 0) where
   -- Every place of the text has a path of that length.
   pub path-length : (p : ℕ) → p < length (textOf t) → LengthOfPath t (at.settings t .levels) p (pathLength t (pathOf t p))
   path-length p h =
-      let pass = accepted-readable t v in
+      let pass = accepted-header t v in
       let w = paths.no-path-breaks t pass (accepted-links t v) p (below h) in
       rw (w .1) (length-of-path t pass p (w .0) (w .1))
 
   -- A byte that is not among the counted ones.
-  pub not-counted : (byte : ℕ) → (Among byte (at.settings t .counted) → ⊥) → isCounted t byte ≡ false
+  pub not-counted : (byte : ℕ) → (CallAmong byte (at.settings t .counted) → ⊥) → isCounted t byte ≡ false
   unfolding byteOf
   not-counted byte other = go (bool-cases (isCounted t byte))
     where
       go : (isCounted t byte ≡ true) ⊎ (isCounted t byte ≡ false) → isCounted t byte ≡ false
       go (inl h) =
-          let k = readable-facts t (accepted-readable t v) in
+          let k = header-facts t (accepted-header t v) in
           let c = ranks.counted t k byte h in
           absurd (other (numberOfByte t byte, omega (arith, c .number-below, k .counted-size), c .byte-is))
       go (inr e) = e

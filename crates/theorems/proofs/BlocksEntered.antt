@@ -8,15 +8,16 @@ use Prim.Native.Nat.{ℕ, _-_}
 use lib.ListN.{length}
 use Rattle.text.specs.ListLaws.{bool-cases}
 use Rattle.format.specs.Layout as at
-use Rattle.format.specs.TreeReading.{Path, pathOf, readable}
+use Rattle.format.specs.TreeReading.{Path, pathOf, headerResult}
 use Rattle.format.specs.Answers.{spanBlocks, isShort, spanReached}
-use Rattle.format.specs.ReadSaysLaws.{ShortSpan, short-span, short-lets}
-use Rattle.theory_paths.specs.Demands as paths
-use Rattle.theory_edges.specs.Demands as margins
+use Rattle.format.specs.ReadAnswerLaws.{ShortSpan, short-span, short-lets}
+use Rattle.theory_paths.specs.Theorems as paths
+use Rattle.theory_edges.specs.Theorems as margins
 use Rattle.theorems.specs.Promises.{LengthOfPath, BlocksOfSpan}
 
 -- In a tree that passes questions 5 to 7 every path that holds has such a length.
-pub length-of-path : (t : List ℕ) → readable t ≡ 0 → (p : ℕ) (q : Path) → pathOf t p ≡ some q → LengthOfPath t (at.settings t .levels) p (length (q .visits))
+pub length-of-path : (t : List ℕ) → headerResult t ≡ 0 → (p : ℕ) (q : Path) → pathOf t p ≡ some q
+    → LengthOfPath t (at.settings t .levels) p (length (q .visits))
 length-of-path t r p q e = record {
   path = q;
   path-is = e;
@@ -26,7 +27,7 @@ length-of-path t r p q e = record {
 }
 
 -- In a tree that passes questions 5 to 7 every span that is reached enters this number of blocks.
-pub blocks-of-span : (t : List ℕ) → readable t ≡ 0 → (p len : ℕ) → spanReached t p len ≡ true
+pub blocks-of-span : (t : List ℕ) → headerResult t ≡ 0 → (p len : ℕ) → spanReached t p len ≡ true
     → BlocksOfSpan t (at.settings t .levels) p len (spanBlocks t p len)
 blocks-of-span t r p len reached = record {
   walked = λ s. let w = margins.span-walked t r p len (short-lets t len s) reached in (w .0, w .1, w .2, rw (w .2) (w .3));

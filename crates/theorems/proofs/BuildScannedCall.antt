@@ -13,18 +13,18 @@ use denote.Ref.{now}
 use lib.ListN.{length, take, drop, replicate}
 use lib.Dec.{leb}
 use borrow.Author.Tests.{ne-eqb, le-leb, lt-leb}
-use Rattle.format.specs.Answers.{replied, buildNumber, buildSize, buildLeaves}
+use Rattle.format.specs.Answers.{replied, buildRefusal, buildSize, buildBuffer}
 use Rattle.format.specs.Layout.{Settings, lengthOk, sizesOk, countedOk, given}
 use Rattle.format.specs.FittingText.{fits}
 use Rattle.format.specs.TreeReading.{ask}
 use Rattle.format.specs.Blocks.{treeOf}
-use Rattle.theory_accepted.specs.AcceptedTrees.{StandsFor}
-use Rattle.build_by_search.specs.BuildAnswer.{builtReply}
-use Rattle.build_by_search.specs.declared.Built.{Built}
-use Rattle.build_by_search.specs.declared.Built.the-variants as built
-use Rattle.build_by_scan.specs.declared.Scanned.{Scanned}
-use Rattle.build_by_scan.specs.declared.Scanned.the-variants as scanned
-use Rattle.build_by_scan.specs.ScanAnswers.{windowsOf, tableWords, scanNumber, scanWindows, scanLeaves, scannedReply}
+use Rattle.theory_accepted.specs.AcceptedTrees.{Represents}
+use Rattle.build_by_search.specs.BuildAnswer.{buildReply}
+use Rattle.build_by_search.specs.declared.BuildAnswer.{BuildAnswer}
+use Rattle.build_by_search.specs.declared.BuildAnswer.the-variants as built
+use Rattle.build_by_scan.specs.declared.BuildScannedAnswer.{BuildScannedAnswer}
+use Rattle.build_by_scan.specs.declared.BuildScannedAnswer.the-variants as scanned
+use Rattle.build_by_scan.specs.ScanAnswers.{windowsOf, tableWords, buildScannedRefusal, scanWindows, buildScannedBuffer, buildScannedReply}
 use Rattle.build_by_scan.proofs.ScannedOutcomes.{number-same, size-same, leaves-same}
 pub use Rattle.theorems.specs.CallContracts.{BuildScanned}
 use Rattle.theorems.specs.Promises.{Answers, Refuses}
@@ -32,7 +32,7 @@ use Rattle.theorems.specs.PublicFunctions.{build-scanned-function, scan-
 use Rattle.theorems.proofs.BuildCall.{Build, build-numbers, build-zeros, build-answer, build-writes}
 use Rattle.theorems.proofs.BuildCall.{build-answers, build-refuses, build-accepted, build-one-text}
 use Rattle.theorems.proofs.CheckCall.{Check}
-use Rattle.theorems.proofs.OutsideCall.{Call, Lent, call}
+use Rattle.theorems.proofs.PublicCall.{Call, Lent, call}
 use Rattle.theorems.proofs.RefusalNumbers.{OneOf, asks-one}
 use Rattle.build_by_scan.proofs.build_scanned.Met as build-scanned-met
 use Rattle.build_by_scan.proofs.scan_words.Met as scan-words-met
@@ -56,7 +56,7 @@ module _ (κs : Lfts 4) (text : Lent) (leaf arity levels : ℕ) (counted words t
   abbrev T : List ℕ
   T = now text
 
-  abbrev Says : Scanned → Type 0
+  abbrev Says : BuildScannedAnswer → Type 0
   Says = BuildScanned κs text leaf arity levels counted words table out after
 
   abbrev κ : Lfts 3
@@ -65,14 +65,14 @@ module _ (κs : Lfts 4) (text : Lent) (leaf arity levels : ℕ) (counted words t
   -- Unless it answers 18, build may answer the same, and leave the buffer so.
   as-size : (size windows : ℕ) → Says (scanned.Size size windows) → Build κ text leaf arity levels counted out after (built.Size size)
   as-size size windows a =
-      let long : scanNumber S T (now out) (length (now words)) ≡ 18 → ⊥ = λ e. omega (arith, a .0) in (
+      let long : buildScannedRefusal S T (now out) (length (now words)) ≡ 18 → ⊥ = λ e. omega (arith, a .0) in (
         a .0 ∙ number-same S T (now out) (length (now words)) long,
         (a .1 .0 ∙ size-same S T (now out) (length (now words)) long, a .1 .1 .1 .0 ∙ leaves-same S T (now out) (length (now words)) long),
       )
 
   as-refused : (n : ℕ) → (n ≡ 18 → ⊥) → Says (scanned.Refused n) → Build κ text leaf arity levels counted out after (built.Refused n)
   as-refused n other a =
-      let long : scanNumber S T (now out) (length (now words)) ≡ 18 → ⊥ = λ e. other (a .0 ∙ e) in (
+      let long : buildScannedRefusal S T (now out) (length (now words)) ≡ 18 → ⊥ = λ e. other (a .0 ∙ e) in (
         a .0 ∙ number-same S T (now out) (length (now words)) long,
         (a .1 .0 ∙ size-same S T (now out) (length (now words)) long, a .1 .1 .1 .0 ∙ leaves-same S T (now out) (length (now words)) long),
       )
@@ -107,7 +107,7 @@ module _ (κs : Lfts 4) (text : Lent) (leaf arity levels : ℕ) (counted words t
     scanned-zeros e = build-zeros κ text leaf arity levels counted out after n (as-refused n (λ f. omega arith) a) e
 
     pub scanned-unchanged : (n ≡ 4 → ⊥) → now after ≡ now out
-    unfolding scanLeaves
+    unfolding buildScannedBuffer
     scanned-unchanged e = a .1 .1 .1 .0 ∙ rw (← a .0, ne-eqb n 0 (λ f. omega (arith, scanned-low)), ne-eqb n 4 e)
 
     -- Every refusal but 4 leaves the table unchanged. After 4, and if the call is not refused, the table's content is free.
@@ -116,18 +116,18 @@ module _ (κs : Lfts 4) (text : Lent) (leaf arity levels : ℕ) (counted words t
 
   -- Refused with 18, if questions 1 to 3 pass and whatever the buffer: a table of fewer than 4 × (n / m rounded up) words. A table of the size that
   -- scan_words returns is never refused with 18.
-  module _ (r : Scanned) (a : Says r) where
+  module _ (r : BuildScannedAnswer) (a : Says r) where
     pub scanned-short : lengthOk (length T) ≡ true → sizesOk S ≡ true → countedOk (now counted) ≡ true → length (now words) < tableWords (length T) leaf
         → r ≡ scanned.Refused 18
-    unfolding scanNumber
+    unfolding buildScannedRefusal
     scanned-short one two three short = go r (a .0 ∙ rw (one, two, three, lt-leb (tableWords (length T) leaf) (length (now words)) short))
       where
-        go : (r : Scanned) → replied (scannedReply r) .number ≡ 18 → r ≡ scanned.Refused 18
+        go : (r : BuildScannedAnswer) → replied (buildScannedReply r) .number ≡ 18 → r ≡ scanned.Refused 18
         go (scanned.Size n w) e = absurd (let z : ⊥ = omega arith in z)
         go (scanned.Refused n) e = ap scanned.Refused e
 
-    pub scanned-has-table : (w : ℕ) → ScanWords (length T) leaf w → w ≤ length (now words) → replied (scannedReply r) .number ≡ 18 → ⊥
-    unfolding scanNumber
+    pub scanned-has-table : (w : ℕ) → ScanWords (length T) leaf w → w ≤ length (now words) → replied (buildScannedReply r) .number ≡ 18 → ⊥
+    unfolding buildScannedRefusal
     scanned-has-table w c enough e =
         let long : tableWords (length T) leaf ≤ length (now words) = omega (arith, c) in
         let room = leb (length (treeOf S T)) (length (now out)) in
@@ -144,15 +144,15 @@ module _ (κs : Lfts 4) (text : Lent) (leaf arity levels : ℕ) (counted words t
 
     -- Request 106: with the same text, settings and buffer, build_scanned and build return the same number and size and leave the same bytes, unless
     -- build_scanned is refused with 18.
-    pub same-as-build : (κ : Lfts 3) (lent left : Lent) (b : Built) → now lent ≡ now out → Build κ text leaf arity levels counted lent left b
-        → (replied (scannedReply r) .number ≡ 18 → ⊥)
-        → (replied (scannedReply r) .number ≡ replied (builtReply b) .number) × (replied (scannedReply r) .value ≡ replied (builtReply b) .value)
+    pub same-as-build : (κ : Lfts 3) (lent left : Lent) (b : BuildAnswer) → now lent ≡ now out → Build κ text leaf arity levels counted lent left b
+        → (replied (buildScannedReply r) .number ≡ 18 → ⊥)
+        → (replied (buildScannedReply r) .number ≡ replied (buildReply b) .number) × (replied (buildScannedReply r) .value ≡ replied (buildReply b) .value)
         × (now after ≡ now left)
     same-as-build κ lent left b same c other =
-        let long : scanNumber S T (now out) (length (now words)) ≡ 18 → ⊥ = λ e. other (a .0 ∙ e) in (
-          a .0 ∙ number-same S T (now out) (length (now words)) long ∙ ap (buildNumber S T) (sym same) ∙ sym (c .0),
+        let long : buildScannedRefusal S T (now out) (length (now words)) ≡ 18 → ⊥ = λ e. other (a .0 ∙ e) in (
+          a .0 ∙ number-same S T (now out) (length (now words)) long ∙ ap (buildRefusal S T) (sym same) ∙ sym (c .0),
           a .1 .0 ∙ size-same S T (now out) (length (now words)) long ∙ ap (buildSize S T) (sym same) ∙ sym (c .1 .0),
-          a .1 .1 .1 .0 ∙ leaves-same S T (now out) (length (now words)) long ∙ ap (buildLeaves S T) (sym same) ∙ sym (c .1 .1),
+          a .1 .1 .1 .0 ∙ leaves-same S T (now out) (length (now words)) long ∙ ap (buildBuffer S T) (sym same) ∙ sym (c .1 .1),
         )
 
   -- It wrote a tree of this size at the start of the buffer.
@@ -183,5 +183,5 @@ module _ (κs : Lfts 4) (text : Lent) (leaf arity levels : ℕ) (counted words t
       scanned-accepted = build-accepted κ text leaf arity levels counted out after size (as-size size windows a) t is
 
       -- The written tree represents the input, and no other text fits.
-      pub scanned-one-text : StandsFor (now t) T × ((U : List ℕ) → fits U (now t) ≡ true → U ≡ T)
+      pub scanned-one-text : Represents (now t) T × ((U : List ℕ) → fits U (now t) ≡ true → U ≡ T)
       scanned-one-text = build-one-text κ text leaf arity levels counted out after size (as-size size windows a) t is

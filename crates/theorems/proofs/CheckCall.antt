@@ -9,12 +9,12 @@ use denote.Ref.{now}
 use Rattle.format.specs.Layout as at
 use Rattle.format.specs.TreeReading.{textOf, edgesTrue}
 use Rattle.format.specs.FittingText.{fits}
-use Rattle.format.specs.VerdictLaws.{accepted-readable, accepted-links, no-edges}
-use Rattle.theory_accepted.specs.AcceptedTrees.{StandsFor, one-text}
-use Rattle.tree.proofs.Demands as tree
+use Rattle.format.specs.CheckResultLaws.{accepted-header, accepted-links, no-edges}
+use Rattle.theory_accepted.specs.AcceptedTrees.{Represents, one-text}
+use Rattle.tree.proofs.Theorems as tree
 use Rattle.theorems.specs.Promises.{Answers, ExactCheck, Refuses}
 use Rattle.theorems.specs.PublicFunctions.{check-function}
-use Rattle.theorems.proofs.OutsideCall.{Call, Lent, call}
+use Rattle.theorems.proofs.PublicCall.{Call, Lent, call}
 use Rattle.theorems.proofs.RefusalNumbers.{OneOf, verdict-one}
 use Rattle.tree.proofs.check.Met as check-met
 use Rattle.theorems.proofs.TreeAnswers.{accepted-answers, accepted-refuses}
@@ -35,16 +35,16 @@ check-accepts = tree.check-accepts
 -- A call of check, on any bytes, whoever made them.
 module _ (κs : Lfts 1) (t : Lent) where
   -- In layout 1 there are no edges, and the condition on edges holds of every text.
-  pub older-edges : at.layout (now t) ≡ 1 → (T : List ℕ) → edgesTrue T (now t) ≡ true
-  older-edges one T = no-edges T (now t) one
+  pub layout1-no-edges : at.layout (now t) ≡ 1 → (T : List ℕ) → edgesTrue T (now t) ≡ true
+  layout1-no-edges one T = no-edges T (now t) one
 
   module _ (c : Check κs t 0) where
     -- A text that fits is the one that the paths give.
     text-is : (T : List ℕ) → fits T (now t) ≡ true → T ≡ textOf (now t)
-    text-is = one-text (now t) (accepted-readable (now t) (sym c)) (accepted-links (now t) (sym c))
+    text-is = one-text (now t) (accepted-header (now t) (sym c)) (accepted-links (now t) (sym c))
 
     -- The tree represents one text, and no other text fits.
-    pub check-one-text : (T : List ℕ) × StandsFor (now t) T × ((U : List ℕ) → fits U (now t) ≡ true → U ≡ T)
+    pub check-one-text : (T : List ℕ) × Represents (now t) T × ((U : List ℕ) → fits U (now t) ≡ true → U ≡ T)
     check-one-text = tree.check-one-text κs t 0 c refl
 
     -- If questions 10 to 12 pass, byte, count and find are not refused, return what the text T has, and return the path's length, at most 2H - 1, as blocks

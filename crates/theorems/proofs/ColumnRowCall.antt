@@ -13,20 +13,20 @@ use borrow.Author.Tests.{eq-eqb, ne-eqb, leb-true}
 use Rattle.text.specs.ListLaws.{length-tabulate}
 use Rattle.text.specs.Text.{tabulate}
 use Rattle.format.specs.Layout as at
-use Rattle.format.specs.TreeReading.{textOf, readable, verdict, asks}
-use Rattle.format.specs.VerdictLaws.{accepted-readable}
-use Rattle.format.specs.Answers.{byteSays}
-use Rattle.format.specs.SaidLaws.{next-passes, asks-pass}
-use Rattle.ask_access.specs.declared.Copied.the-variants as copied
+use Rattle.format.specs.TreeReading.{textOf, headerResult, checkResult, asks}
+use Rattle.format.specs.CheckResultLaws.{accepted-header}
+use Rattle.format.specs.Answers.{byteAnswer}
+use Rattle.format.specs.AnswerLaws.{next-passes, asks-pass}
+use Rattle.query_access.specs.declared.SpanAnswer.the-variants as copied
 use Rattle.columns.specs.Columns.{widthOk}
-use Rattle.ask_columns.proofs.Demands as columns
-use Rattle.ask_columns.specs.ColumnRows.{cell, cellsHold, columnNumber, columnSays, columnLeaves}
+use Rattle.query_columns.proofs.Theorems as columns
+use Rattle.query_columns.specs.ColumnRows.{cell, cellsHold, rowByColumnsRefusal, rowByColumnsAnswer, rowByColumnsBuffer}
 use Rattle.theorems.specs.Promises.{ColumnAnswers, ColumnRefuses}
 use Rattle.theorems.specs.PublicFunctions.{row-by-columns-function}
 use Rattle.theorems.proofs.AcceptedTree.{text-size}
-use Rattle.theorems.proofs.OutsideCall.{Call, Lent, call}
+use Rattle.theorems.proofs.PublicCall.{Call, Lent, call}
 use Rattle.theorems.proofs.RefusalNumbers.{OneOf, asks-one, not-zero, readable-one, says-answer, says-refused, then-one}
-use Rattle.ask_columns.proofs.row_by_columns.Met as row-by-columns-met
+use Rattle.query_columns.proofs.row_by_columns.Met as row-by-columns-met
 -- What the contract allows, where the buffer is left as `after`: `ByColumns κs tree width a buffer after r`.
 pub use Rattle.theorems.specs.CallContracts.{ByColumns}
 
@@ -36,50 +36,50 @@ row-by-columns-call = call row-by-columns-function row-by-columns-met.met (λ �
 -- For any bytes.
 
 -- The numbers that its questions can give.
-column-one : (t : List ℕ) (w a room : ℕ) → OneOf (5 ∷ 6 ∷ 7 ∷ 20 ∷ 10 ∷ 13 ∷ 14 ∷ 0 ∷ []) (columnNumber t w a room)
-unfolding columnNumber
+column-one : (t : List ℕ) (w a room : ℕ) → OneOf (5 ∷ 6 ∷ 7 ∷ 20 ∷ 10 ∷ 13 ∷ 14 ∷ 0 ∷ []) (rowByColumnsRefusal t w a room)
+unfolding rowByColumnsRefusal
 column-one t w a room =
-    then-one (5 ∷ 6 ∷ 7 ∷ []) (20 ∷ 10 ∷ 13 ∷ 14 ∷ 0 ∷ []) (readable t) _ (readable-one t)
+    then-one (5 ∷ 6 ∷ 7 ∷ []) (20 ∷ 10 ∷ 13 ∷ 14 ∷ 0 ∷ []) (headerResult t) _ (readable-one t)
     (asks-one ((20, widthOk w (at.textLength t)) ∷ (10, ltb a (at.textLength t / w)) ∷ (13, leb w room) ∷ (14, cellsHold t w a) ∷ []))
 
 -- Where no question refuses, the row fits.
-column-fits : (t : List ℕ) (w a room : ℕ) → columnNumber t w a room ≡ 0 → w ≤ room
-unfolding columnNumber
+column-fits : (t : List ℕ) (w a room : ℕ) → rowByColumnsRefusal t w a room ≡ 0 → w ≤ room
+unfolding rowByColumnsRefusal
 column-fits t w a room h =
     let n = at.textLength t in
     let questions : List (ℕ × Bool) = (20, widthOk w n) ∷ (10, ltb a (n / w)) ∷ (13, leb w room) ∷ (14, cellsHold t w a) ∷ [] in
-    leb-true w room (asks-pass questions refl (next-passes (readable t) (asks questions) h .1) .1 .1 .0)
+    leb-true w room (asks-pass questions refl (next-passes (headerResult t) (asks questions) h .1) .1 .1 .0)
 
 module _ (κs : Lfts 2) (t : Lent) (w a : ℕ) (buffer after : Lent) where
   -- A result is w bytes, which fit, and the bytes after them are unchanged.
   pub column-answer : (m e : ℕ) → ByColumns κs t w a buffer after (copied.Bytes m e)
       → (m ≡ w) × (e ≡ 0) × (w ≤ length (now buffer)) × (drop w (now after) ≡ drop w (now buffer))
-  unfolding columnSays columnLeaves
+  unfolding rowByColumnsAnswer rowByColumnsBuffer
   column-answer m e c =
-      let s = says-answer m e _ w 0 (c .0 .says) in
-      let row = tabulate w (λ b. byteSays (now t) (cell (now t) w a b) .value) in
-      let left : now after ≡ row ++ drop w (now buffer) = rw (eq-eqb (columnNumber (now t) w a (length (now buffer))) 0 (s .0)) at (c .1) in (
+      let s = says-answer m e _ w 0 (c .0 .answers) in
+      let row = tabulate w (λ b. byteAnswer (now t) (cell (now t) w a b) .value) in
+      let left : now after ≡ row ++ drop w (now buffer) = rw (eq-eqb (rowByColumnsRefusal (now t) w a (length (now buffer))) 0 (s .0)) at (c .1) in (
         s .1,
         s .2,
         column-fits (now t) w a (length (now buffer)) (s .0),
-        rw left (drop-at row (drop w (now buffer)) w (length-tabulate w (λ b. byteSays (now t) (cell (now t) w a b) .value))),
+        rw left (drop-at row (drop w (now buffer)) w (length-tabulate w (λ b. byteAnswer (now t) (cell (now t) w a b) .value))),
       )
 
   module _ (n : ℕ) (c : ByColumns κs t w a buffer after (copied.Refused n)) where
     -- The number is the definition's.
-    column-says : n ≡ columnNumber (now t) w a (length (now buffer))
-    unfolding columnSays
-    column-says = says-refused n _ w 0 (c .0 .numbered) (c .0 .says)
+    column-answers : n ≡ rowByColumnsRefusal (now t) w a (length (now buffer))
+    unfolding rowByColumnsAnswer
+    column-answers = says-refused n _ w 0 (c .0 .numbered) (c .0 .answers)
 
     -- A refusal is 5, 6, 7, 20, 10, 13 or 14.
     pub column-numbers : OneOf (5 ∷ 6 ∷ 7 ∷ 20 ∷ 10 ∷ 13 ∷ 14 ∷ []) n
     column-numbers =
-        not-zero (5 ∷ 6 ∷ 7 ∷ 20 ∷ 10 ∷ 13 ∷ 14 ∷ []) n (c .0 .numbered) (rw column-says (column-one (now t) w a (length (now buffer))))
+        not-zero (5 ∷ 6 ∷ 7 ∷ 20 ∷ 10 ∷ 13 ∷ 14 ∷ []) n (c .0 .numbered) (rw column-answers (column-one (now t) w a (length (now buffer))))
 
     -- What is left in the buffer, by the number.
     column-left : now after ≡ cond (eqb n 14) (replicate w 0 ++ drop w (now buffer)) (now buffer)
-    unfolding columnLeaves
-    column-left = c .1 ∙ rw (← column-says, ne-eqb n 0 (λ e. omega (arith, c .0 .numbered)))
+    unfolding rowByColumnsBuffer
+    column-left = c .1 ∙ rw (← column-answers, ne-eqb n 0 (λ e. omega (arith, c .0 .numbered)))
 
     -- Refusal 14 leaves w zeros.
     pub column-zeros : n ≡ 14 → now after ≡ replicate w 0 ++ drop w (now buffer)
@@ -90,9 +90,9 @@ module _ (κs : Lfts 2) (t : Lent) (w a : ℕ) (buffer after : Lent) where
     column-unchanged e = column-left ∙ rw (ne-eqb n 14 e)
 
 -- Any tree that the check accepts, and the one text that fits it.
-module _ (t : Lent) (v : verdict (now t) ≡ 0) where
-  pass : readable (now t) ≡ 0
-  pass = accepted-readable (now t) v
+module _ (t : Lent) (v : checkResult (now t) ≡ 0) where
+  pass : headerResult (now t) ≡ 0
+  pass = accepted-header (now t) v
 
   size : length (textOf (now t)) ≡ at.textLength (now t)
   size = text-size (now t) v

@@ -8,14 +8,14 @@ use contract.Lifetimes.{Lfts}
 use denote.Ref.{now}
 use lib.ListN.{length}
 use lib.Dec.{leb}
-use Rattle.columns.specs.Columns.{widthOk, refusalOf, columnsNumber}
+use Rattle.columns.specs.Columns.{widthOk, refusalOf, columnsRefusal}
 use Rattle.theorems.specs.PublicFunctions.{from-columns-function, to-columns-function}
-use Rattle.theorems.proofs.OutsideCall.{Call, Lent, call}
+use Rattle.theorems.proofs.PublicCall.{Call, Lent, call}
 use Rattle.theorems.proofs.RefusalNumbers.{OneOf}
 use Rattle.columns.proofs.to_columns.Met as to-columns-met
 use Rattle.columns.proofs.from_columns.Met as from-columns-met
 -- What the contracts allow, where the output is left as `after`: `ToColumns κs text width out after r`, and `FromColumns` alike.
-pub use Rattle.columns.proofs.Demands.{ToColumns, FromColumns}
+pub use Rattle.columns.proofs.Theorems.{ToColumns, FromColumns}
 
 abbrev pub to-columns-call : Call
 to-columns-call = call to-columns-function to-columns-met.met (λ 𝓤 H A mem run κs a. (tt, refl))
@@ -35,9 +35,9 @@ refusal-one w n room = go (widthOk w n) (leb n room)
 
 module _ (κs : Lfts 2) (text : Lent) (w : ℕ) (out after : Lent) (r : ℕ) where
   pub to-columns-numbers : ToColumns κs text w out after r → OneOf (20 ∷ 21 ∷ 0 ∷ []) r
-  unfolding columnsNumber
+  unfolding columnsRefusal
   to-columns-numbers a = rw (a .0) (refusal-one w (length (now text)) (length (now out)))
 
   pub from-columns-numbers : FromColumns κs text w out after r → OneOf (20 ∷ 21 ∷ 0 ∷ []) r
-  unfolding columnsNumber
+  unfolding columnsRefusal
   from-columns-numbers a = rw (a .0) (refusal-one w (length (now text)) (length (now out)))

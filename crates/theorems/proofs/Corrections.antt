@@ -14,26 +14,26 @@ use Rattle.text.specs.ListLaws.{lt-or-ge}
 use Rattle.text.specs.declared.TextPlace.{TextPlace}
 use Rattle.format.specs.Layout as at
 use Rattle.format.specs.FittingText.{fits}
-use Rattle.ask_rank.specs.declared.Counted.{Counted}
-use Rattle.ask_rank.specs.declared.Counted.the-variants as counted
-use Rattle.ask_select.specs.declared.Found.{Found}
-use Rattle.ask_select.specs.declared.Found.the-variants as found
-use Rattle.theorems.specs.Promises.{Among}
+use Rattle.query_rank.specs.declared.CountAnswer.{CountAnswer}
+use Rattle.query_rank.specs.declared.CountAnswer.the-variants as counted
+use Rattle.query_select.specs.declared.FindAnswer.{FindAnswer}
+use Rattle.query_select.specs.declared.FindAnswer.the-variants as found
+use Rattle.theorems.specs.Promises.{CallAmong}
 use Rattle.theorems.proofs.CheckCall.{Check, check-answers, check-refuses}
 use Rattle.theorems.proofs.CountCall.{Count}
 use Rattle.theorems.proofs.FindCall.{Find}
 use Rattle.theorems.proofs.OneByte.{OneByte, one-byte-back, count-before, count-near, place-same}
-use Rattle.theorems.proofs.OutsideCall.{Lent}
+use Rattle.theorems.proofs.PublicCall.{Lent}
 
 -- An accepted tree, of any origin, settings and layout, that represents the text and counts the byte.
 pub record CountingTree (T : List ℕ) (byte : ℕ) (t : Lent) : Type 0 where
   pub lifetime : Lfts 1
   pub accepted : Check lifetime t 0
   pub fitting : fits T (now t) ≡ true
-  pub counting : Among byte (at.settings (now t) .counted)
+  pub counting : CallAmong byte (at.settings (now t) .counted)
 
 -- Two results of count, where the texts differ at place d: neither is refused.
-pub record CountsNear (d i : ℕ) (r s : Counted) : Type 0 where
+pub record CountsNear (d i : ℕ) (r s : CountAnswer) : Type 0 where
   pub one : ℕ
   pub other : ℕ
   pub one-entered : ℕ
@@ -47,12 +47,12 @@ pub record CountsNear (d i : ℕ) (r s : Counted) : Type 0 where
   pub same : i ≤ d → one ≡ other
 
 -- An answer of find: this place, with any figure.
-abbrev pub FoundAt : Found → TextPlace → Type 0
+abbrev pub FoundAt : FindAnswer → TextPlace → Type 0
 FoundAt r p = (e : ℕ) × (r ≡ found.At p e)
 
 module _ (T : List ℕ) (byte : ℕ) (t : Lent) (k : CountingTree T byte t) where
   -- What count answers for any number of bytes of the text.
-  count-of : (κs : Lfts 1) (i : ℕ) (r : Counted) → Count κs t byte i r → i ≤ length T → (e : ℕ) × (r ≡ counted.Times (countIn byte (take i T)) e)
+  count-of : (κs : Lfts 1) (i : ℕ) (r : CountAnswer) → Count κs t byte i r → i ≤ length T → (e : ℕ) × (r ≡ counted.Times (countIn byte (take i T)) e)
   unfolding countIn
   count-of κs zero r c h = (0, check-answers (k .lifetime) t (k .accepted) T (k .fitting) .count .count-none κs byte r c (k .counting))
   count-of κs (suc i) r c h =
@@ -60,13 +60,13 @@ module _ (T : List ℕ) (byte : ℕ) (t : Lent) (k : CountingTree T byte t) wher
       (w .0, w .2)
 
   -- The answer of find if there is a j-th occurrence.
-  find-of : (κs : Lfts 1) (j : ℕ) (r : Found) → Find κs t byte j r → 1 ≤ j → j ≤ countIn byte T → FoundAt r (record { 0 = placeOf byte j T })
+  find-of : (κs : Lfts 1) (j : ℕ) (r : FindAnswer) → Find κs t byte j r → 1 ≤ j → j ≤ countIn byte T → FoundAt r (record { 0 = placeOf byte j T })
   find-of κs j r c low high =
       let w = check-answers (k .lifetime) t (k .accepted) T (k .fitting) .find .find-of κs byte j r c (k .counting) low high in
       (w .0, w .2)
 
   -- Find returns a place only if there is a j-th occurrence.
-  find-low : (κs : Lfts 1) (j : ℕ) (r : Found) → Find κs t byte j r → (p : TextPlace) → FoundAt r p → (1 ≤ j) × (j ≤ countIn byte T)
+  find-low : (κs : Lfts 1) (j : ℕ) (r : FindAnswer) → Find κs t byte j r → (p : TextPlace) → FoundAt r p → (1 ≤ j) × (j ≤ countIn byte T)
   find-low κs j r c p is = go (lt-or-ge 0 j) (lt-or-ge (countIn byte T) j)
     where
       clash : (e q : ℕ) → r ≡ found.At p e → r ≡ found.Refused q → (1 ≤ j) × (j ≤ countIn byte T)
@@ -83,7 +83,7 @@ module _ (T : List ℕ) (byte : ℕ) (t : Lent) (k : CountingTree T byte t) wher
 -- The place that the first tree answers, before the difference, is the second tree's too.
 place-kept :
     (T U : List ℕ) (d : ℕ) → OneByte T U d → (byte : ℕ) (t u : Lent) → CountingTree T byte t → CountingTree U byte u
-    → (κs κ : Lfts 1) (j : ℕ) (r s : Found) → Find κs t byte j r → Find κ u byte j s → (p : TextPlace) → p .0 < d → FoundAt r p → FoundAt s p
+    → (κs κ : Lfts 1) (j : ℕ) (r s : FindAnswer) → Find κs t byte j r → Find κ u byte j s → (p : TextPlace) → p .0 < d → FoundAt r p → FoundAt s p
 place-kept T U d k byte t u kt ku κs κ j r s a b p before is =
     let z = find-low T byte t kt κs j r a p is in
     let x = find-of T byte t kt κs j r a (z .0) (z .1) in
@@ -95,13 +95,13 @@ place-kept T U d k byte t u kt ku κs κ j r s a b p before is =
     placed : (p q : TextPlace) (e f : ℕ) → found.At p e ≡ found.At q f → p ≡ q
     placed p q e f z = cc
 
-    same : (p : TextPlace) (x y f : ℕ) (s : Found) → p ≡ record { 0 = x } → y ≡ x → s ≡ found.At (record { 0 = y }) f → s ≡ found.At p f
+    same : (p : TextPlace) (x y f : ℕ) (s : FindAnswer) → p ≡ record { 0 = x } → y ≡ x → s ≡ found.At (record { 0 = y }) f → s ≡ found.At p f
     same p x y f s p-is y-is s-is = rw (p-is, ← y-is) s-is
 
 -- Request 111: T and U differ at place d only; t and u are accepted trees of these texts, and both count the byte.
 module _ (T U : List ℕ) (d : ℕ) (k : OneByte T U d) (byte : ℕ) (t u : Lent) (kt : CountingTree T byte t) (ku : CountingTree U byte u) where
   -- The counts in the first i bytes are at most 1 apart, and equal for i up to d.
-  pub counts-near : (κs κ : Lfts 1) (i : ℕ) (r s : Counted) → Count κs t byte i r → Count κ u byte i s → i ≤ length T → CountsNear d i r s
+  pub counts-near : (κs κ : Lfts 1) (i : ℕ) (r s : CountAnswer) → Count κs t byte i r → Count κ u byte i s → i ≤ length T → CountsNear d i r s
   counts-near κs κ i r s a b h =
       let x = count-of T byte t kt κs i r a h in
       let y = count-of U byte u ku κ i s b (omega (arith, k .same-length)) in
@@ -118,7 +118,7 @@ module _ (T U : List ℕ) (d : ℕ) (k : OneByte T U d) (byte : ℕ) (t u : Lent
       }
 
   -- If find returns a place before d for one of the trees, it returns the same for the other.
-  pub place-before : (κs κ : Lfts 1) (j : ℕ) (r s : Found) → Find κs t byte j r → Find κ u byte j s
+  pub place-before : (κs κ : Lfts 1) (j : ℕ) (r s : FindAnswer) → Find κs t byte j r → Find κ u byte j s
       → (p : TextPlace) → p .0 < d → FoundAt r p ↔ FoundAt s p
   place-before κs κ j r s a b p before = (
     place-kept T U d k byte t u kt ku κs κ j r s a b p before,

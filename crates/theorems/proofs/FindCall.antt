@@ -16,54 +16,54 @@ use Rattle.text.specs.ListLaws.{bool-cases, and-left, and-right}
 use Rattle.text.specs.declared.TextPlace.{TextPlace}
 use Rattle.format.specs.Layout.{Settings}
 use Rattle.format.specs.Layout as at
-use Rattle.format.specs.TreeReading.{pathOf, textOf, verdict}
-use Rattle.format.specs.VerdictLaws.{accepted-readable}
-use Rattle.format.specs.Answers.{Said, refused, NeverZero, replied, numberOfByte, selectNumber, pathLength, total, found as foundFor}
-use Rattle.format.specs.FindSaysLaws.{FindSays}
-use Rattle.theory_counts.specs.Demands as tallies
-use Rattle.ask_select.specs.declared.Found.{Found}
-use Rattle.ask_select.specs.declared.Found.the-variants as found
-use Rattle.ask_select.specs.Found.{findReply}
-use Rattle.theorems.specs.Promises.{Among, FindAnswers, FindRefuses}
-pub use Rattle.theorems.specs.CallContracts.{Find}
+use Rattle.format.specs.TreeReading.{pathOf, textOf, checkResult}
+use Rattle.format.specs.CheckResultLaws.{accepted-header}
+use Rattle.format.specs.Answers.{Answer, refused, NeverZero, replied, numberOfByte, findRefusal, pathLength, total, found as foundFor}
+use Rattle.format.specs.FindAnswerLaws.{FindAnswers}
+use Rattle.theory_counts.specs.Theorems as tallies
+use Rattle.query_select.specs.declared.FindAnswer.{FindAnswer}
+use Rattle.query_select.specs.declared.FindAnswer.the-variants as found
+use Rattle.query_select.specs.Found.{findReply}
+use Rattle.theorems.specs.Promises.{CallAmong, FindAnswers, FindRefuses}
+pub use Rattle.theorems.specs.CallContracts.{CallFind}
 use Rattle.theorems.specs.PublicFunctions.{find-function}
 use Rattle.theorems.proofs.AcceptedTree.{among-counted, not-counted, path-length}
 use Rattle.theorems.proofs.FindOutcomes.{FindOutcome, find-outcome, outcome-below, outcome-numbers, select-through}
-use Rattle.theorems.proofs.OutsideCall.{Call, Lent, call}
+use Rattle.theorems.proofs.PublicCall.{Call, Lent, call}
 use Rattle.theorems.proofs.RefusalNumbers.{OneOf}
-use Rattle.ask_select.proofs.find.Met as find-met
+use Rattle.query_select.proofs.find.Met as find-met
 
 abbrev pub find-call : Call
 find-call = call find-function find-met.met (λ 𝓤 H A mem run κs a. (tt, refl))
 
 -- For any bytes.
 module _ (κs : Lfts 1) (t : Lent) (byte j : ℕ) where
-  outcome-of : (s : Said) → FindSays (now t) byte j s → FindOutcome (now t) byte j s
-  outcome-of s f = find-outcome (now t) byte j (verdict (now t)) (λ v. v) s f
+  outcome-of : (s : Answer) → FindAnswers (now t) byte j s → FindOutcome (now t) byte j s
+  outcome-of s f = find-outcome (now t) byte j (checkResult (now t)) (λ v. v) s f
 
   -- A returned place is a place of the text.
-  pub find-answer : (p : TextPlace) (e : ℕ) → Find κs t byte j (found.At p e) → p .0 < at.textLength (now t)
-  find-answer p e a = outcome-below (now t) byte j (record { number = 0; value = p .0; entered = e }) refl (outcome-of _ (a .says))
+  pub find-answer : (p : TextPlace) (e : ℕ) → CallFind κs t byte j (found.At p e) → p .0 < at.textLength (now t)
+  find-answer p e a = outcome-below (now t) byte j (record { number = 0; value = p .0; entered = e }) refl (outcome-of _ (a .answers))
 
   -- A refusal is 5, 6, 7, 11, 12 or 14.
-  pub find-numbers : (n : ℕ) → Find κs t byte j (found.Refused n) → OneOf (5 ∷ 6 ∷ 7 ∷ 11 ∷ 12 ∷ 14 ∷ []) n
-  find-numbers n a = outcome-numbers (now t) byte j n (a .numbered) (outcome-of _ (a .says))
+  pub find-numbers : (n : ℕ) → CallFind κs t byte j (found.Refused n) → OneOf (5 ∷ 6 ∷ 7 ∷ 11 ∷ 12 ∷ 14 ∷ []) n
+  find-numbers n a = outcome-numbers (now t) byte j n (a .numbered) (outcome-of _ (a .answers))
 
 -- The answer in each case.
-find-is : (r : Found) (v e : ℕ) → NeverZero (findReply r) → replied (findReply r) ≡ record { number = 0; value = v; entered = e }
+find-is : (r : FindAnswer) (v e : ℕ) → NeverZero (findReply r) → replied (findReply r) ≡ record { number = 0; value = v; entered = e }
     → r ≡ found.At (record { 0 = v }) e
 find-is (found.At p m) v e k s =
-    let z : p ≡ record { 0 = v } = ap (λ (n : ℕ). record { 0 = n }) (ap (λ (x : Said). x .value) s) in
-    let y : m ≡ e = ap (λ (x : Said). x .entered) s in
+    let z : p ≡ record { 0 = v } = ap (λ (n : ℕ). record { 0 = n }) (ap (λ (x : Answer). x .value) s) in
+    let y : m ≡ e = ap (λ (x : Answer). x .entered) s in
     cc
-find-is (found.Refused q) v e k s = absurd (let z : q ≡ 0 = ap (λ (x : Said). x .number) s in omega arith)
+find-is (found.Refused q) v e k s = absurd (let z : q ≡ 0 = ap (λ (x : Answer). x .number) s in omega arith)
 
-find-no : (r : Found) (n : ℕ) → replied (findReply r) ≡ refused (suc n) → r ≡ found.Refused (suc n)
-find-no (found.At p e) n s = absurd (let z : _≡_ {A = ℕ} 0 (suc n) = ap (λ (x : Said). x .number) s in omega arith)
-find-no (found.Refused m) n s = ap (λ (x : Said). found.Refused (x .number)) s
+find-no : (r : FindAnswer) (n : ℕ) → replied (findReply r) ≡ refused (suc n) → r ≡ found.Refused (suc n)
+find-no (found.At p e) n s = absurd (let z : _≡_ {A = ℕ} 0 (suc n) = ap (λ (x : Answer). x .number) s in omega arith)
+find-no (found.Refused m) n s = ap (λ (x : Answer). found.Refused (x .number)) s
 
 -- Any tree that the check accepts, and the one text that fits it.
-module _ (t : Lent) (v : verdict (now t) ≡ 0) where
+module _ (t : Lent) (v : checkResult (now t) ≡ 0) where
   abbrev T : List ℕ
   T = textOf (now t)
 
@@ -76,29 +76,29 @@ module _ (t : Lent) (v : verdict (now t) ≡ 0) where
     find-of = λ κs byte j r a k low high.
         let p = placeOf byte j T in
         let in-text : p < length T = omega (arith, place-nth byte j T low high .within) in
-        let is = find-is r p _ (a .numbered) (a .says .accepted (select-through (now t) v byte j k low high) v) in
+        let is = find-is r p _ (a .numbered) (a .answers .accepted (select-through (now t) v byte j k low high) v) in
         (pathLength (now t) (pathOf (now t) p), path-length (now t) v p in-text, is);
   }
 
   -- Questions 11 and 12.
-  eleven : (byte j : ℕ) → (Among byte (S .counted) → ⊥) → selectNumber (now t) byte j ≡ 11
-  unfolding selectNumber
-  eleven byte j other = rw (accepted-readable (now t) v, not-counted (now t) v byte other)
+  eleven : (byte j : ℕ) → (CallAmong byte (S .counted) → ⊥) → findRefusal (now t) byte j ≡ 11
+  unfolding findRefusal
+  eleven byte j other = rw (accepted-header (now t) v, not-counted (now t) v byte other)
 
-  twelve : (byte j : ℕ) → Among byte (S .counted) → (1 ≤ j → j ≤ countIn byte T → ⊥) → selectNumber (now t) byte j ≡ 12
-  unfolding selectNumber
+  twelve : (byte j : ℕ) → CallAmong byte (S .counted) → (1 ≤ j → j ≤ countIn byte T → ⊥) → findRefusal (now t) byte j ≡ 12
+  unfolding findRefusal
   twelve byte j k none =
       let c = among-counted (now t) byte k in
       let all = total (now t) (numberOfByte (now t) byte) in
-      rw (accepted-readable (now t) v, c, go all (tallies.total-of-text (now t) v byte c) (bool-cases (leb 1 j && leb j all)))
+      rw (accepted-header (now t) v, c, go all (tallies.total-of-text (now t) v byte c) (bool-cases (leb 1 j && leb j all)))
     where
       go : (all : ℕ) → all ≡ countIn byte T → ((leb 1 j && leb j all) ≡ true) ⊎ ((leb 1 j && leb j all) ≡ false) → (leb 1 j && leb j all) ≡ false
       go all e (inl h) = absurd (none (leb-true 1 j (and-left (leb 1 j) (leb j all) h)) (rw e at (leb-true j all (and-right (leb 1 j) (leb j all) h))))
       go all e (inr h) = h
 
   -- Refused before the walk.
-  find-asked : (κs : Lfts 1) (byte j : ℕ) (r : Found) (n : ℕ) → Find κs t byte j r → selectNumber (now t) byte j ≡ suc n → r ≡ found.Refused (suc n)
-  find-asked κs byte j r n a e = find-no r n (rw e at (a .says .asked (rw e (omega arith))))
+  find-asked : (κs : Lfts 1) (byte j : ℕ) (r : FindAnswer) (n : ℕ) → CallFind κs t byte j r → findRefusal (now t) byte j ≡ suc n → r ≡ found.Refused (suc n)
+  find-asked κs byte j r n a e = find-no r n (rw e at (a .answers .asked (rw e (omega arith))))
 
   pub accepted-refuses : FindRefuses t S T
   accepted-refuses = record {

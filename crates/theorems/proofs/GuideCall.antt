@@ -1,4 +1,4 @@
--- guide_words(tree), make_guide(tree, table) and check_guide(tree, guide): the size of a guide to the level 0 blocks; make one; check one. `Demands` of their
+-- guide_words(tree), make_guide(tree, table) and check_guide(tree, guide): the size of a guide to the level 0 blocks; make one; check one. `Theorems` of their
 -- crate has the other theorems.
 use mathlib.Core.List.{[], _∷_}
 use mathlib.Core.Path.{_≡_, ap, _∙_, refl}
@@ -8,20 +8,20 @@ use denote.Ref.{now}
 use lib.ListN.{length}
 use lib.Dec.{leb}
 use Rattle.text.specs.Text.{sameList}
-use Rattle.format.specs.TreeReading.{readable, verdict}
-use Rattle.format.specs.Answers.{Said}
-use Rattle.format.specs.SaidLaws.{unless-number}
-use Rattle.ask_guide.specs.declared.Size.the-variants as size
-use Rattle.ask_guide.specs.Guides.{guideBytes, guideWords, guideNumber, sizeSays, makeNumber, makeSays}
+use Rattle.format.specs.TreeReading.{headerResult, checkResult}
+use Rattle.format.specs.Answers.{Answer}
+use Rattle.format.specs.AnswerLaws.{unless-number}
+use Rattle.query_guide.specs.declared.GuideWordsAnswer.the-variants as size
+use Rattle.query_guide.specs.Guides.{guideBytes, guideWords, guideRefusal, guideWordsAnswer, makeGuideRefusal, makeGuideAnswer}
 use Rattle.theorems.specs.PublicFunctions.{check-guide-function, guide-words-function, make-guide-function}
-use Rattle.theorems.proofs.OutsideCall.{Call, Lent, call}
+use Rattle.theorems.proofs.PublicCall.{Call, Lent, call}
 use Rattle.theorems.proofs.RefusalNumbers.{OneOf, asks-one, not-zero, readable-one, then-one, verdict-one}
-use Rattle.ask_guide.proofs.guide_words.Met as guide-words-met
+use Rattle.query_guide.proofs.guide_words.Met as guide-words-met
 use Rattle.build_guide.proofs.make_guide.Met as make-guide-met
 use Rattle.build_guide.proofs.check_guide.Met as check-guide-met
 -- What the contracts allow: `GuideWords κs tree r`, `MakeGuide κs tree table after r`, which leaves the table as `after`, `CheckGuide κs tree guide r`.
-pub use Rattle.ask_guide.proofs.Demands.{GuideWords}
-pub use Rattle.build_guide.proofs.Demands.{MakeGuide, CheckGuide}
+pub use Rattle.query_guide.proofs.Theorems.{GuideWords}
+pub use Rattle.build_guide.proofs.Theorems.{MakeGuide, CheckGuide}
 
 abbrev pub guide-words-call : Call
 guide-words-call = call guide-words-function guide-words-met.met (λ 𝓤 H A mem run κs a. (tt, refl))
@@ -34,25 +34,26 @@ check-guide-call = call check-guide-function check-guide-met.met (λ 𝓤 H A me
 
 -- Checking a guide: 0, 5 to 9, or 24.
 pub check-guide-numbers : (κs : Lfts 2) (t guide : Lent) (r : ℕ) → CheckGuide κs t guide r → OneOf (5 ∷ 6 ∷ 7 ∷ 8 ∷ 9 ∷ 24 ∷ 0 ∷ []) r
-unfolding guideNumber
+unfolding guideRefusal
 check-guide-numbers κs t guide r a =
-    rw a (then-one (5 ∷ 6 ∷ 7 ∷ 8 ∷ 9 ∷ []) (24 ∷ 0 ∷ []) (verdict (now t)) _ (verdict-one (now t))
+    rw a (then-one (5 ∷ 6 ∷ 7 ∷ 8 ∷ 9 ∷ []) (24 ∷ 0 ∷ []) (checkResult (now t)) _ (verdict-one (now t))
     (asks-one ((24, sameList (now guide) (guideBytes (now t))) ∷ [])))
 
 -- Making one: a refusal is 5 to 9 or 25.
 pub make-guide-numbers : (κs : Lfts 2) (t table after : Lent) (n : ℕ) → MakeGuide κs t table after (size.Refused n) → OneOf (5 ∷ 6 ∷ 7 ∷ 8 ∷ 9 ∷ 25 ∷ []) n
-unfolding makeNumber makeSays
+unfolding makeGuideRefusal makeGuideAnswer
 make-guide-numbers κs t table after n a =
-    let made : Said = record { number = 0; value = guideWords (now t); entered = 0 } in
-    let e : n ≡ makeNumber (now t) (now table) = ap (λ (s : Said). s .number) (a .0 .0) ∙ unless-number (makeNumber (now t) (now table)) made refl in
+    let made : Answer = record { number = 0; value = guideWords (now t); entered = 0 } in
+    let e : n ≡ makeGuideRefusal (now t) (now table) = ap (λ (s : Answer). s .number) (a .0 .0)
+    ∙ unless-number (makeGuideRefusal (now t) (now table)) made refl in
     not-zero (5 ∷ 6 ∷ 7 ∷ 8 ∷ 9 ∷ 25 ∷ []) n (a .0 .1)
-    (rw e (then-one (5 ∷ 6 ∷ 7 ∷ 8 ∷ 9 ∷ []) (25 ∷ 0 ∷ []) (verdict (now t)) _ (verdict-one (now t))
+    (rw e (then-one (5 ∷ 6 ∷ 7 ∷ 8 ∷ 9 ∷ []) (25 ∷ 0 ∷ []) (checkResult (now t)) _ (verdict-one (now t))
     (asks-one ((25, leb (length (guideBytes (now t))) (length (now table))) ∷ []))))
 
 -- guide_words: a refusal is 5, 6 or 7.
 pub guide-words-numbers : (κs : Lfts 1) (t : Lent) (n : ℕ) → GuideWords κs t (size.Refused n) → OneOf (5 ∷ 6 ∷ 7 ∷ []) n
-unfolding sizeSays
+unfolding guideWordsAnswer
 guide-words-numbers κs t n a =
-    let told : Said = record { number = 0; value = guideWords (now t); entered = 0 } in
-    let e : n ≡ readable (now t) = ap (λ (s : Said). s .number) (a .0) ∙ unless-number (readable (now t)) told refl in
+    let told : Answer = record { number = 0; value = guideWords (now t); entered = 0 } in
+    let e : n ≡ headerResult (now t) = ap (λ (s : Answer). s .number) (a .0) ∙ unless-number (headerResult (now t)) told refl in
     not-zero (5 ∷ 6 ∷ 7 ∷ []) n (a .1) (rw e (readable-one (now t)))

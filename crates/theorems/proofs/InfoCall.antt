@@ -1,16 +1,16 @@
--- info(tree, figures): the figures of a tree, and version(): the version of the library. `Demands` of their crate has the theorems on what they return.
+-- info(tree, figures): the figures of a tree, and version(): the version of the library. `Theorems` of their crate has the theorems on what they return.
 use mathlib.Core.List.{[], _∷_}
 use mathlib.Core.Path.{refl}
 use Prim.Native.Nat.{ℕ}
 use contract.Lifetimes.{Lfts}
 use denote.Ref.{now}
 use Rattle.theorems.specs.PublicFunctions.{info-function, version-function}
-use Rattle.theorems.proofs.OutsideCall.{Call, Lent, call}
+use Rattle.theorems.proofs.PublicCall.{Call, Lent, call}
 use Rattle.theorems.proofs.RefusalNumbers.{OneOf, readable-one}
-use Rattle.ask_facts.proofs.info.Met as info-met
-use Rattle.ask_facts.proofs.version.Met as version-met
+use Rattle.query_info.proofs.info.Met as info-met
+use Rattle.query_info.proofs.version.Met as version-met
 -- What the contracts allow: `Info κs tree figures after r`, which leaves the figures as `after`, and `Version`.
-pub use Rattle.ask_facts.proofs.Demands.{Info, Version}
+pub use Rattle.query_info.proofs.Theorems.{Info, Version}
 
 abbrev pub info-call : Call
 info-call = call info-function info-met.met (λ 𝓤 H A mem run κs a. (tt, refl))

@@ -1,8 +1,8 @@
 -- leftmost(text, place, length, by) and occurs_earlier(..): the leftmost occurrence of the same bytes; Fingerprint::new(base, modulus) makes `by` of any two
--- numbers. `Demands` of their crate has the theorems on what they return.
+-- numbers. `Theorems` of their crate has the theorems on what they return.
 use mathlib.Core.Path.{refl}
 use Rattle.theorems.specs.PublicFunctions.{fingerprint-new-function, leftmost-function, occurs-earlier-function}
-use Rattle.theorems.proofs.OutsideCall.{Call, call}
+use Rattle.theorems.proofs.PublicCall.{Call, call}
 use Rattle.search.proofs.Fingerprint.new.Met as new-met
 use Rattle.search.proofs.leftmost.Met as leftmost-met
 use Rattle.search.proofs.occurs_earlier.Met as occurs-earlier-met

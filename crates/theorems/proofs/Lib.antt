@@ -1,4 +1,4 @@
-pub mod OutsideCall
+pub mod PublicCall
 pub mod RefusalNumbers
 pub mod BlocksEntered
 pub mod AcceptedTree
@@ -21,7 +21,7 @@ pub mod ColumnRowCall
 pub mod DigestCall
 pub mod TreeAnswers
 pub mod LeftmostCall
-pub mod EnoughCall
+pub mod SizeBoundCall
 pub mod CheckCall
 pub mod BuildCall
 pub mod BuildScannedCall
@@ -31,9 +31,9 @@ pub mod RowGuidedCall
 pub mod OrderCall
 pub mod InfoCall
 pub mod WithoutEdgesCall
-pub mod EveryCall
+pub mod PublicCalls
 pub mod RowsByColumns
 pub mod EmptyText
 pub mod OneByte
 pub mod Corrections
-pub mod Demands
+pub mod Theorems

@@ -1,4 +1,4 @@
--- next_match(tree, ranges, mark): the next row after a mark whose cuts are each in their range; show(mark, tree, ranges) moves the caller's mark. `Demands`
+-- next_match(tree, ranges, mark): the next row after a mark whose cuts are each in their range; show(mark, tree, ranges) moves the caller's mark. `Theorems`
 -- of their crate has the theorems on the mark.
 use mathlib.Core.List.{List, [], _∷_}
 use mathlib.Core.Bool.{true}
@@ -8,24 +8,24 @@ use Prim.Native.Nat.{ℕ}
 use contract.Lifetimes.{Lfts}
 use denote.Ref.{now}
 use Rattle.format.specs.Layout as at
-use Rattle.format.specs.TreeReading.{textOf, readable, verdict}
-use Rattle.format.specs.VerdictLaws.{accepted-readable}
+use Rattle.format.specs.TreeReading.{textOf, headerResult, checkResult}
+use Rattle.format.specs.CheckResultLaws.{accepted-header}
 use Rattle.format.specs.Answers.{isCounted}
 use Rattle.keys.specs.Keys.{rangesOk}
 use Rattle.query_row_filter.specs.AllowedRows.{queryRefusal, newlineRefusal}
-use Rattle.ask_worn_keys.proofs.Demands.{refusal-is}
-use Rattle.ask_worn_keys.proofs.Demands as worn-keys
+use Rattle.query_key_match.proofs.Theorems.{refusal-is}
+use Rattle.query_key_match.proofs.Theorems as worn-keys
 use Rattle.query_row_filter.specs.declared.NextRowAnswer.the-variants as shown
-use Rattle.theorems.specs.Promises.{Among, MatchAnswers, MatchRefuses}
+use Rattle.theorems.specs.Promises.{CallAmong, MatchAnswers, MatchRefuses}
 use Rattle.theorems.specs.PublicFunctions.{next-match-function, show-function}
 use Rattle.theorems.proofs.AcceptedTree.{among-counted, not-counted}
-use Rattle.theorems.proofs.OutsideCall.{Call, Lent, call}
+use Rattle.theorems.proofs.PublicCall.{Call, Lent, call}
 use Rattle.theorems.proofs.RefusalNumbers.{OneOf, asks-one, not-zero, of-left, of-right, readable-one, then-one}
-use Rattle.ask_worn_keys.proofs.next_match.Met as next-match-met
-use Rattle.ask_worn_keys.proofs.show.Met as show-met
--- What the contract of `next_match` allows: `NextMatch κs tree ranges mark r`; the contract of `show` is `Moved`.
+use Rattle.query_key_match.proofs.next_match.Met as next-match-met
+use Rattle.query_key_match.proofs.advance_mark.Met as show-met
+-- What the contract of `next_match` allows: `NextMatch κs tree ranges mark r`; the contract of `advance_mark` is `Moved`.
 pub use Rattle.theorems.specs.CallContracts.{NextMatch}
-pub use Rattle.ask_worn_keys.specs.MatchAnswer.{Moved}
+pub use Rattle.query_key_match.specs.MatchAnswer.{Moved}
 
 abbrev pub next-match-call : Call
 next-match-call = call next-match-function next-match-met.met (λ 𝓤 H A mem run κs a. (tt, refl))
@@ -39,24 +39,24 @@ show-call = call show-function show-met.met (λ 𝓤 H A mem run κs a. (tt, ref
 match-one : (t ranges : List ℕ) → OneOf (5 ∷ 6 ∷ 7 ∷ 19 ∷ 11 ∷ 0 ∷ []) (queryRefusal t 19 (rangesOk ranges))
 unfolding queryRefusal newlineRefusal
 match-one t ranges =
-    then-one (5 ∷ 6 ∷ 7 ∷ []) (19 ∷ 11 ∷ 0 ∷ []) (readable t) _ (readable-one t)
+    then-one (5 ∷ 6 ∷ 7 ∷ []) (19 ∷ 11 ∷ 0 ∷ []) (headerResult t) _ (readable-one t)
     (asks-one ((19, rangesOk ranges) ∷ (11, isCounted t 10) ∷ []))
 
 -- A refusal is 5, 6, 7, 19, 11 or 14.
 pub match-numbers : (κs : Lfts 2) (t ranges : Lent) (mark n : ℕ) → NextMatch κs t ranges mark (shown.Refused n) → OneOf (5 ∷ 6 ∷ 7 ∷ 19 ∷ 11 ∷ 14 ∷ []) n
 match-numbers κs t ranges mark n a = go (refusal-is (now t) (now ranges) mark n a)
   where
-    go : (n ≡ queryRefusal (now t) 19 (rangesOk (now ranges))) ⊎ ((n ≡ 14) × (verdict (now t) ≡ 0 → ⊥)) → OneOf (5 ∷ 6 ∷ 7 ∷ 19 ∷ 11 ∷ 14 ∷ []) n
+    go : (n ≡ queryRefusal (now t) 19 (rangesOk (now ranges))) ⊎ ((n ≡ 14) × (checkResult (now t) ≡ 0 → ⊥)) → OneOf (5 ∷ 6 ∷ 7 ∷ 19 ∷ 11 ∷ 14 ∷ []) n
     go (inl e) = of-left (5 ∷ 6 ∷ 7 ∷ 19 ∷ 11 ∷ []) (14 ∷ []) n (not-zero (5 ∷ 6 ∷ 7 ∷ 19 ∷ 11 ∷ []) n (a .numbered) (rw e (match-one (now t) (now ranges))))
     go (inr h) = of-right (5 ∷ 6 ∷ 7 ∷ 19 ∷ 11 ∷ []) (14 ∷ []) n (inl (h .0))
 
 -- Any tree that the check accepts, and the one text that fits it.
-module _ (t : Lent) (v : verdict (now t) ≡ 0) where
-  pass : readable (now t) ≡ 0
-  pass = accepted-readable (now t) v
+module _ (t : Lent) (v : checkResult (now t) ≡ 0) where
+  pass : headerResult (now t) ≡ 0
+  pass = accepted-header (now t) v
 
   -- Questions 19 and 11 let the search for a match through.
-  match-through : (ranges : List ℕ) → rangesOk ranges ≡ true → Among 10 (at.settings (now t) .counted) → queryRefusal (now t) 19 (rangesOk ranges) ≡ 0
+  match-through : (ranges : List ℕ) → rangesOk ranges ≡ true → CallAmong 10 (at.settings (now t) .counted) → queryRefusal (now t) 19 (rangesOk ranges) ≡ 0
   match-through ranges ok k = worn-keys.match-through (now t) ranges pass ok (among-counted (now t) 10 k)
 
   pub accepted-answers : MatchAnswers t (at.settings (now t)) (textOf (now t))

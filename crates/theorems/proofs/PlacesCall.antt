@@ -12,23 +12,23 @@ use lib.Dec.{leb}
 use borrow.Author.Tests.{ne-eqb, leb-true}
 use Rattle.text.specs.ListLaws.{and-left, and-right}
 use Rattle.format.specs.Layout as at
-use Rattle.format.specs.TreeReading.{Path, pathOf, linksOk, textOf, readable, verdict, asks}
-use Rattle.format.specs.VerdictLaws.{accepted-readable, accepted-links}
-use Rattle.format.specs.Answers.{Said, pathsHold}
-use Rattle.format.specs.LayoutLaws.{readable-facts}
-use Rattle.format.specs.SaidLaws.{unless-passes, unless-number, next-passes, asks-pass}
-use Rattle.theory_paths.specs.Demands as paths
+use Rattle.format.specs.TreeReading.{Path, pathOf, linksOk, textOf, headerResult, checkResult, asks}
+use Rattle.format.specs.CheckResultLaws.{accepted-header, accepted-links}
+use Rattle.format.specs.Answers.{Answer, pathsHold}
+use Rattle.format.specs.LayoutLaws.{header-facts}
+use Rattle.format.specs.AnswerLaws.{unless-passes, unless-number, next-passes, asks-pass}
+use Rattle.theory_paths.specs.Theorems as paths
 use Rattle.theory_paths.specs.PlaceBytes.{hold-at, path-there}
 use Rattle.theory_paths.specs.Reads.{text-of-path}
-use Rattle.ask_patterns.specs.PlacesLaws.{places-all, AllPlaces}
-use Rattle.ask_patterns.proofs.Demands as patterns
-use Rattle.ask_patterns.specs.Places.{maxPattern, placesIn, patternOk, placesOf, placesNumber, placesSays, placesLeaves}
-use Rattle.ask_patterns.specs.declared.PlacesWritten.the-variants as places
+use Rattle.query_places.specs.PlacesLaws.{places-all, AllPlaces}
+use Rattle.query_places.proofs.Theorems as patterns
+use Rattle.query_places.specs.Places.{maxPattern, placesIn, patternOk, placesOf, placesRefusal, placesAnswer, placesBuffer}
+use Rattle.query_places.specs.declared.PlacesAnswer.the-variants as places
 use Rattle.theorems.specs.Promises.{PlacesAnswers, PlacesRefuses}
 use Rattle.theorems.specs.PublicFunctions.{places-function}
-use Rattle.theorems.proofs.OutsideCall.{Call, Lent, call}
+use Rattle.theorems.proofs.PublicCall.{Call, Lent, call}
 use Rattle.theorems.proofs.RefusalNumbers.{OneOf, asks-one, not-zero, readable-one, then-one}
-use Rattle.ask_patterns.proofs.places.Met as places-met
+use Rattle.query_places.proofs.places.Met as places-met
 -- What the contract allows, where the table is left as `after`: `Places κs tree pattern table after r`.
 pub use Rattle.theorems.specs.CallContracts.{Places}
 
@@ -38,19 +38,19 @@ places-call = call places-function places-met.met (λ 𝓤 H A mem run κs a. (t
 -- For any bytes.
 
 -- What is known where no question refuses.
-record Passed (t P : List ℕ) (room : ℕ) : Type 0 where
-  pass : readable t ≡ 0
+record CallPassed (t P : List ℕ) (room : ℕ) : Type 0 where
+  pass : headerResult t ≡ 0
   low : 1 ≤ length P
   high : length P ≤ maxPattern
   hold : pathsHold t 0 (at.textLength t) ≡ true
   fits : length (placesOf t P) ≤ room
 
-passed : (t P : List ℕ) (room : ℕ) → placesNumber t P room ≡ 0 → Passed t P room
-unfolding placesNumber patternOk
+passed : (t P : List ℕ) (room : ℕ) → placesRefusal t P room ≡ 0 → CallPassed t P room
+unfolding placesRefusal patternOk
 passed t P room h =
     let long = leb 1 (length P) && leb (length P) maxPattern in
     let questions : List (ℕ × Bool) = (16, long) ∷ (14, pathsHold t 0 (at.textLength t)) ∷ (17, leb (length (placesOf t P)) room) ∷ [] in
-    let a = next-passes (readable t) (asks questions) h in
+    let a = next-passes (headerResult t) (asks questions) h in
     let b = asks-pass questions refl (a .1) in
     record {
       pass = a .0;
@@ -61,10 +61,10 @@ passed t P room h =
     }
 
 -- The numbers that the questions can give.
-places-one : (t P : List ℕ) (room : ℕ) → OneOf (5 ∷ 6 ∷ 7 ∷ 16 ∷ 14 ∷ 17 ∷ 0 ∷ []) (placesNumber t P room)
-unfolding placesNumber
+places-one : (t P : List ℕ) (room : ℕ) → OneOf (5 ∷ 6 ∷ 7 ∷ 16 ∷ 14 ∷ 17 ∷ 0 ∷ []) (placesRefusal t P room)
+unfolding placesRefusal
 places-one t P room =
-    then-one (5 ∷ 6 ∷ 7 ∷ []) (16 ∷ 14 ∷ 17 ∷ 0 ∷ []) (readable t) _ (readable-one t)
+    then-one (5 ∷ 6 ∷ 7 ∷ []) (16 ∷ 14 ∷ 17 ∷ 0 ∷ []) (headerResult t) _ (readable-one t)
     (asks-one ((16, patternOk P) ∷ (14, pathsHold t 0 (at.textLength t)) ∷ (17, leb (length (placesOf t P)) room) ∷ []))
 
 module _ (κs : Lfts 3) (t P table after : Lent) where
@@ -73,12 +73,12 @@ module _ (κs : Lfts 3) (t P table after : Lent) where
   pub places-answer : (n : ℕ) → Places κs t P table after (places.Number n)
       → (ps : List ℕ) × AllPlaces (now P) (textOf (now t)) ps × (n ≡ length ps) × (n ≤ length (now table)) × (now after ≡ ps ++ drop n (now table))
       × ((p : ℕ) → p < at.textLength (now t) → (q : Path) × (pathOf (now t) p ≡ some q) × (getD (textOf (now t)) p 0 ≡ at.leafByte (now t) (q .leaf)))
-  unfolding placesSays placesLeaves placesOf
+  unfolding placesAnswer placesBuffer placesOf
   places-answer n a =
       let ps = placesIn (now P) (textOf (now t)) in
-      let number = placesNumber (now t) (now P) (length (now table)) in
-      let z : number ≡ 0 = unless-passes number _ (sym (ap (λ (s : Said). s .number) (a .0 .says))) .0 in
-      let e : n ≡ length ps = ap (λ (s : Said). s .value) (a .0 .says) ∙ rw z in
+      let number = placesRefusal (now t) (now P) (length (now table)) in
+      let z : number ≡ 0 = unless-passes number _ (sym (ap (λ (s : Answer). s .number) (a .0 .answers))) .0 in
+      let e : n ≡ length ps = ap (λ (s : Answer). s .value) (a .0 .answers) ∙ rw z in
       let k = passed (now t) (now P) (length (now table)) z in (
         ps,
         places-all (now P) (textOf (now t)) (k .low),
@@ -88,29 +88,29 @@ module _ (κs : Lfts 3) (t P table after : Lent) where
         λ p low.
             let z : 0 + p ≡ p = omega arith in
             let w = path-there (now t) (k .pass) p low (rw z at (hold-at (now t) (at.textLength (now t)) 0 p (k .hold) low)) in
-            (w .0, w .1, text-of-path (now t) (readable-facts (now t) (k .pass)) (k .pass) p low (w .0) (w .1)),
+            (w .0, w .1, text-of-path (now t) (header-facts (now t) (k .pass)) (k .pass) p low (w .0) (w .1)),
       )
 
   module _ (n : ℕ) (a : Places κs t P table after (places.Refused n)) where
     -- The number is the definition's.
-    places-says : n ≡ placesNumber (now t) (now P) (length (now table))
-    unfolding placesSays
-    places-says = ap (λ (s : Said). s .number) (a .0 .says) ∙ unless-number (placesNumber (now t) (now P) (length (now table))) _ refl
+    places-answers : n ≡ placesRefusal (now t) (now P) (length (now table))
+    unfolding placesAnswer
+    places-answers = ap (λ (s : Answer). s .number) (a .0 .answers) ∙ unless-number (placesRefusal (now t) (now P) (length (now table))) _ refl
 
     -- A refusal is 5, 6, 7, 16, 14 or 17.
     pub places-numbers : OneOf (5 ∷ 6 ∷ 7 ∷ 16 ∷ 14 ∷ 17 ∷ []) n
     places-numbers =
-        not-zero (5 ∷ 6 ∷ 7 ∷ 16 ∷ 14 ∷ 17 ∷ []) n (a .0 .numbered) (rw places-says (places-one (now t) (now P) (length (now table))))
+        not-zero (5 ∷ 6 ∷ 7 ∷ 16 ∷ 14 ∷ 17 ∷ []) n (a .0 .numbered) (rw places-answers (places-one (now t) (now P) (length (now table))))
 
     -- A refusal leaves the table unchanged.
     pub places-unchanged : now after ≡ now table
-    unfolding placesLeaves
-    places-unchanged = a .1 ∙ rw (← places-says, ne-eqb n 0 (λ e. omega (arith, a .0 .numbered)))
+    unfolding placesBuffer
+    places-unchanged = a .1 ∙ rw (← places-answers, ne-eqb n 0 (λ e. omega (arith, a .0 .numbered)))
 
 -- Any tree that the check accepts, and the one text that fits it.
-module _ (t : Lent) (v : verdict (now t) ≡ 0) where
-  pass : readable (now t) ≡ 0
-  pass = accepted-readable (now t) v
+module _ (t : Lent) (v : checkResult (now t) ≡ 0) where
+  pass : headerResult (now t) ≡ 0
+  pass = accepted-header (now t) v
 
   links : linksOk (now t) ≡ true
   links = accepted-links (now t) v

@@ -1,5 +1,5 @@
--- next_row_with_prefix(tree, prefix, mark): the next row after a mark that starts with the prefix; next_row_with_prefix_guided(tree, guide, prefix, mark)
--- the same with a guide. The theorems about repeated calls are in `Demands` of their crate.
+-- next_with_prefix(tree, prefix, mark): the next row after a mark that starts with the prefix; next_with_prefix_guided(tree, guide, prefix, mark)
+-- the same with a guide. The theorems about repeated calls are in `Theorems` of their crate.
 use mathlib.Core.List.{List, [], _∷_}
 use mathlib.Core.Path.{_≡_, refl}
 use mathlib.Core.Logic.{_⊎_, inl, inr}
@@ -7,26 +7,26 @@ use Prim.Native.Nat.{ℕ}
 use contract.Lifetimes.{Lfts}
 use denote.Ref.{now}
 use Rattle.format.specs.Layout as at
-use Rattle.format.specs.TreeReading.{textOf, readable, verdict}
-use Rattle.format.specs.VerdictLaws.{accepted-readable}
+use Rattle.format.specs.TreeReading.{textOf, headerResult, checkResult}
+use Rattle.format.specs.CheckResultLaws.{accepted-header}
 use Rattle.format.specs.Answers.{isCounted}
-use Rattle.ask_patterns.specs.Places.{patternOk}
+use Rattle.query_places.specs.Places.{patternOk}
 use Rattle.query_row_filter.specs.declared.NextRowAnswer.the-variants as answer
 use Rattle.query_row_filter.specs.AllowedRows.{newlineRefusal, queryRefusal}
-use Rattle.ask_guide.specs.Guides.{guideNumber}
-use Rattle.ask_guide.proofs.GuideList.{guide-verdict}
-use Rattle.query_prefix.proofs.Demands.{PrefixAnswer}
-use Rattle.query_prefix.proofs.Demands as query-prefix
+use Rattle.query_guide.specs.Guides.{guideRefusal}
+use Rattle.query_guide.proofs.GuideList.{guide-checked}
+use Rattle.query_prefix.proofs.Theorems.{IsPrefixAnswer}
+use Rattle.query_prefix.proofs.Theorems as query-prefix
 use Rattle.theorems.specs.Promises.{PrefixAnswers, PrefixRefuses}
 use Rattle.theorems.specs.PublicFunctions.{next-row-with-prefix-function, next-row-with-prefix-guided-function}
 use Rattle.theorems.proofs.AcceptedTree.{among-counted, not-counted}
-use Rattle.theorems.proofs.OutsideCall.{Call, Lent, call}
+use Rattle.theorems.proofs.PublicCall.{Call, Lent, call}
 use Rattle.theorems.proofs.RefusalNumbers.{OneOf, asks-one, not-zero, of-left, of-right, readable-one, then-one}
-use Rattle.query_prefix.proofs.next_row_with_prefix.Met as next-met
-use Rattle.query_prefix.proofs.next_row_with_prefix_guided.Met as guided-met
+use Rattle.query_prefix.proofs.next_with_prefix.Met as next-met
+use Rattle.query_prefix.proofs.next_with_prefix_guided.Met as guided-met
 -- What the contracts allow: `NextRowWithPrefix κs tree prefix mark r`, `NextRowWithPrefixGuided κs tree guide prefix mark r`.
 pub use Rattle.theorems.specs.CallContracts.{NextRowWithPrefix}
-pub use Rattle.query_prefix.proofs.Demands.{NextRowWithPrefixGuided}
+pub use Rattle.query_prefix.proofs.Theorems.{NextRowWithPrefixGuided}
 
 abbrev pub next-row-with-prefix-call : Call
 next-row-with-prefix-call = call next-row-with-prefix-function next-met.met (λ 𝓤 H A mem run κs a. (tt, refl))
@@ -40,12 +40,12 @@ next-row-with-prefix-guided-call = call next-row-with-prefix-guided-function gui
 prefix-one : (t prefix : List ℕ) → OneOf (5 ∷ 6 ∷ 7 ∷ 16 ∷ 11 ∷ 0 ∷ []) (queryRefusal t 16 (patternOk prefix))
 unfolding queryRefusal newlineRefusal
 prefix-one t prefix =
-    then-one (5 ∷ 6 ∷ 7 ∷ []) (16 ∷ 11 ∷ 0 ∷ []) (readable t) _ (readable-one t)
+    then-one (5 ∷ 6 ∷ 7 ∷ []) (16 ∷ 11 ∷ 0 ∷ []) (headerResult t) _ (readable-one t)
     (asks-one ((16, patternOk prefix) ∷ (11, isCounted t 10) ∷ []))
 
 -- A refusal is one of these, or 14.
-refusal-one : (t : List ℕ) (ok : ℕ) (sound : ok ≡ 0 → verdict t ≡ 0) (prefix : List ℕ) (mark n : ℕ)
-    → PrefixAnswer t ok prefix mark (answer.Refused n) → OneOf (5 ∷ 6 ∷ 7 ∷ 16 ∷ 11 ∷ 14 ∷ []) n
+refusal-one : (t : List ℕ) (ok : ℕ) (sound : ok ≡ 0 → checkResult t ≡ 0) (prefix : List ℕ) (mark n : ℕ)
+    → IsPrefixAnswer t ok prefix mark (answer.Refused n) → OneOf (5 ∷ 6 ∷ 7 ∷ 16 ∷ 11 ∷ 14 ∷ []) n
 refusal-one t ok sound prefix mark n a = go (query-prefix.prefix-refusal t ok sound prefix mark n a)
   where
     go : (n ≡ queryRefusal t 16 (patternOk prefix)) ⊎ ((n ≡ 14) × (ok ≡ 0 → ⊥)) → OneOf (5 ∷ 6 ∷ 7 ∷ 16 ∷ 11 ∷ 14 ∷ []) n
@@ -55,27 +55,27 @@ refusal-one t ok sound prefix mark n a = go (query-prefix.prefix-refusal t ok so
 -- A refusal is 5, 6, 7, 16, 11 or 14.
 pub prefix-numbers : (κs : Lfts 2) (t prefix : Lent) (mark n : ℕ)
     → NextRowWithPrefix κs t prefix mark (answer.Refused n) → OneOf (5 ∷ 6 ∷ 7 ∷ 16 ∷ 11 ∷ 14 ∷ []) n
-prefix-numbers κs t prefix mark n a = refusal-one (now t) (verdict (now t)) (λ v. v) (now prefix) mark n a
+prefix-numbers κs t prefix mark n a = refusal-one (now t) (checkResult (now t)) (λ v. v) (now prefix) mark n a
 
 pub prefix-guided-numbers : (κs : Lfts 3) (t guide prefix : Lent) (mark n : ℕ)
     → NextRowWithPrefixGuided κs t guide prefix mark (answer.Refused n) → OneOf (5 ∷ 6 ∷ 7 ∷ 16 ∷ 11 ∷ 14 ∷ []) n
 prefix-guided-numbers κs t guide prefix mark n a =
-    refusal-one (now t) (guideNumber (now t) (now guide)) (guide-verdict (now t) (now guide)) (now prefix) mark n a
+    refusal-one (now t) (guideRefusal (now t) (now guide)) (guide-checked (now t) (now guide)) (now prefix) mark n a
 
 -- Any tree that the check accepts, and the one text that fits it.
-module _ (t : Lent) (v : verdict (now t) ≡ 0) where
-  pass : readable (now t) ≡ 0
-  pass = accepted-readable (now t) v
+module _ (t : Lent) (v : checkResult (now t) ≡ 0) where
+  pass : headerResult (now t) ≡ 0
+  pass = accepted-header (now t) v
 
   pub accepted-answers : PrefixAnswers t (at.settings (now t)) (textOf (now t))
   accepted-answers = record {
-    prefix-of = λ κs prefix mark r a ok k. query-prefix.prefix-is (now t) (verdict (now t)) (λ w. w) (now prefix) v mark r a
+    prefix-of = λ κs prefix mark r a ok k. query-prefix.prefix-is (now t) (checkResult (now t)) (λ w. w) (now prefix) v mark r a
         (query-prefix.prefix-through (now t) (now prefix) pass ok (among-counted (now t) 10 k));
   }
 
   pub accepted-refuses : PrefixRefuses t (at.settings (now t)) (textOf (now t))
   accepted-refuses = record {
-    prefix-length = λ κs prefix mark r a wrong. query-prefix.prefix-length (now t) (verdict (now t)) (λ w. w) (now prefix) mark r a pass wrong;
-    prefix-other = λ κs prefix mark r a ok other. query-prefix.prefix-uncounted (now t) (verdict (now t)) (λ w. w) (now prefix) mark r a pass ok
+    prefix-length = λ κs prefix mark r a wrong. query-prefix.prefix-length (now t) (checkResult (now t)) (λ w. w) (now prefix) mark r a pass wrong;
+    prefix-other = λ κs prefix mark r a ok other. query-prefix.prefix-uncounted (now t) (checkResult (now t)) (λ w. w) (now prefix) mark r a pass ok
         (not-counted (now t) v 10 other);
   }

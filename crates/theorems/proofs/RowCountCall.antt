@@ -1,4 +1,4 @@
--- row_count(tree): the number of rows. `Demands` of its crate has the theorems on what it returns.
+-- row_count(tree): the number of rows. `Theorems` of its crate has the theorems on what it returns.
 use mathlib.Core.List.{List, [], _∷_}
 use mathlib.Core.Bool.{Bool, true, false, cond}
 use mathlib.Core.Path.{_≡_, ap, _∙_, refl}
@@ -11,55 +11,55 @@ use lib.Dec.{eqb}
 use borrow.Author.Tests.{eq-eqb, ne-eqb}
 use Rattle.text.specs.ListLaws.{lt-or-ge}
 use Rattle.format.specs.Layout as at
-use Rattle.format.specs.TreeReading.{pathOf, readable, ask}
-use Rattle.format.specs.Answers.{Said, byteSays, isCounted, numberOfByte, total}
-use Rattle.format.specs.SaidLaws.{unless-number}
+use Rattle.format.specs.TreeReading.{pathOf, headerResult, ask}
+use Rattle.format.specs.Answers.{Answer, byteAnswer, isCounted, numberOfByte, total}
+use Rattle.format.specs.AnswerLaws.{unless-number}
 use Rattle.theory_paths.specs.PlaceBytes.{byte-path}
-use Rattle.ask_rows.specs.declared.RowCount.the-variants as row-count
-use Rattle.ask_rows.specs.RowAnswers.{rowsNumber, lastOpen, rowsSays}
+use Rattle.query_rows.specs.declared.RowCountAnswer.the-variants as row-count
+use Rattle.query_rows.specs.RowAnswers.{rowCountRefusal, lastOpen, rowCountAnswer}
 use Rattle.theorems.specs.PublicFunctions.{row-count-function}
 use Rattle.theorems.proofs.ByteCall.{byteOf-one}
-use Rattle.theorems.proofs.OutsideCall.{Call, Lent, call}
+use Rattle.theorems.proofs.PublicCall.{Call, Lent, call}
 use Rattle.theorems.proofs.RefusalNumbers.{OneOf, not-zero, of-left, of-right, readable-one}
-use Rattle.ask_rows.proofs.row_count.Met as row-count-met
+use Rattle.query_rows.proofs.row_count.Met as row-count-met
 -- What the contract allows: `CountOf κs tree r`.
-pub use Rattle.ask_rows.proofs.Demands.{CountOf}
+pub use Rattle.query_rows.proofs.Theorems.{CountOf}
 
 abbrev pub row-count-call : Call
 row-count-call = call row-count-function row-count-met.met (λ 𝓤 H A mem run κs a. (tt, refl))
 
 -- For any bytes: a refusal is 5, 6, 7, 11 or 14.
-last-one : (t : List ℕ) → readable t ≡ 0 → OneOf (14 ∷ 0 ∷ []) (cond (eqb (at.textLength t) 0) 0 (byteSays t (at.textLength t - 1) .number))
+last-one : (t : List ℕ) → headerResult t ≡ 0 → OneOf (14 ∷ 0 ∷ []) (cond (eqb (at.textLength t) 0) 0 (byteAnswer t (at.textLength t - 1) .number))
 last-one t pass = go (lt-or-ge 0 (at.textLength t))
   where
-    go : (0 < at.textLength t) ⊎ (at.textLength t ≤ 0) → OneOf (14 ∷ 0 ∷ []) (cond (eqb (at.textLength t) 0) 0 (byteSays t (at.textLength t - 1) .number))
+    go : (0 < at.textLength t) ⊎ (at.textLength t ≤ 0) → OneOf (14 ∷ 0 ∷ []) (cond (eqb (at.textLength t) 0) 0 (byteAnswer t (at.textLength t - 1) .number))
     go (inl some) =
         let p = at.textLength t - 1 in
         rw (ne-eqb (at.textLength t) 0 (λ e. omega arith), byte-path t pass p (omega arith)) (byteOf-one t (pathOf t p))
     go (inr none) = let e : at.textLength t ≡ 0 = omega arith in rw (eq-eqb (at.textLength t) 0 e) (inr (inl refl))
 
-rows-one : (t : List ℕ) → OneOf (5 ∷ 6 ∷ 7 ∷ 11 ∷ 14 ∷ 0 ∷ []) (rowsNumber t)
-unfolding rowsNumber
-rows-one t = go (lt-or-ge 0 (readable t))
+call-rows-one : (t : List ℕ) → OneOf (5 ∷ 6 ∷ 7 ∷ 11 ∷ 14 ∷ 0 ∷ []) (rowCountRefusal t)
+unfolding rowCountRefusal
+call-rows-one t = go (lt-or-ge 0 (headerResult t))
   where
     asked : (b : Bool) (m : ℕ) → OneOf (14 ∷ 0 ∷ []) m → OneOf (11 ∷ 14 ∷ 0 ∷ []) (ask 11 b m)
     asked true m h = inr h
     asked false m h = inl refl
 
-    go : (0 < readable t) ⊎ (readable t ≤ 0) → OneOf (5 ∷ 6 ∷ 7 ∷ 11 ∷ 14 ∷ 0 ∷ []) (rowsNumber t)
+    go : (0 < headerResult t) ⊎ (headerResult t ≤ 0) → OneOf (5 ∷ 6 ∷ 7 ∷ 11 ∷ 14 ∷ 0 ∷ []) (rowCountRefusal t)
     go (inl l) =
-        let one = not-zero (5 ∷ 6 ∷ 7 ∷ []) (readable t) (omega arith) (readable-one t) in
-        rw (ne-eqb (readable t) 0 (λ e. omega arith)) (of-left (5 ∷ 6 ∷ 7 ∷ []) (11 ∷ 14 ∷ 0 ∷ []) (readable t) one)
+        let one = not-zero (5 ∷ 6 ∷ 7 ∷ []) (headerResult t) (omega arith) (readable-one t) in
+        rw (ne-eqb (headerResult t) 0 (λ e. omega arith)) (of-left (5 ∷ 6 ∷ 7 ∷ []) (11 ∷ 14 ∷ 0 ∷ []) (headerResult t) one)
     go (inr l) =
-        let pass : readable t ≡ 0 = omega arith in
-        let last = cond (eqb (at.textLength t) 0) 0 (byteSays t (at.textLength t - 1) .number) in
+        let pass : headerResult t ≡ 0 = omega arith in
+        let last = cond (eqb (at.textLength t) 0) 0 (byteAnswer t (at.textLength t - 1) .number) in
         let one = asked (isCounted t 10) last (last-one t pass) in
-        rw (eq-eqb (readable t) 0 pass) (of-right (5 ∷ 6 ∷ 7 ∷ []) (11 ∷ 14 ∷ 0 ∷ []) (ask 11 (isCounted t 10) last) one)
+        rw (eq-eqb (headerResult t) 0 pass) (of-right (5 ∷ 6 ∷ 7 ∷ []) (11 ∷ 14 ∷ 0 ∷ []) (ask 11 (isCounted t 10) last) one)
 
 pub row-count-numbers : (κs : Lfts 1) (t : Lent) (n : ℕ) → CountOf κs t (row-count.Refused n) → OneOf (5 ∷ 6 ∷ 7 ∷ 11 ∷ 14 ∷ []) n
-unfolding rowsSays
+unfolding rowCountAnswer
 row-count-numbers κs t n a =
     let rows = total (now t) (numberOfByte (now t) 10) + cond (lastOpen (now t)) 1 0 in
-    let told : Said = record { number = 0; value = rows; entered = 0 } in
-    let e : n ≡ rowsNumber (now t) = ap (λ (s : Said). s .number) (a .says) ∙ unless-number (rowsNumber (now t)) told refl in
-    not-zero (5 ∷ 6 ∷ 7 ∷ 11 ∷ 14 ∷ []) n (a .numbered) (rw e (rows-one (now t)))
+    let told : Answer = record { number = 0; value = rows; entered = 0 } in
+    let e : n ≡ rowCountRefusal (now t) = ap (λ (s : Answer). s .number) (a .answers) ∙ unless-number (rowCountRefusal (now t)) told refl in
+    not-zero (5 ∷ 6 ∷ 7 ∷ 11 ∷ 14 ∷ []) n (a .numbered) (rw e (call-rows-one (now t)))

@@ -1,4 +1,4 @@
--- row_guided(tree, guide, q, buffer): row by finds that start at an entry of a guide. `Demands` of its crate has the other theorems.
+-- row_guided(tree, guide, q, buffer): row by finds that start at an entry of a guide. `Theorems` of its crate has the other theorems.
 use mathlib.Core.List.{[], _∷_, _++_}
 use mathlib.Core.Path.{_≡_, refl}
 use mathlib.Core.Logic.{_⊎_}
@@ -10,16 +10,16 @@ use Rattle.text.specs.Text.{stretch}
 use Rattle.format.specs.Layout as at
 use Rattle.format.specs.TreeReading.{textOf}
 use Rattle.format.specs.Answers.{rowMost}
-use Rattle.ask_guide.specs.Guides.{guideNumber}
-use Rattle.ask_rows.specs.declared.RowCopied.the-variants as rows
+use Rattle.query_guide.specs.Guides.{guideRefusal}
+use Rattle.query_rows.specs.declared.RowAnswer.the-variants as rows
 use Rattle.theorems.specs.PublicFunctions.{row-guided-function}
-use Rattle.theorems.proofs.OutsideCall.{Call, Lent, call}
+use Rattle.theorems.proofs.PublicCall.{Call, Lent, call}
 use Rattle.theorems.proofs.RefusalNumbers.{OneOf}
 use Rattle.theorems.proofs.RowOutcomes.{RowOutcome, Zeros, outcome-copied, row-outcome, row-outcome-leaves, row-outcome-numbers}
 use Rattle.theorems.proofs.RowOutcomes.{free-copied, free-short}
-use Rattle.ask_rows.proofs.row_guided.Met as row-guided-met
+use Rattle.query_rows.proofs.row_guided.Met as row-guided-met
 -- What the contract allows, where the buffer is left as `after`: `RowGuided κs tree guide q buffer after r`.
-pub use Rattle.ask_rows.proofs.Demands.{RowGuided}
+pub use Rattle.query_rows.proofs.Theorems.{RowGuided}
 
 abbrev pub row-guided-call : Call
 row-guided-call = call row-guided-function row-guided-met.met (λ 𝓤 H A mem run κs a. (tt, refl))
@@ -29,21 +29,21 @@ module _ (κs : Lfts 3) (t guide : Lent) (q : ℕ) (buffer after : Lent) where
   pub row-guided-answer : (m : ℕ) → RowGuided κs t guide q buffer after (rows.Bytes m) → (m ≤ length (now buffer)) × (drop m (now after) ≡ drop m (now buffer))
   row-guided-answer m a =
       outcome-copied (now t) q (now buffer) m (now after)
-      (row-outcome (now t) q (now buffer) (guideNumber (now t) (now guide)) 0 m (now after) (a .says))
+      (row-outcome (now t) q (now buffer) (guideRefusal (now t) (now guide)) 0 m (now after) (a .answers))
 
   -- If the tree or the guide is refused, the bytes copied are those that the paths give from some place on, on an accepted tree those of its text, and 13
   -- means that the buffer is shorter than some such bytes.
-  pub row-guided-free : (guideNumber (now t) (now guide) ≡ 0 → ⊥) → (m : ℕ) → RowGuided κs t guide q buffer after (rows.Bytes m)
+  pub row-guided-free : (guideRefusal (now t) (now guide) ≡ 0 → ⊥) → (m : ℕ) → RowGuided κs t guide q buffer after (rows.Bytes m)
       → (p : ℕ) × (p + m ≤ at.textLength (now t)) × (now after ≡ stretch (textOf (now t)) p m ++ drop m (now buffer))
-  row-guided-free refuses m a = free-copied (now t) q (now buffer) (guideNumber (now t) (now guide)) 0 m (now after) (a .says) refuses refl
+  row-guided-free refuses m a = free-copied (now t) q (now buffer) (guideRefusal (now t) (now guide)) 0 m (now after) (a .answers) refuses refl
 
-  pub row-guided-free-short : (guideNumber (now t) (now guide) ≡ 0 → ⊥) → RowGuided κs t guide q buffer after (rows.Refused 13)
+  pub row-guided-free-short : (guideRefusal (now t) (now guide) ≡ 0 → ⊥) → RowGuided κs t guide q buffer after (rows.Refused 13)
       → (p : ℕ) × (len : ℕ) × (p + len ≤ at.textLength (now t)) × (length (now buffer) < len)
-  row-guided-free-short refuses a = free-short (now t) q (now buffer) (guideNumber (now t) (now guide)) 13 0 (now after) (a .says) refuses refl
+  row-guided-free-short refuses a = free-short (now t) q (now buffer) (guideRefusal (now t) (now guide)) 13 0 (now after) (a .answers) refuses refl
 
   module _ (n : ℕ) (a : RowGuided κs t guide q buffer after (rows.Refused n)) where
     outcome-of : RowOutcome (now t) q (now buffer) n 0 (now after)
-    outcome-of = row-outcome (now t) q (now buffer) (guideNumber (now t) (now guide)) n 0 (now after) (a .says)
+    outcome-of = row-outcome (now t) q (now buffer) (guideRefusal (now t) (now guide)) n 0 (now after) (a .answers)
 
     -- A refusal is 5, 6, 7, 11, 12, 13 or 14.
     pub row-guided-numbers : OneOf (5 ∷ 6 ∷ 7 ∷ 11 ∷ 12 ∷ 13 ∷ 14 ∷ []) n

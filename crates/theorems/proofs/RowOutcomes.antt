@@ -14,26 +14,26 @@ use Rattle.text.specs.Text.{tabulate, stretch, rowOf}
 use Rattle.text.specs.TextLaws.{length-stretch}
 use Rattle.text.specs.ListLaws.{bool-cases, lt-or-ge}
 use Rattle.format.specs.Layout as at
-use Rattle.format.specs.TreeReading.{Path, pathOf, textOf, ask, readable}
-use Rattle.format.specs.Answers.{Said, unless, byteSays, byteOf, pathsHold, copyNumber, copySays, copyLeaves}
-use Rattle.format.specs.Answers.{rowMost, rowNumber, lastNumber, asksLast, RowStretch, RowBy}
-use Rattle.format.specs.RowSaysLaws.{asks-last, row-number-last, row-number-plain, row-readable}
+use Rattle.format.specs.TreeReading.{Path, pathOf, textOf, ask, headerResult}
+use Rattle.format.specs.Answers.{Answer, unless, byteAnswer, byteOf, pathsHold, copyRefusal, copyAnswer, copyBuffer}
+use Rattle.format.specs.Answers.{rowMost, rowRefusal, lastRowRefusal, isUnterminatedRow, RowStretch, RowBy}
+use Rattle.format.specs.RowRefusalLaws.{asks-last, row-number-last, row-number-plain, row-header}
 use Rattle.theory_paths.specs.OneText.{text-length}
 use Rattle.theory_paths.specs.PlaceBytes.{held-bytes}
-use Rattle.ask_access.proofs.SpanLaws.{values, no-room, number-in-room}
-use Rattle.ask_rows.proofs.RowAnswerLaws.{leaves-is}
+use Rattle.query_access.proofs.SpanLaws.{values, no-room, number-in-room}
+use Rattle.query_rows.proofs.RowAnswerLaws.{leaves-is}
 use Rattle.theorems.proofs.FindOutcomes.{select-first}
 use Rattle.theorems.proofs.RefusalNumbers.{OneOf, not-zero, of-more, of-right}
 
 -- The numbers that its questions can give before it walks: find's, or where it reads the last byte 12 and 14.
 module _ (t : List ℕ) where
-  last-one : (q : ℕ) → asksLast t q ≡ true → OneOf (12 ∷ 14 ∷ 0 ∷ []) (lastNumber (byteSays t (at.textLength t - 1)))
-  unfolding byteSays
+  last-one : (q : ℕ) → isUnterminatedRow t q ≡ true → OneOf (12 ∷ 14 ∷ 0 ∷ []) (lastRowRefusal (byteAnswer t (at.textLength t - 1)))
+  unfolding byteAnswer
   last-one q h =
       let a = asks-last t q h in
       rw (a .pass, lt-ltb (at.textLength t - 1) (at.textLength t) (omega (arith, a .some-byte))) (go (pathOf t (at.textLength t - 1)))
     where
-      go : (o : Option Path) → OneOf (12 ∷ 14 ∷ 0 ∷ []) (lastNumber (byteOf t o))
+      go : (o : Option Path) → OneOf (12 ∷ 14 ∷ 0 ∷ []) (lastRowRefusal (byteOf t o))
       go none = inr (inl refl)
       go (some w) = both (not (eqb 10 (at.leafByte t (w .leaf))))
         where
@@ -41,14 +41,14 @@ module _ (t : List ℕ) where
           both true = inr (inr (inl refl))
           both false = inl refl
 
-  pub row-before : (q n : ℕ) → 1 ≤ n → n ≡ rowNumber t q → OneOf (5 ∷ 6 ∷ 7 ∷ 11 ∷ 12 ∷ 14 ∷ []) n
-  row-before q n low e = go (bool-cases (asksLast t q))
+  pub row-before : (q n : ℕ) → 1 ≤ n → n ≡ rowRefusal t q → OneOf (5 ∷ 6 ∷ 7 ∷ 11 ∷ 12 ∷ 14 ∷ []) n
+  row-before q n low e = go (bool-cases (isUnterminatedRow t q))
     where
-      go : (asksLast t q ≡ true) ⊎ (asksLast t q ≡ false) → OneOf (5 ∷ 6 ∷ 7 ∷ 11 ∷ 12 ∷ 14 ∷ []) n
+      go : (isUnterminatedRow t q ≡ true) ⊎ (isUnterminatedRow t q ≡ false) → OneOf (5 ∷ 6 ∷ 7 ∷ 11 ∷ 12 ∷ 14 ∷ []) n
       go (inl h) = of-right (5 ∷ 6 ∷ 7 ∷ 11 ∷ []) (12 ∷ 14 ∷ []) n (not-zero (12 ∷ 14 ∷ []) n low (rw (e ∙ row-number-last t q h) (last-one q h)))
       go (inr h) = select-first t 10 q n (14 ∷ []) low (e ∙ row-number-plain t q h)
 
-  row-first : (q n : ℕ) → 1 ≤ n → n ≡ rowNumber t q → OneOf (5 ∷ 6 ∷ 7 ∷ 11 ∷ 12 ∷ 13 ∷ 14 ∷ []) n
+  row-first : (q n : ℕ) → 1 ≤ n → n ≡ rowRefusal t q → OneOf (5 ∷ 6 ∷ 7 ∷ 11 ∷ 12 ∷ 13 ∷ 14 ∷ []) n
   row-first q n low e = of-more (5 ∷ 6 ∷ 7 ∷ 11 ∷ 12 ∷ []) (14 ∷ []) 13 n (row-before q n low e)
 
 -- How a stretch of the text is copied along its paths: not for want of room, as the bytes that its paths give, or as zeros if a path breaks.
@@ -58,34 +58,34 @@ module _ (t : List ℕ) (p len : ℕ) (buffer : List ℕ) where
     bytes : n ≡ 0 → size ≡ len → len ≤ length buffer → after ≡ stretch (textOf t) p len ++ drop len buffer → CopyOutcome n size after
     zeros : n ≡ 14 → len ≤ length buffer → after ≡ replicate len 0 ++ drop len buffer → CopyOutcome n size after
 
-  copy-said : (k : ℕ) → copyNumber t p len (length buffer) ≡ k
-      → copySays t p len (length buffer) ≡ unless k (record { number = 0; value = len; entered = 0 })
-  unfolding copySays
-  copy-said k e = rw e
+  copy-answer : (k : ℕ) → copyRefusal t p len (length buffer) ≡ k
+      → copyAnswer t p len (length buffer) ≡ unless k (record { number = 0; value = len; entered = 0 })
+  unfolding copyAnswer
+  copy-answer k e = rw e
 
-  module _ (passes : readable t ≡ 0) (within : p + len ≤ at.textLength t) (n size : ℕ) (after : List ℕ)
-      (n-is : n ≡ copySays t p len (length buffer) .number)
-      (size-is : size ≡ copySays t p len (length buffer) .value) (after-is : after ≡ copyLeaves t p len buffer) where
+  module _ (passes : headerResult t ≡ 0) (within : p + len ≤ at.textLength t) (n size : ℕ) (after : List ℕ)
+      (n-is : n ≡ copyAnswer t p len (length buffer) .number)
+      (size-is : size ≡ copyAnswer t p len (length buffer) .value) (after-is : after ≡ copyBuffer t p len buffer) where
     copy-outcome : CopyOutcome n size after
-    unfolding copyNumber
+    unfolding copyRefusal
     copy-outcome = go (lt-or-ge (length buffer) len) (bool-cases (pathsHold t p len))
       where
-        number : (k : ℕ) (s : Said) → copySays t p len (length buffer) ≡ s → s .number ≡ k → n ≡ k
-        number k s e f = n-is ∙ ap (λ (y : Said). y .number) e ∙ f
+        number : (k : ℕ) (s : Answer) → copyAnswer t p len (length buffer) ≡ s → s .number ≡ k → n ≡ k
+        number k s e f = n-is ∙ ap (λ (y : Answer). y .number) e ∙ f
 
         go : (length buffer < len) ⊎ (len ≤ length buffer) → (pathsHold t p len ≡ true) ⊎ (pathsHold t p len ≡ false) → CopyOutcome n size after
         go (inl small) w =
             let e = no-room t p len buffer (pathsHold t p len) (tabulate len (values t p)) 0 passes within small in
-            no-space (number 13 _ (copy-said 13 e) refl) small (after-is ∙ leaves-is t p len buffer 13 e)
+            no-space (number 13 _ (copy-answer 13 e) refl) small (after-is ∙ leaves-is t p len buffer 13 e)
         go (inr room) (inl hold) =
-            let e : copyNumber t p len (length buffer) ≡ 0 =
+            let e : copyRefusal t p len (length buffer) ≡ 0 =
             number-in-room t p len buffer (pathsHold t p len) (tabulate len (values t p)) 0 passes within room ∙ rw hold in
-            bytes (number 0 _ (copy-said 0 e) refl) (size-is ∙ ap (λ (y : Said). y .value) (copy-said 0 e)) room
+            bytes (number 0 _ (copy-answer 0 e) refl) (size-is ∙ ap (λ (y : Answer). y .value) (copy-answer 0 e)) room
             (after-is ∙ leaves-is t p len buffer 0 e ∙ ap (λ (l : List ℕ). l ++ drop len buffer) (held-bytes t passes p len within hold))
         go (inr room) (inr breaks) =
-            let e : copyNumber t p len (length buffer) ≡ 14 =
+            let e : copyRefusal t p len (length buffer) ≡ 14 =
             number-in-room t p len buffer (pathsHold t p len) (tabulate len (values t p)) 0 passes within room ∙ rw breaks in
-            zeros (number 14 _ (copy-said 14 e) refl) room (after-is ∙ leaves-is t p len buffer 14 e)
+            zeros (number 14 _ (copy-answer 14 e) refl) room (after-is ∙ leaves-is t p len buffer 14 e)
 
 -- 13 is none of the numbers before the walk
 not-13 : OneOf (5 ∷ 6 ∷ 7 ∷ 11 ∷ 12 ∷ 14 ∷ []) 13 → ⊥
@@ -103,26 +103,26 @@ Zeros most buffer after = (k : ℕ) × (k ≤ length buffer) × (k ≤ most) × 
 module _ (t : List ℕ) (q : ℕ) (buffer : List ℕ) where
   -- Refused before the walk, for want of room, or in the walk or the copy, or copied.
   pub data RowOutcome (n size : ℕ) (after : List ℕ) : Type 0 where
-    asked : 1 ≤ n → n ≡ rowNumber t q → after ≡ buffer → RowOutcome n size after
+    asked : 1 ≤ n → n ≡ rowRefusal t q → after ≡ buffer → RowOutcome n size after
     short : n ≡ 13 → after ≡ buffer → RowOutcome n size after
     broken : n ≡ 14 → (after ≡ buffer) ⊎ Zeros (rowMost t q) buffer after → RowOutcome n size after
     copied : n ≡ 0 → size ≤ length buffer → drop size after ≡ drop size buffer → RowOutcome n size after
 
   module _ (ok n size : ℕ) (after : List ℕ) (a : RowBy t ok q buffer n size after) where
-    stretch-copied : rowNumber t q ≡ 0 → (s : RowStretch t q buffer n size after) → CopyOutcome t (s .start) (s .len) buffer n size after
-    stretch-copied z s = copy-outcome t (s .start) (s .len) buffer (row-readable t q z) (s .within) n size after (s .number-is) (s .size-is) (s .after-is)
+    stretch-copied : rowRefusal t q ≡ 0 → (s : RowStretch t q buffer n size after) → CopyOutcome t (s .start) (s .len) buffer n size after
+    stretch-copied z s = copy-outcome t (s .start) (s .len) buffer (row-header t q z) (s .within) n size after (s .number-is) (s .size-is) (s .after-is)
 
     -- If `ok` is not 0, every outcome other than 14 and a refusal before the walk is the copy of some part of the text.
-    free-stretch : (ok ≡ 0 → ⊥) → (n ≡ rowNumber t q → 0 < rowNumber t q → ⊥) → (n ≡ 14 → ⊥)
+    free-stretch : (ok ≡ 0 → ⊥) → (n ≡ rowRefusal t q → 0 < rowRefusal t q → ⊥) → (n ≡ 14 → ⊥)
         → (s : RowStretch t q buffer n size after) × CopyOutcome t (s .start) (s .len) buffer n size after
-    free-stretch refuses not-asked not-14 = go (lt-or-ge 0 (rowNumber t q))
+    free-stretch refuses not-asked not-14 = go (lt-or-ge 0 (rowRefusal t q))
       where
-        either : rowNumber t q ≡ 0 → ((n ≡ 14) × (size ≡ 0) × (after ≡ buffer)) ⊎ RowStretch t q buffer n size after
+        either : rowRefusal t q ≡ 0 → ((n ≡ 14) × (size ≡ 0) × (after ≡ buffer)) ⊎ RowStretch t q buffer n size after
             → (s : RowStretch t q buffer n size after) × CopyOutcome t (s .start) (s .len) buffer n size after
         either e (inl h) = absurd (not-14 (h .0))
         either e (inr s) = (s, stretch-copied e s)
 
-        go : (0 < rowNumber t q) ⊎ (rowNumber t q ≤ 0) → (s : RowStretch t q buffer n size after) × CopyOutcome t (s .start) (s .len) buffer n size after
+        go : (0 < rowRefusal t q) ⊎ (rowRefusal t q ≤ 0) → (s : RowStretch t q buffer n size after) × CopyOutcome t (s .start) (s .len) buffer n size after
         go (inl low) = absurd (not-asked (a .asked low .0) low)
         go (inr passed) = either (omega arith) (a .free (omega arith) refuses)
 
@@ -148,13 +148,13 @@ module _ (t : List ℕ) (q : ℕ) (buffer : List ℕ) where
         from s (bytes e size-is room same) = absurd (let y : ⊥ = omega arith in y)
         from s (zeros e room same) = absurd (let y : ⊥ = omega arith in y)
 
-    row-copied : rowNumber t q ≡ 0 → ok ≡ 0 → length (rowOf (textOf t) q) ≤ length buffer → RowOutcome n size after
+    row-copied : rowRefusal t q ≡ 0 → ok ≡ 0 → length (rowOf (textOf t) q) ≤ length buffer → RowOutcome n size after
     row-copied z v room =
         let h = a .accepted z v room in
         copied (h .0) (omega (arith, h .1)) (rw (h .2) (drop-at (rowOf (textOf t) q) (drop size buffer) size (sym (h .1))))
 
     pub row-outcome : RowOutcome n size after
-    row-outcome = go (lt-or-ge 0 (rowNumber t q)) (lt-or-ge 0 ok) (lt-or-ge (length buffer) (length (rowOf (textOf t) q)))
+    row-outcome = go (lt-or-ge 0 (rowRefusal t q)) (lt-or-ge 0 ok) (lt-or-ge (length buffer) (length (rowOf (textOf t) q)))
       where
         from-copy : (s : RowStretch t q buffer n size after) → CopyOutcome t (s .start) (s .len) buffer n size after → RowOutcome n size after
         from-copy s (no-space z small same) = short z same
@@ -164,11 +164,11 @@ module _ (t : List ℕ) (q : ℕ) (buffer : List ℕ) where
             (length-stretch (textOf t) (s .start) (s .len) (omega (arith, s .within, text-length t)))))
         from-copy s (zeros z room same) = broken z (inr (s .len, room, s .short, same))
 
-        free-outcome : rowNumber t q ≡ 0 → ((n ≡ 14) × (size ≡ 0) × (after ≡ buffer)) ⊎ RowStretch t q buffer n size after → RowOutcome n size after
+        free-outcome : rowRefusal t q ≡ 0 → ((n ≡ 14) × (size ≡ 0) × (after ≡ buffer)) ⊎ RowStretch t q buffer n size after → RowOutcome n size after
         free-outcome z (inl h) = broken (h .0) (inl (h .2))
         free-outcome z (inr s) = from-copy s (stretch-copied z s)
 
-        go : (0 < rowNumber t q) ⊎ (rowNumber t q ≤ 0) → (0 < ok) ⊎ (ok ≤ 0)
+        go : (0 < rowRefusal t q) ⊎ (rowRefusal t q ≤ 0) → (0 < ok) ⊎ (ok ≤ 0)
             → (length buffer < length (rowOf (textOf t) q)) ⊎ (length (rowOf (textOf t) q) ≤ length buffer) → RowOutcome n size after
         go (inl low) w r = let h = a .asked low in asked (omega (arith, h .0)) (h .0) (h .2)
         go (inr z) (inl w) r = free-outcome (omega arith) (a .free (omega arith) (λ v. omega arith))

@@ -10,25 +10,25 @@ use Rattle.text.specs.Text.{stretch}
 use Rattle.format.specs.Layout.{Settings, given}
 use Rattle.format.specs.Layout as at
 use Rattle.format.specs.FittingText.{fits}
-use Rattle.build_by_search.specs.declared.Built.the-variants as built
-use Rattle.build_by_scan.specs.declared.Scanned.the-variants as scanned
-use Rattle.ask_access.specs.declared.Copied.{Copied}
-use Rattle.ask_access.specs.declared.Copied.the-variants as copied
+use Rattle.build_by_search.specs.declared.BuildAnswer.the-variants as built
+use Rattle.build_by_scan.specs.declared.BuildScannedAnswer.the-variants as scanned
+use Rattle.query_access.specs.declared.SpanAnswer.{SpanAnswer}
+use Rattle.query_access.specs.declared.SpanAnswer.the-variants as copied
 use Rattle.columns.specs.Columns.{widthOk, columns}
 use Rattle.columns.specs.ColumnLaws.{columns-length, restored}
-use Rattle.columns.proofs.Demands as rearranging
+use Rattle.columns.proofs.Theorems as rearranging
 use Rattle.theorems.specs.Promises.{Answers}
 use Rattle.theorems.proofs.BuildCall.{Build, build-answers}
 use Rattle.theorems.proofs.BuildScannedCall.{BuildScanned, scanned-answers}
 use Rattle.theorems.proofs.CheckCall.{Check, check-answers}
 use Rattle.theorems.proofs.ColumnRowCall.{ByColumns}
 use Rattle.theorems.proofs.ColumnsCall.{ToColumns}
-use Rattle.theorems.proofs.OutsideCall.{Lent}
+use Rattle.theorems.proofs.PublicCall.{Lent}
 
 -- What every call on the tree returns: the buffer begins with row a of the original text, end byte included, and its other bytes are unchanged.
 abbrev pub RowsOf : Lent → ℕ → List ℕ → Type 0
 RowsOf t w T =
-    (κs : Lfts 2) (a : ℕ) (buffer after : Lent) (r : Copied) → ByColumns κs t w a buffer after r → a < length T / w → w ≤ length (now buffer)
+    (κs : Lfts 2) (a : ℕ) (buffer after : Lent) (r : SpanAnswer) → ByColumns κs t w a buffer after r → a < length T / w → w ≤ length (now buffer)
     → (r ≡ copied.Bytes w 0) × (now after ≡ stretch T (a * w) w ++ drop w (now buffer))
 
 -- Every question is answered from the rearranged text.

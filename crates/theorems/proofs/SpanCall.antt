@@ -12,21 +12,21 @@ use lib.Seq.{drop-at}
 use borrow.Author.Tests.{eq-eqb, ne-eqb, leb-true, le-leb, lt-leb}
 use Rattle.text.specs.declared.TextPlace.{TextPlace}
 use Rattle.format.specs.Layout as at
-use Rattle.format.specs.TreeReading.{textOf, readable, verdict, asks}
-use Rattle.format.specs.VerdictLaws.{accepted-readable}
-use Rattle.format.specs.Answers.{spanBlocks, spanReached, leavesSpan, spanBytes, spanNumber, spanSays, spanLeaves, asksSpan}
-use Rattle.format.specs.SaidLaws.{next-passes, asks-pass}
-use Rattle.theory_edges.specs.Demands as margins
-use Rattle.ask_access.proofs.Demands as access
-use Rattle.ask_access.specs.declared.Copied.{Copied}
-use Rattle.ask_access.specs.declared.Copied.the-variants as copied
+use Rattle.format.specs.TreeReading.{textOf, headerResult, checkResult, asks}
+use Rattle.format.specs.CheckResultLaws.{accepted-header}
+use Rattle.format.specs.Answers.{spanBlocks, spanReached, bufferAfter, spanBytes, spanRefusal, spanAnswer, spanBuffer, spanQuestions}
+use Rattle.format.specs.AnswerLaws.{next-passes, asks-pass}
+use Rattle.theory_edges.specs.Theorems as margins
+use Rattle.query_access.proofs.Theorems as access
+use Rattle.query_access.specs.declared.SpanAnswer.{SpanAnswer}
+use Rattle.query_access.specs.declared.SpanAnswer.the-variants as copied
 use Rattle.theorems.specs.Promises.{BlocksOfSpan, SpanAnswers, SpanRefuses}
 use Rattle.theorems.specs.PublicFunctions.{span-function}
 use Rattle.theorems.proofs.AcceptedTree.{text-size}
 use Rattle.theorems.proofs.BlocksEntered.{blocks-of-span}
-use Rattle.theorems.proofs.OutsideCall.{Call, Lent, call}
+use Rattle.theorems.proofs.PublicCall.{Call, Lent, call}
 use Rattle.theorems.proofs.RefusalNumbers.{OneOf, asks-one, not-zero, readable-one, says-answer, says-refused, then-one}
-use Rattle.ask_access.proofs.span.Met as span-met
+use Rattle.query_access.proofs.span.Met as span-met
 -- What the contract allows, where the buffer is left as `after`: `Span κs tree place length buffer after r`.
 pub use Rattle.theorems.specs.CallContracts.{Span}
 
@@ -36,23 +36,23 @@ span-call = call span-function span-met.met (λ 𝓤 H A mem run κs a. (tt, ref
 -- For any bytes.
 
 -- The numbers that its questions can give.
-span-one : (t : List ℕ) (p len room : ℕ) → OneOf (5 ∷ 6 ∷ 7 ∷ 10 ∷ 13 ∷ 14 ∷ 0 ∷ []) (spanNumber t p len room)
-unfolding spanNumber asksSpan
+span-one : (t : List ℕ) (p len room : ℕ) → OneOf (5 ∷ 6 ∷ 7 ∷ 10 ∷ 13 ∷ 14 ∷ 0 ∷ []) (spanRefusal t p len room)
+unfolding spanRefusal spanQuestions
 span-one t p len room =
-    then-one (5 ∷ 6 ∷ 7 ∷ []) (10 ∷ 13 ∷ 14 ∷ 0 ∷ []) (readable t) _ (readable-one t)
+    then-one (5 ∷ 6 ∷ 7 ∷ []) (10 ∷ 13 ∷ 14 ∷ 0 ∷ []) (headerResult t) _ (readable-one t)
     (asks-one ((10, leb (p + len) (at.textLength t)) ∷ (13, leb len room) ∷ (14, spanReached t p len) ∷ []))
 
 -- Span is not refused only if its bytes fit the buffer and are reached.
-record Spanned (t : List ℕ) (p len room : ℕ) : Type 0 where
-  pass : readable t ≡ 0
+record CallSpanned (t : List ℕ) (p len room : ℕ) : Type 0 where
+  pass : headerResult t ≡ 0
   fits : len ≤ room
   reached : spanReached t p len ≡ true
 
-span-passes : (t : List ℕ) (p len room : ℕ) → spanNumber t p len room ≡ 0 → Spanned t p len room
-unfolding spanNumber asksSpan
+span-passes : (t : List ℕ) (p len room : ℕ) → spanRefusal t p len room ≡ 0 → CallSpanned t p len room
+unfolding spanRefusal spanQuestions
 span-passes t p len room h =
     let questions : List (ℕ × Bool) = (10, leb (p + len) (at.textLength t)) ∷ (13, leb len room) ∷ (14, spanReached t p len) ∷ [] in
-    let a = next-passes (readable t) (asks questions) h in
+    let a = next-passes (headerResult t) (asks questions) h in
     let b = asks-pass questions refl (a .1) in
     record { pass = a .0; fits = leb-true len room (b .1 .0); reached = b .1 .1 .0 }
 
@@ -61,11 +61,11 @@ module _ (κs : Lfts 2) (t : Lent) (p : TextPlace) (len : ℕ) (buffer after : L
   pub span-answer : (m e : ℕ) → Span κs t p len buffer after (copied.Bytes m e)
       → (m ≡ len) × BlocksOfSpan (now t) (at.settings (now t) .levels) (p .0) len e × (len ≤ length (now buffer))
       × (drop len (now after) ≡ drop len (now buffer))
-  unfolding spanSays spanLeaves leavesSpan
+  unfolding spanAnswer spanBuffer bufferAfter
   span-answer m e a =
-      let s = says-answer m e _ len _ (a .0 .says) in
+      let s = says-answer m e _ len _ (a .0 .answers) in
       let bytes = spanBytes (now t) (p .0) len in
-      let number = spanNumber (now t) (p .0) len (length (now buffer)) in
+      let number = spanRefusal (now t) (p .0) len (length (now buffer)) in
       let left : now after ≡ bytes ++ drop len (now buffer) = rw (eq-eqb number 0 (s .0)) at (a .1) in
       let w = span-passes (now t) (p .0) len (length (now buffer)) (s .0) in (
         s .1,
@@ -76,19 +76,19 @@ module _ (κs : Lfts 2) (t : Lent) (p : TextPlace) (len : ℕ) (buffer after : L
 
   module _ (n : ℕ) (a : Span κs t p len buffer after (copied.Refused n)) where
     -- The number is the definition's.
-    span-says : n ≡ spanNumber (now t) (p .0) len (length (now buffer))
-    unfolding spanSays
-    span-says = says-refused n _ len _ (a .0 .numbered) (a .0 .says)
+    span-answers : n ≡ spanRefusal (now t) (p .0) len (length (now buffer))
+    unfolding spanAnswer
+    span-answers = says-refused n _ len _ (a .0 .numbered) (a .0 .answers)
 
     -- A refusal is 5, 6, 7, 10, 13 or 14.
     pub span-numbers : OneOf (5 ∷ 6 ∷ 7 ∷ 10 ∷ 13 ∷ 14 ∷ []) n
     span-numbers =
-        not-zero (5 ∷ 6 ∷ 7 ∷ 10 ∷ 13 ∷ 14 ∷ []) n (a .0 .numbered) (rw span-says (span-one (now t) (p .0) len (length (now buffer))))
+        not-zero (5 ∷ 6 ∷ 7 ∷ 10 ∷ 13 ∷ 14 ∷ []) n (a .0 .numbered) (rw span-answers (span-one (now t) (p .0) len (length (now buffer))))
 
     -- What is left in the buffer, by the number.
     span-left : now after ≡ cond (eqb n 14) (replicate len 0 ++ drop len (now buffer)) (now buffer)
-    unfolding spanLeaves leavesSpan
-    span-left = a .1 ∙ rw (← span-says, ne-eqb n 0 (λ e. omega (arith, a .0 .numbered)))
+    unfolding spanBuffer bufferAfter
+    span-left = a .1 ∙ rw (← span-answers, ne-eqb n 0 (λ e. omega (arith, a .0 .numbered)))
 
     -- Refusal 14 leaves zeros in the first `len` bytes.
     pub span-zeros : n ≡ 14 → now after ≡ replicate len 0 ++ drop len (now buffer)
@@ -99,12 +99,12 @@ module _ (κs : Lfts 2) (t : Lent) (p : TextPlace) (len : ℕ) (buffer after : L
     span-unchanged e = span-left ∙ rw (ne-eqb n 14 e)
 
 -- Any tree that the check accepts, and the one text that fits it.
-module _ (t : Lent) (v : verdict (now t) ≡ 0) where
+module _ (t : Lent) (v : checkResult (now t) ≡ 0) where
   abbrev T : List ℕ
   T = textOf (now t)
 
-  pass : readable (now t) ≡ 0
-  pass = accepted-readable (now t) v
+  pass : headerResult (now t) ≡ 0
+  pass = accepted-header (now t) v
 
   size : length T ≡ at.textLength (now t)
   size = text-size (now t) v
@@ -118,18 +118,18 @@ module _ (t : Lent) (v : verdict (now t) ≡ 0) where
   }
 
   -- A refused span answers its number, and leaves the buffer.
-  refuses : (κs : Lfts 2) (p : TextPlace) (len : ℕ) (buffer after : Lent) (r : Copied) (n : ℕ) → Span κs t p len buffer after r
-      → spanNumber (now t) (p .0) len (length (now buffer)) ≡ suc n → (suc n ≡ 14 → ⊥) → (r ≡ copied.Refused (suc n)) × (now after ≡ now buffer)
-  unfolding spanSays spanLeaves leavesSpan
+  refuses : (κs : Lfts 2) (p : TextPlace) (len : ℕ) (buffer after : Lent) (r : SpanAnswer) (n : ℕ) → Span κs t p len buffer after r
+      → spanRefusal (now t) (p .0) len (length (now buffer)) ≡ suc n → (suc n ≡ 14 → ⊥) → (r ≡ copied.Refused (suc n)) × (now after ≡ now buffer)
+  unfolding spanAnswer spanBuffer bufferAfter
   refuses κs p len buffer after r n a e other =
-      (access.copied-no r n (a .0 .says ∙ rw e), a .1 ∙ rw (e, ne-eqb (suc n) 0 (λ z. omega arith), ne-eqb (suc n) 14 other))
+      (access.copied-no r n (a .0 .answers ∙ rw e), a .1 ∙ rw (e, ne-eqb (suc n) 0 (λ z. omega arith), ne-eqb (suc n) 14 other))
 
-  span-ten : (p len room : ℕ) → length T < p + len → spanNumber (now t) p len room ≡ 10
-  unfolding spanNumber asksSpan
+  span-ten : (p len room : ℕ) → length T < p + len → spanRefusal (now t) p len room ≡ 10
+  unfolding spanRefusal spanQuestions
   span-ten p len room h = rw (pass, lt-leb (p + len) (at.textLength (now t)) (omega (arith, size)))
 
-  span-thirteen : (p len room : ℕ) → p + len ≤ length T → room < len → spanNumber (now t) p len room ≡ 13
-  unfolding spanNumber asksSpan
+  span-thirteen : (p len room : ℕ) → p + len ≤ length T → room < len → spanRefusal (now t) p len room ≡ 13
+  unfolding spanRefusal spanQuestions
   span-thirteen p len room h short = rw (pass, le-leb (p + len) (at.textLength (now t)) (omega (arith, size)), lt-leb len room short)
 
   pub accepted-refuses : SpanRefuses t (at.settings (now t)) T

@@ -1,4 +1,4 @@
--- without_edges(tree, out) writes the tree in layout 1. `Demands` of its crate has the theorems on what it writes and refuses; here: every call returns the
+-- without_edges(tree, out) writes the tree in layout 1. `Theorems` of its crate has the theorems on what it writes and refuses; here: every call returns the
 -- same for the written tree.
 use mathlib.Core.List.{List, [], _∷_}
 use mathlib.Core.Bool.{true, false, cond}
@@ -12,20 +12,20 @@ use lib.Dec.{leb, eqb}
 use Rattle.text.specs.ListLaws.{bool-cases}
 use Rattle.format.specs.Answers.{replied}
 use Rattle.format.specs.Layout as at
-use Rattle.format.specs.TreeReading.{textOf, ask, readable, verdict}
+use Rattle.format.specs.TreeReading.{textOf, ask, headerResult, checkResult}
 use Rattle.theory_without_edges.specs.WithoutEdges.{withoutEdges}
 use Rattle.build_without_edges.specs.declared.WithoutEdgesAnswer.{WithoutEdgesAnswer}
 use Rattle.build_without_edges.specs.declared.WithoutEdgesAnswer.the-variants.{Size}
 use Rattle.build_without_edges.specs.WithoutEdgesAnswers.{withoutEdgesRefusal, withoutEdgesReply}
 use Rattle.theorems.specs.Promises.{Answers, Refuses}
 use Rattle.theorems.specs.PublicFunctions.{without-edges-function}
-use Rattle.theorems.proofs.OutsideCall.{Call, Lent, call}
+use Rattle.theorems.proofs.PublicCall.{Call, Lent, call}
 use Rattle.theorems.proofs.RefusalNumbers.{OneOf, readable-one}
 use Rattle.theorems.proofs.TreeAnswers.{accepted-answers, accepted-refuses}
 use Rattle.build_without_edges.proofs.without_edges.Met as without-edges-met
-use Rattle.build_without_edges.proofs.Demands as drops
+use Rattle.build_without_edges.proofs.Theorems as drops
 -- `WithoutEdges κs tree out after r`: the contract allows r, with the buffer left as `after`
-pub use Rattle.build_without_edges.proofs.Demands.{WithoutEdges}
+pub use Rattle.build_without_edges.proofs.Theorems.{WithoutEdges}
 
 abbrev pub without-edges-call : Call
 without-edges-call = call without-edges-function without-edges-met.met (λ 𝓤 H A mem run κs a. (tt, refl))
@@ -33,7 +33,7 @@ without-edges-call = call without-edges-function without-edges-met.met (λ 𝓤 
 -- On any bytes it returns 0, 5, 6, 7 or 13.
 number-one : (t out : List ℕ) → OneOf (5 ∷ 6 ∷ 7 ∷ 13 ∷ 0 ∷ []) (withoutEdgesRefusal t out)
 unfolding withoutEdgesRefusal
-number-one t out = go (readable t) (readable-one t) (bool-cases (leb (length (withoutEdges t)) (length out)))
+number-one t out = go (headerResult t) (readable-one t) (bool-cases (leb (length (withoutEdges t)) (length out)))
   where
     fits : Type 0
     fits = (leb (length (withoutEdges t)) (length out) ≡ true) ⊎ (leb (length (withoutEdges t)) (length out) ≡ false)
@@ -51,9 +51,9 @@ module _ (κs : Lfts 2) (t out after : Lent) (r : WithoutEdgesAnswer) (a : Witho
   without-edges-numbers = rw (a .0) (number-one (now t) (now out))
 
   -- If the check accepts the tree, every question about the tree and about the written tree is answered, or refused, by the same text and settings.
-  module _ (n : ℕ) (e : r ≡ Size n) (u : Lent) (is : now u ≡ take n (now after)) (v : verdict (now t) ≡ 0) where
+  module _ (n : ℕ) (e : r ≡ Size n) (u : Lent) (is : now u ≡ take n (now after)) (v : checkResult (now t) ≡ 0) where
     settings-are : at.settings (now u) ≡ at.settings (now t)
-    settings-are = drops.written-readable κs t out after r a n e u is .2 .settings-are
+    settings-are = drops.written-header κs t out after r a n e u is .2 .settings-are
 
     pub without-edges-answers : Answers t (at.settings (now t)) (textOf (now t)) × Answers u (at.settings (now t)) (textOf (now t))
     without-edges-answers = (

@@ -1,45 +1,45 @@
 -- The functions of the library's public calls. Each has its code on the machine (`routine`), its signature, and its contract (`clauses`), as its crate states
--- them. The calls exported to C, list and the calls on a licence's days are listed in `Demands` of `abi`, `list_lines` and `term`.
+-- them. The calls exported to C, list and the calls on a licence's days are listed in `Theorems` of `abi`, `list_lines` and `licence`.
 use mathlib.Core.List.{List, [], _∷_}
-use Rattle.theory_machine.specs.Ends.{Function}
+use Rattle.theory_adequacy.specs.TotalCorrectness.{Function}
 use Rattle.search.proofs.Fingerprint.new as new-code
 use Rattle.search.proofs.leftmost as leftmost-code
 use Rattle.search.proofs.occurs_earlier as occurs-earlier-code
 use Rattle.build_by_search.proofs.build as build-code
 use Rattle.build_by_scan.proofs.build_scanned as build-scanned-code
 use Rattle.build_by_scan.proofs.scan_words as scan-words-code
-use Rattle.build_enough.proofs.enough as enough-code
+use Rattle.build_size_bound.proofs.size_bound as enough-code
 use Rattle.tree.proofs.check as check-code
-use Rattle.ask_access.proofs.byte as byte-code
-use Rattle.ask_access.proofs.run as run-code
-use Rattle.ask_access.proofs.run_part as run-part-code
-use Rattle.ask_access.proofs.span as span-code
-use Rattle.ask_rank.proofs.count as count-code
-use Rattle.ask_rank.proofs.uncounted.uncounted as uncounted-code
-use Rattle.ask_select.proofs.find as find-code
-use Rattle.ask_rows.proofs.row as row-code
-use Rattle.ask_rows.proofs.row_length as row-length-code
-use Rattle.ask_rows.proofs.row_count as row-count-code
-use Rattle.ask_patterns.proofs.places as places-code
-use Rattle.ask_patterns.proofs.places_words as places-words-code
-use Rattle.ask_worn_keys.proofs.next_match as next-match-code
-use Rattle.ask_worn_keys.proofs.show as show-code
-use Rattle.query_prefix.proofs.next_row_with_prefix as prefix-code
-use Rattle.query_prefix.proofs.next_row_with_prefix_guided as guided-code
+use Rattle.query_access.proofs.byte as byte-code
+use Rattle.query_access.proofs.run as run-code
+use Rattle.query_access.proofs.run_range as run-part-code
+use Rattle.query_access.proofs.span as span-code
+use Rattle.query_rank.proofs.count as count-code
+use Rattle.query_rank.proofs.uncounted.uncounted as uncounted-code
+use Rattle.query_select.proofs.find as find-code
+use Rattle.query_rows.proofs.row as row-code
+use Rattle.query_rows.proofs.row_length as row-length-code
+use Rattle.query_rows.proofs.row_count as row-count-code
+use Rattle.query_places.proofs.places as places-code
+use Rattle.query_places.proofs.places_words as places-words-code
+use Rattle.query_key_match.proofs.next_match as next-match-code
+use Rattle.query_key_match.proofs.advance_mark as show-code
+use Rattle.query_prefix.proofs.next_with_prefix as prefix-code
+use Rattle.query_prefix.proofs.next_with_prefix_guided as guided-code
 use Rattle.columns.proofs.to_columns as to-columns-code
 use Rattle.columns.proofs.from_columns as from-columns-code
-use Rattle.ask_columns.proofs.row_by_columns as row-by-columns-code
+use Rattle.query_columns.proofs.row_by_columns as row-by-columns-code
 use Rattle.query_digest.proofs.digest as digest-code
 use Rattle.sha256.proofs.digest_text as digest-text-code
-use Rattle.ask_guide.proofs.guide_words as guide-words-code
+use Rattle.query_guide.proofs.guide_words as guide-words-code
 use Rattle.build_guide.proofs.make_guide as make-guide-code
 use Rattle.build_guide.proofs.check_guide as check-guide-code
-use Rattle.ask_guided.proofs.find_guided as find-guided-code
-use Rattle.ask_rows.proofs.row_guided as row-guided-code
-use Rattle.ask_order.proofs.compare as compare-code
-use Rattle.ask_order.proofs.first as first-code
-use Rattle.ask_facts.proofs.info as info-code
-use Rattle.ask_facts.proofs.version as version-code
+use Rattle.query_guided.proofs.find_guided as find-guided-code
+use Rattle.query_rows.proofs.row_guided as row-guided-code
+use Rattle.query_compare.proofs.compare as compare-code
+use Rattle.query_compare.proofs.first as first-code
+use Rattle.query_info.proofs.info as info-code
+use Rattle.query_info.proofs.version as version-code
 use Rattle.build_without_edges.proofs.without_edges as without-edges-code
 
 abbrev pub fingerprint-new-function : Function
@@ -60,8 +60,8 @@ build-scanned-function = record { routine = build-scanned-code.Symbol.routine; s
 abbrev pub scan-words-function : Function
 scan-words-function = record { routine = scan-words-code.Symbol.routine; signature = scan-words-code.signature; clauses = scan-words-code.spec }
 
-abbrev pub enough-function : Function
-enough-function = record { routine = enough-code.Symbol.routine; signature = enough-code.signature; clauses = enough-code.spec }
+abbrev pub size-bound-function : Function
+size-bound-function = record { routine = enough-code.Symbol.routine; signature = enough-code.signature; clauses = enough-code.spec }
 
 abbrev pub check-function : Function
 check-function = record { routine = check-code.Symbol.routine; signature = check-code.signature; clauses = check-code.spec }
@@ -167,7 +167,7 @@ functions =
     ∷ build-function
     ∷ build-scanned-function
     ∷ scan-words-function
-    ∷ enough-function
+    ∷ size-bound-function
     ∷ check-function
     ∷ byte-function
     ∷ run-function

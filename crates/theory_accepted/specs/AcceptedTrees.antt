@@ -6,16 +6,16 @@ use mathlib.Core.Logic.{_↔_}
 use Prim.Native.Nat.{ℕ}
 use Rattle.format.specs.Layout.{Settings}
 use Rattle.format.specs.Blocks.{treeOf}
-use Rattle.format.specs.TreeReading.{linksOk, textOf, countsTrue, edgesTrue, readable, verdict}
+use Rattle.format.specs.TreeReading.{linksOk, textOf, countsTrue, edgesTrue, headerResult, checkResult}
 use Rattle.format.specs.FittingText.{fits}
-use Rattle.format.specs.VerdictLaws as verdicts
-use Rattle.theory_paths.specs.Demands as paths
+use Rattle.format.specs.CheckResultLaws as verdicts
+use Rattle.theory_paths.specs.Theorems as paths
 use Rattle.theory_built.specs.BlockSizes.{Taken}
 use Rattle.theory_built.specs.Built.{built, built-accepted}
 
 -- Questions 5 to 8 hold of t, T fits it, and its counts and, in layout 2, its edges are true of T.
-pub record StandsFor (t T : List ℕ) : Type 0 where
-  pub readable-is : readable t ≡ 0
+pub record Represents (t T : List ℕ) : Type 0 where
+  pub header-result : headerResult t ≡ 0
   pub linked : linksOk t ≡ true
   pub fitting : fits T t ≡ true
   pub counted : countsTrue T t ≡ true
@@ -23,27 +23,27 @@ pub record StandsFor (t T : List ℕ) : Type 0 where
 
 module _ (t : List ℕ) where
   -- An accepted tree represents the text that its paths give.
-  pub accepted-stands : verdict t ≡ 0 → StandsFor t (textOf t)
+  pub accepted-stands : checkResult t ≡ 0 → Represents t (textOf t)
   accepted-stands v = record {
-    readable-is = verdicts.accepted-readable t v;
+    header-result = verdicts.accepted-header t v;
     linked = verdicts.accepted-links t v;
-    fitting = paths.text-fits t (verdicts.accepted-readable t v) (verdicts.accepted-links t v);
+    fitting = paths.text-fits t (verdicts.accepted-header t v) (verdicts.accepted-links t v);
     counted = verdicts.accepted-counts t v;
     edged = verdicts.accepted-edges t v;
   }
 
   -- The tree represents no other text: exactly one text fits a tree that passes questions 5 to 8.
-  pub one-text : readable t ≡ 0 → linksOk t ≡ true → (T : List ℕ) → fits T t ≡ true → T ≡ textOf t
+  pub one-text : headerResult t ≡ 0 → linksOk t ≡ true → (T : List ℕ) → fits T t ≡ true → T ≡ textOf t
   one-text = paths.only-text t
 
   -- A tree that represents some text is accepted.
-  pub stands-accepted : (T : List ℕ) → StandsFor t T → verdict t ≡ 0
+  pub stands-accepted : (T : List ℕ) → Represents t T → checkResult t ≡ 0
   stands-accepted T s =
-      let e : T ≡ textOf t = one-text (s .readable-is) (s .linked) T (s .fitting) in
-      verdicts.accepted t (s .readable-is) (s .linked) (rw e at (s .counted)) (rw e at (s .edged))
+      let e : T ≡ textOf t = one-text (s .header-result) (s .linked) T (s .fitting) in
+      verdicts.accepted t (s .header-result) (s .linked) (rw e at (s .counted)) (rw e at (s .edged))
 
   -- The check accepts bytes exactly if questions 5 to 8 pass, some text fits, and the counts and edges are right for it.
-  pub accepts : (verdict t ≡ 0) ↔ ((T : List ℕ) × StandsFor t T)
+  pub accepts : (checkResult t ≡ 0) ↔ ((T : List ℕ) × Represents t T)
   accepts = (λ v. (textOf t, accepted-stands v), λ s. stands-accepted (s .0) (s .1))
 
 -- For every text and all settings that questions 1 to 3 let through:
@@ -53,5 +53,5 @@ module _ (S : Settings) (T : List ℕ) (h : Taken S T) where
   built-text = let b = built S T h in sym (one-text (treeOf S T) (b .read) (b .linked) T (b .fitting))
 
   -- The check accepts the built tree.
-  pub built-verdict : verdict (treeOf S T) ≡ 0
-  built-verdict = built-accepted S T h built-text
+  pub built-checked : checkResult (treeOf S T) ≡ 0
+  built-checked = built-accepted S T h built-text

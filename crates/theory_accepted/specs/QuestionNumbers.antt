@@ -7,9 +7,9 @@ use Prim.Native.Nat.{ℕ, zero, suc, _≤_}
 use native.Mathlib.Omega.{arith}
 use lib.Dec.{eqb}
 use Rattle.format.specs.Layout as at
-use Rattle.format.specs.TreeReading.{linksOk, textOf, edgesTrue, countsTrue, readable, verdict, ask, asks}
-use Rattle.format.specs.Answers.{Said, refused, unless}
-use Rattle.format.specs.SaidLaws.{then-is}
+use Rattle.format.specs.TreeReading.{linksOk, textOf, edgesTrue, countsTrue, headerResult, checkResult, ask, asks}
+use Rattle.format.specs.Answers.{Answer, refused, unless}
+use Rattle.format.specs.AnswerLaws.{then-is}
 
 -- n is one of the list
 abbrev pub OneOf : List ℕ → ℕ → Type 0
@@ -50,7 +50,7 @@ asks-one (q ∷ qs) = go (q .1) (asks-one qs)
     go false h = inl refl
 
 -- Questions, then what follows where they let it through.
-pub unless-one : (xs ys : List ℕ) (n : ℕ) (s : Said) → OneOf (xs ++ 0 ∷ []) n → OneOf ys (s .number) → OneOf (xs ++ ys) (unless n s .number)
+pub unless-one : (xs ys : List ℕ) (n : ℕ) (s : Answer) → OneOf (xs ++ 0 ∷ []) n → OneOf ys (s .number) → OneOf (xs ++ ys) (unless n s .number)
 unless-one xs ys zero s h k = of-right xs ys (s .number) k
 unless-one xs ys (suc n) s h k = of-left xs ys (suc n) (not-zero xs (suc n) (omega arith) h)
 
@@ -59,22 +59,22 @@ pub then-one : (xs ys : List ℕ) (n rest : ℕ) → OneOf (xs ++ 0 ∷ []) n �
 then-one xs ys n rest h k = rw (then-is n rest) (unless-one xs ys n (refused rest) h k)
 
 -- Questions 5 to 7.
-pub readable-one : (t : List ℕ) → OneOf (5 ∷ 6 ∷ 7 ∷ 0 ∷ []) (readable t)
-unfolding readable
-readable-one t = asks-one ((5, at.longEnough t) ∷ (6, at.layoutOk t) ∷ (7, at.headerOk t) ∷ [])
+pub header-one : (t : List ℕ) → OneOf (5 ∷ 6 ∷ 7 ∷ 0 ∷ []) (headerResult t)
+unfolding headerResult
+header-one t = asks-one ((5, at.holdsHeader t) ∷ (6, at.layoutOk t) ∷ (7, at.headerOk t) ∷ [])
 
 -- Questions 5 to 9.
-pub verdict-one : (t : List ℕ) → OneOf (5 ∷ 6 ∷ 7 ∷ 8 ∷ 9 ∷ 0 ∷ []) (verdict t)
-unfolding verdict
-verdict-one t =
-    asks-one ((5, at.longEnough t) ∷ (6, at.layoutOk t) ∷ (7, at.headerOk t) ∷ (8, linksOk t) ∷ (9, countsTrue (textOf t) t && edgesTrue (textOf t) t) ∷ [])
+pub checked-one : (t : List ℕ) → OneOf (5 ∷ 6 ∷ 7 ∷ 8 ∷ 9 ∷ 0 ∷ []) (checkResult t)
+unfolding checkResult
+checked-one t =
+    asks-one ((5, at.holdsHeader t) ∷ (6, at.layoutOk t) ∷ (7, at.headerOk t) ∷ (8, linksOk t) ∷ (9, countsTrue (textOf t) t && edgesTrue (textOf t) t) ∷ [])
 
 -- The number of what follows questions, where it is a refusal and where it is none.
-pub says-refused : (n m v w : ℕ) → 1 ≤ n → refused n ≡ unless m (record { number = 0; value = v; entered = w }) → n ≡ m
-says-refused n zero v w low e = absurd (let z : n ≡ 0 = ap (λ (s : Said). s .number) e in omega arith)
-says-refused n (suc m) v w low e = ap (λ (s : Said). s .number) e
+pub answers-refused : (n m v w : ℕ) → 1 ≤ n → refused n ≡ unless m (record { number = 0; value = v; entered = w }) → n ≡ m
+answers-refused n zero v w low e = absurd (let z : n ≡ 0 = ap (λ (s : Answer). s .number) e in omega arith)
+answers-refused n (suc m) v w low e = ap (λ (s : Answer). s .number) e
 
-pub says-answer : (x y m v w : ℕ) → record { number = 0; value = x; entered = y } ≡ unless m (record { number = 0; value = v; entered = w })
+pub answers-answer : (x y m v w : ℕ) → record { number = 0; value = x; entered = y } ≡ unless m (record { number = 0; value = v; entered = w })
     → (m ≡ 0) × (x ≡ v) × (y ≡ w)
-says-answer x y zero v w e = (refl, ap (λ (s : Said). s .value) e, ap (λ (s : Said). s .entered) e)
-says-answer x y (suc m) v w e = absurd (let z : _≡_ {A = ℕ} 0 (suc m) = ap (λ (s : Said). s .number) e in omega arith)
+answers-answer x y zero v w e = (refl, ap (λ (s : Answer). s .value) e, ap (λ (s : Answer). s .entered) e)
+answers-answer x y (suc m) v w e = absurd (let z : _≡_ {A = ℕ} 0 (suc m) = ap (λ (s : Answer). s .number) e in omega arith)

@@ -11,7 +11,7 @@ use Rattle.text.specs.ListLaws.{sumBelow-part}
 use Rattle.format.specs.Layout.{wordAt, wordBytes, wordsBytes, Settings, maxLevels, maxCounted, countedAt, pairsAt, headerLength}
 use Rattle.format.specs.Blocks.{treeOf, recordBytes}
 use Rattle.format.specs.WordLaws.{words-cons, length-words, digits}
-use Rattle.theory_built.specs.BlockSizes.{Taken, Bounds, bounds}
+use Rattle.theory_built.specs.BlockSizes.{Taken, BuiltBounds, bounds}
 use Rattle.theory_built.specs.Structure.{count}
 use Rattle.theory_built.specs.Pairs.{offset, levelWordsOf, length-levelWordsOf}
 use Rattle.theory_built.specs.Gather.{in-part}
@@ -20,11 +20,11 @@ use Rattle.theory_built.specs.BuiltRecords.{length-records}
 use Rattle.theory_built.specs.Shape.{sixWords, countedPlaces, tree-is, tree-levels, head, length-head, length-places, counted-place, record-byte-at}
 
 -- The four bytes of the word v are at i.
-abbrev pub Stands : List ℕ → ℕ → ℕ → Type 0
-Stands t i v = (r : ℕ) → r < 4 → getD t (i + r) 0 ≡ getD (wordBytes v) r 0
+abbrev pub BytesAt : List ℕ → ℕ → ℕ → Type 0
+BytesAt t i v = (r : ℕ) → r < 4 → getD t (i + r) 0 ≡ getD (wordBytes v) r 0
 
 -- The word at i is read there.
-pub stands-word : (t : List ℕ) (i v : ℕ) → Stands t i v → v < 4294967296 → wordAt t i ≡ v
+pub stands-word : (t : List ℕ) (i v : ℕ) → BytesAt t i v → v < 4294967296 → wordAt t i ≡ v
 unfolding wordAt wordBytes
 stands-word t i v s small = rw (first, s 1 (omega arith), s 2 (omega arith), s 3 (omega arith)) (digits v small)
   where
@@ -49,15 +49,15 @@ byte-in (w ∷ ws) B (suc j) r l k =
     rw (words-cons w ws B, e) (next-byte w (wordsBytes ws ++ B) (4 * j + r) ∙ byte-in ws B j r (omega arith) k)
 
 -- Word j of the words ws after A.
-stands-at : (A ws B : List ℕ) (a j : ℕ) → length A ≡ a → j < length ws → Stands (A ++ (wordsBytes ws ++ B)) (a + 4 * j) (getD ws j 0)
+stands-at : (A ws B : List ℕ) (a j : ℕ) → length A ≡ a → j < length ws → BytesAt (A ++ (wordsBytes ws ++ B)) (a + 4 * j) (getD ws j 0)
 stands-at A ws B a j e l r k =
     rw (← e, add-assoc (length A) (4 * j) r) (getD-append-add A (wordsBytes ws ++ B) (4 * j + r) 0 ∙ byte-in ws B j r l k)
 
 module _ (S : Settings) (T : List ℕ) (h : Taken S T) where
-  limits : Bounds S T
+  limits : BuiltBounds S T
   limits = bounds S T h
 
-  pub six-stands : (j : ℕ) → j < 6 → Stands (treeOf S T) (4 * j) (getD (sixWords S T) j 0)
+  pub six-stands : (j : ℕ) → j < 6 → BytesAt (treeOf S T) (4 * j) (getD (sixWords S T) j 0)
   unfolding sixWords
   six-stands j l r k =
       let e : 4 * j ≡ 0 + 4 * j = omega arith in
@@ -66,7 +66,7 @@ module _ (S : Settings) (T : List ℕ) (h : Taken S T) where
   pub counted-stands : (x : ℕ) → x < maxCounted → getD (treeOf S T) (countedAt + x) 0 ≡ getD (countedPlaces S T) x 0
   counted-stands x l = counted-place S T h x ∙ List·getD-append (countedPlaces S T) _ 0 x (omega (arith, length-places S T h))
 
-  pub level-stands : (j : ℕ) → j < 2 * maxLevels + 2 → Stands (treeOf S T) (pairsAt + 4 * j) (getD (levelWordsOf S T) j 0)
+  pub level-stands : (j : ℕ) → j < 2 * maxLevels + 2 → BytesAt (treeOf S T) (pairsAt + 4 * j) (getD (levelWordsOf S T) j 0)
   level-stands j l r k =
       rw (tree-levels S T h) (stands-at (head S T h)
       (levelWordsOf S T) _ pairsAt j (length-head S T h) (rw (length-levelWordsOf S T (limits .levels-high)) l) r k)
@@ -85,7 +85,7 @@ module _ (S : Settings) (T : List ℕ) (h : Taken S T) where
 
   -- Word f of it.
   pub record-stands : (l i f : ℕ) → l < S .levels → i < count S T l → f < recordWords S T
-      → Stands (treeOf S T) (offset S T l + i * recordBytes S + 4 * f) (getD (recordAt S T l i) f 0)
+      → BytesAt (treeOf S T) (offset S T l + i * recordBytes S + 4 * f) (getD (recordAt S T l i) f 0)
   record-stands l i f e il fl r k =
       rw (add-assoc (offset S T l + i * recordBytes S) (4 * f) r)
       (record-at l i (4 * f + r) e il (omega (arith, record-bytes S T))

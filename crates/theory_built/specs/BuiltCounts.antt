@@ -14,7 +14,7 @@ use Rattle.format.specs.Layout as at
 use Rattle.format.specs.TreeReading.{blockCountsTrue, countsTrue}
 use Rattle.theory_built.specs.BlockSizes.{Taken}
 use Rattle.theory_built.specs.Structure.{count, start, keptAt}
-use Rattle.theory_built.specs.BuiltLeaves.{kept-last}
+use Rattle.theory_built.specs.BuiltLeafBytes.{kept-last}
 use Rattle.theory_built.specs.BuiltTargets.{placeOf, targetOf, points-to}
 use Rattle.theory_built.specs.BuiltRecords.{parentOf, beforeOf, insideOf, skipOf}
 use Rattle.theory_built.specs.ReadBack.{read-countedCount, read-settings, read-levelCount, read-fullLength, read-start, read-link, read-gap}

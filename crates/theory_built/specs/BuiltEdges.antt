@@ -13,14 +13,14 @@ use Rattle.format.specs.Layout.{Settings, edgesOf}
 use Rattle.format.specs.EdgeLaws.{length-edges}
 use Rattle.format.specs.Blocks.{treeOf}
 use Rattle.format.specs.Layout as at
-use Rattle.format.specs.LayoutLaws.{readable-facts, edges-inside, leaf-start-inside}
+use Rattle.format.specs.LayoutLaws.{header-facts, edges-inside, leaf-start-inside}
 use Rattle.format.specs.TreeReading.{blockEdgesTrue, edgesTrue}
 use Rattle.theory_built.specs.BlockSizes.{Taken}
 use Rattle.theory_built.specs.Structure.{count, start, bytesIn}
 use Rattle.theory_built.specs.BuiltRecords.{edgesIn}
 use Rattle.theory_built.specs.BuiltBytes.{edge-stands}
 use Rattle.theory_built.specs.ReadBack.{read-layout, read-settings, read-levelCount, read-edgesAt, read-start, read-blockLength}
-use Rattle.theory_built.specs.Readable.{built-readable}
+use Rattle.theory_built.specs.BuiltHeader.{built-header}
 use Rattle.theory_built.specs.BuiltLinks.{levels-are}
 
 module _ (S : Settings) (T : List ℕ) (h : Taken S T) where
@@ -36,7 +36,7 @@ module _ (S : Settings) (T : List ℕ) (h : Taken S T) where
   module _ (l i : ℕ) (e : l < S .levels) (il : i < count S T l) where
     inside : at.edgesAt t l i + (m + m) ≤ length t
     inside =
-        let k = readable-facts t (built-readable S T h) in
+        let k = header-facts t (built-header S T h) in
         let in-levels : l < at.settings t .levels = rw (levels-are S T h) e in
         let in-table : i < at.levelCount t l = rw (read-levelCount S T h l e) il in
         omega (arith, rw leaf-is at (edges-inside t k l i (read-layout S T h) in-levels in-table), leaf-start-inside t k)

@@ -19,7 +19,7 @@ use Rattle.format.specs.FittingText.{blockFits, fits}
 use Rattle.theory_built.specs.BlockSizes.{Taken}
 use Rattle.text.specs.TextLaws.{length-stretch, getD-stretch}
 use Rattle.theory_built.specs.Structure.{count, start, bytesIn, keptAt, widthOf}
-use Rattle.theory_built.specs.BuiltLeaves.{kept-last, leaf-at, bytes-fit}
+use Rattle.theory_built.specs.BuiltLeafBytes.{kept-last, leaf-at, bytes-fit}
 use Rattle.theory_built.specs.BuiltTargets.{placeOf, targetOf, points-to, placeOf-same}
 use Rattle.theory_built.specs.ReadBack.{read-textLength, read-levelCount, read-leafByte, read-start, read-link, read-gap}
 use Rattle.theory_built.specs.ReadBack.{read-blockLength, read-isPointing}

@@ -18,7 +18,7 @@ use Rattle.format.specs.TreeReading.{lastLevel, widthAt, keptRight, pointingRig
 use Rattle.theory_built.specs.BlockSizes.{Taken, bounds}
 use Rattle.theory_built.specs.LevelBlocks.{child-below}
 use Rattle.theory_built.specs.Structure.{size, count, start, bytesIn, keptAt, widthOf, level-at, cut-at, count-below, start-below, start-top}
-use Rattle.theory_built.specs.BuiltLeaves.{kept-last, leaf-count}
+use Rattle.theory_built.specs.BuiltLeafBytes.{kept-last, leaf-count}
 use Rattle.theory_built.specs.BuiltTargets.{placeOf, targetOf, PointsTo, points-to}
 use Rattle.theory_built.specs.BuiltRecords.{kindOf, linkOf, gapOf}
 use Rattle.theory_built.specs.ReadBack.{read-settings, read-levelCount, read-leafCount, read-fullLength, read-start, read-kind, read-link}

@@ -22,7 +22,7 @@ byteAt T p = getD T p 0
 pub first-leftmost : (T : List ℕ) (s len : ℕ) → s + len ≤ length T → First (byteAt T) (length T) (leftmost T s len) len
 first-leftmost T s len fits = record {
   within = omega (arith, leftmost-le T s len);
-  none = λ q l same. leftmost-least T s len q l
+  absent = λ q l same. leftmost-least T s len q l
       (stretch-ext T T q (leftmost T s len) len (omega (arith, leftmost-le T s len)) (omega (arith, leftmost-le T s len)) same ∙ leftmost-same T s len);
 }
 
@@ -30,7 +30,7 @@ leftmost-first : (T : List ℕ) (s len : ℕ) → First (byteAt T) (length T) s 
 leftmost-first T s len f = go (lt-or-ge (leftmost T s len) s)
   where
     go : (leftmost T s len < s) ⊎ (s ≤ leftmost T s len) → leftmost T s len ≡ s
-    go (inl l) = absurd (f .none (leftmost T s len) l (λ k h. stretch-at T T (leftmost T s len) s len (leftmost-same T s len) k h))
+    go (inl l) = absurd (f .absent (leftmost T s len) l (λ k h. stretch-at T T (leftmost T s len) s len (leftmost-same T s len) k h))
     go (inr g) = omega (arith, leftmost-le T s len)
 
 module _ (T : List ℕ) (b : ℕ) (starts : List ℕ) where

@@ -13,13 +13,13 @@ module _ (at : ℕ → ℕ) (n : ℕ) where
   -- The len bytes at p occur at no earlier place.
   pub record First (p len : ℕ) : Type 0 where
     pub within : p + len ≤ n
-    pub none : (q : ℕ) → q < p → Same q p len → ⊥
+    pub absent : (q : ℕ) → q < p → Same q p len → ⊥
 
   -- A stretch around a first occurrence is one too.
   pub around : (s L p len : ℕ) → First p len → s ≤ p → p + len ≤ s + L → s + L ≤ n → First s L
   around s L p len f lo hi fits = record {
     within = fits;
-    none = λ q lt same. f .none (q + (p - s)) (omega arith) (λ k h. ap at (later q k) ∙ same (p - s + k) (omega arith) ∙ ap at (there k));
+    absent = λ q lt same. f .absent (q + (p - s)) (omega arith) (λ k h. ap at (later q k) ∙ same (p - s + k) (omega arith) ∙ ap at (there k));
   }
     where
       later : (q k : ℕ) → q + (p - s) + k ≡ q + (p - s + k)

@@ -11,18 +11,18 @@ use Rattle.format.specs.Layout.{wordAt, startField, kindField, linkField, gapFi
 use Rattle.format.specs.Layout.{Settings, maxLevels, maxCounted, leafAt, arityAt, levelsAt, countedAt, pairsAt, countAt, offsetAt}
 use Rattle.format.specs.Blocks.{treeOf, leafBytes, recordBytes, builtLayout}
 use Rattle.format.specs.Layout as at
-use Rattle.theory_built.specs.BlockSizes.{Taken, Bounds, bounds}
+use Rattle.theory_built.specs.BlockSizes.{Taken, BuiltBounds, bounds}
 use Rattle.theory_built.specs.Structure.{size, count, start, bytesIn, keptAt, bytesIn-is, level-at}
-use Rattle.theory_built.specs.BuiltLeaves.{leaves-le}
+use Rattle.theory_built.specs.BuiltLeafBytes.{leaves-le}
 use Rattle.theory_built.specs.Pairs.{offset, levelWordsOf, word-count, word-offset, word-none, word-leaf-offset, word-leaf-count}
 use Rattle.theory_built.specs.BuiltBytes.{stands-word, record-stands}
 use Rattle.theory_built.specs.BuiltRecords.{recordAt, recordWords, record-start, record-kind, record-link, record-gap, record-before}
 use Rattle.theory_built.specs.BuiltRecords.{record-inside, record-skip, kindOf, linkOf, gapOf, beforeOf, insideOf, skipOf}
 use Rattle.theory_built.specs.Shape.{sixWords, six-word, countedPlaces, counted-places, level-word, leaf-place}
-use Rattle.theory_built.specs.Small.{blocks-le, link-le, gap-le, kind-le, before-le, inside-le, skip-le, offset-le}
+use Rattle.theory_built.specs.SizeBounds.{blocks-le, link-le, gap-le, kind-le, before-le, inside-le, skip-le, offset-le}
 
 module _ (S : Settings) (T : List ℕ) (h : Taken S T) where
-  limits : Bounds S T
+  limits : BuiltBounds S T
   limits = bounds S T h
 
   -- The header.

@@ -10,10 +10,10 @@ use Rattle.format.specs.Blocks.{treeOf, header, leafBytes, levelPairs, builtLay
 use Rattle.format.specs.WordLaws.{word-at, length-words}
 use Rattle.theory_built.specs.Pairs.{levelWordsOf, offset, length-levelWordsOf}
 use Rattle.theory_built.specs.BuiltRecords.{records, length-records}
-use Rattle.theory_built.specs.BlockSizes.{Taken, Bounds, bounds}
+use Rattle.theory_built.specs.BlockSizes.{Taken, BuiltBounds, bounds}
 
-parts : (a c w r l : List ℕ) → a ++ c ++ w ++ r ++ l ≡ a ++ (c ++ (w ++ (r ++ l)))
-parts a c w r l = simp append-assoc
+built-parts : (a c w r l : List ℕ) → a ++ c ++ w ++ r ++ l ≡ a ++ (c ++ (w ++ (r ++ l)))
+built-parts a c w r l = simp append-assoc
 
 module _ (S : Settings) (T : List ℕ) where
   unfoldable pub sixWords : List ℕ
@@ -25,7 +25,7 @@ module _ (S : Settings) (T : List ℕ) where
   pub tree-is : treeOf S T ≡ wordsBytes sixWords ++ (countedPlaces ++ (wordsBytes (levelWordsOf S T) ++ (records S T ++ leafBytes S T)))
   unfolding treeOf header sixWords countedPlaces levelWordsOf records offset
   tree-is =
-      parts (wordsBytes sixWords) countedPlaces _ (records S T) (leafBytes S T)
+      built-parts (wordsBytes sixWords) countedPlaces _ (records S T) (leafBytes S T)
       ∙ ap (λ (w : List ℕ). wordsBytes sixWords ++ (countedPlaces ++ (wordsBytes w ++ (records S T ++ leafBytes S T))))
       (append-assoc (levelPairs S T (S .levels) 0 headerLength)
       (replicate (2 * maxLevels - 2 * S .levels) 0) (offset S T (S .levels) ∷ length (leafBytes S T) ∷ []))
@@ -35,7 +35,7 @@ module _ (S : Settings) (T : List ℕ) where
   length-six = length-words sixWords
 
   module _ (h : Taken S T) where
-    limits : Bounds S T
+    limits : BuiltBounds S T
     limits = bounds S T h
 
     pub length-places : length countedPlaces ≡ maxCounted

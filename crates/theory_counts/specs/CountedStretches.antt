@@ -16,7 +16,7 @@ use Rattle.theory_paths.specs.Links.{H, N, s, len, width-last, Linked, pointing
 use Rattle.theory_paths.specs.BlockStarts.{len-end, start-below, last-kept}
 use Rattle.theory_paths.specs.FitsFacts.{Fitting, fits-facts}
 use Rattle.theory_paths.specs.OneText.{text-length, text-fits}
-use Rattle.theory_counts.specs.CountsLocal.{byteOf, inLeaves}
+use Rattle.theory_counts.specs.CountsLocal.{byteOf, inLeafBytes}
 use Rattle.theory_counts.specs.LevelTrue.{tally}
 
 module _ (t : List ℕ) where
@@ -56,8 +56,8 @@ module _ (t : List ℕ) where
             let h₁ : i < N t (H t - 1) = rw e at h in
             rw e (leaf-end i h₁)
 
-    last-leaves : (i x c : ℕ) → i < N t (H t - 1) → x ≤ len t (H t - 1) i → inLeaves t (H t - 1) i x c ≡ tally t c (s t (H t - 1) i) x
-    unfolding inLeaves tally at.leafByte
+    last-leaves : (i x c : ℕ) → i < N t (H t - 1) → x ≤ len t (H t - 1) i → inLeafBytes t (H t - 1) i x c ≡ tally t c (s t (H t - 1) i) x
+    unfolding inLeafBytes tally at.leafByte
     last-leaves i x c hi hx =
         let same : stretch (textOf t) (s t (H t - 1) i) x ≡ stretch t (at.leafOffset t + at.link t (H t - 1) i) x =
         stretch-ext (textOf t) t (s t (H t - 1) i) (at.leafOffset t + at.link t (H t - 1) i) x
@@ -66,10 +66,10 @@ module _ (t : List ℕ) where
         rw e (fitting .leaves i o hi (omega arith)))) in
         ap (countIn (byteOf t c)) (sym same)
 
-    pub leaves-tally : (l i x c : ℕ) → l + 1 ≡ H t → i < N t l → x ≤ len t l i → inLeaves t l i x c ≡ tally t c (s t l i) x
+    pub leaves-tally : (l i x c : ℕ) → l + 1 ≡ H t → i < N t l → x ≤ len t l i → inLeafBytes t l i x c ≡ tally t c (s t l i) x
     leaves-tally l i x c e hi hx = go l (omega arith) hi hx
       where
-        go : (m : ℕ) → m ≡ H t - 1 → i < N t m → x ≤ len t m i → inLeaves t m i x c ≡ tally t c (s t m i) x
+        go : (m : ℕ) → m ≡ H t - 1 → i < N t m → x ≤ len t m i → inLeafBytes t m i x c ≡ tally t c (s t m i) x
         go m e h g =
             let h₁ : i < N t (H t - 1) = rw e at h in
             let g₁ : x ≤ len t (H t - 1) i = rw e at g in

@@ -15,8 +15,8 @@ module _ (t : List ℕ) where
   byteOf c = getD (at.settings t .counted) c 0
 
   -- How often counted byte number c occurs in the first x leaf bytes of block i of the last level.
-  unfoldable pub inLeaves : ℕ → ℕ → ℕ → ℕ → ℕ
-  inLeaves l i x c = countIn (byteOf c) (stretch t (at.leafOffset t + at.link t l i) x)
+  unfoldable pub inLeafBytes : ℕ → ℕ → ℕ → ℕ → ℕ
+  inLeafBytes l i x c = countIn (byteOf c) (stretch t (at.leafOffset t + at.link t l i) x)
 
   -- The length of a full block of the level above; of the text above level 0.
   unfoldable pub upLength : ℕ → ℕ
@@ -39,7 +39,7 @@ module _ (t : List ℕ) where
 
   -- How often byte number c occurs in kept block i of level l up to place o, included; the block has `below` levels under it.
   unfoldable pub upTo : ℕ → ℕ → ℕ → ℕ → ℕ → ℕ
-  upTo zero l i o c = inLeaves l i (o + 1) c
+  upTo zero l i o c = inLeafBytes l i (o + 1) c
   upTo (suc below) l i o c =
       let j = at.link t l i + o / at.fullLength t (l + 1) in
       let p = o % at.fullLength t (l + 1) in
@@ -55,7 +55,7 @@ module _ (t : List ℕ) where
 
   unfoldable pub keptInside : ℕ → ℕ → ℕ → ℕ
   keptInside l i c =
-      cond (eqb l (lastLevel t)) (inLeaves l i (at.blockLengthAt t l i) c)
+      cond (eqb l (lastLevel t)) (inLeafBytes l i (at.blockLengthAt t l i) c)
       (at.before t (l + 1) (lastChild l i) c + at.inside t (l + 1) (lastChild l i) c)
 
   unfoldable pub keptLocal : ℕ → ℕ → ℕ → Bool

@@ -25,10 +25,10 @@ use Rattle.theory_paths.specs.BlockStarts.{second-inside}
 use Rattle.theory_paths.specs.PlacesLand.{kept-block, kept-not, pointing-block, from-last, from-kept, from-pointing, target, target-first, target-second}
 use Rattle.theory_paths.specs.PathWalk.{path-from-holds}
 use Rattle.theory_paths.specs.OneText.{text-length}
-use Rattle.theory_counts.specs.CountsLocal.{byteOf, inLeaves}
+use Rattle.theory_counts.specs.CountsLocal.{byteOf, inLeafBytes}
 use Rattle.theory_counts.specs.LevelTrue.{tally, parentPlace, Block, Level}
 use Rattle.theory_counts.specs.CountedStretches.{tally-none, tally-parts, fitting, points-tally, leaves-tally}
-use Rattle.theory_counts.specs.Families.{child-of, child-tally}
+use Rattle.theory_counts.specs.SiblingCounts.{child-of, child-tally}
 use Rattle.theory_counts.specs.PointedCounts.{skip-points}
 
 module _ (t : List ℕ) (k : Readable t) (d : Linked t) (a : (m : ℕ) → m < H t → Level t m) (c : ℕ) (hc : c < at.countedCount t) where
@@ -183,7 +183,7 @@ module _ (t : List ℕ) (k : Readable t) (d : Linked t) (a : (m : ℕ) → m < H
 
   -- In a last-level block by its leaf bytes.
   last-lands : (i n o : ℕ) → i < N t (H t - 1) → o < len t (H t - 1) i → at.leafByte t (at.link t (H t - 1) i + o) ≡ byteOf t c
-      → inLeaves t (H t - 1) i o c + 1 ≡ n → Lands (H t - 1) i n o 1
+      → inLeafBytes t (H t - 1) i o c + 1 ≡ n → Lands (H t - 1) i n o 1
   unfolding tally
   last-lands i n o hi ho byte-is rank =
       let l = H t - 1 in
@@ -199,15 +199,15 @@ module _ (t : List ℕ) (k : Readable t) (d : Linked t) (a : (m : ℕ) → m < H
       }
 
   pub lands-leaf : (l i n o : ℕ)
-      → l + 1 ≡ H t → i < N t l → o < len t l i → at.leafByte t (at.link t l i + o) ≡ byteOf t c → inLeaves t l i o c + 1 ≡ n → Lands l i n o 1
+      → l + 1 ≡ H t → i < N t l → o < len t l i → at.leafByte t (at.link t l i + o) ≡ byteOf t c → inLeafBytes t l i o c + 1 ≡ n → Lands l i n o 1
   lands-leaf l i n o e hi ho byte-is rank = go l (omega arith) hi ho byte-is rank
     where
-      go : (m : ℕ) → m ≡ H t - 1 → i < N t m → o < len t m i → at.leafByte t (at.link t m i + o) ≡ byteOf t c → inLeaves t m i o c + 1 ≡ n → Lands m i n o 1
+      go : (m : ℕ) → m ≡ H t - 1 → i < N t m → o < len t m i → at.leafByte t (at.link t m i + o) ≡ byteOf t c → inLeafBytes t m i o c + 1 ≡ n → Lands m i n o 1
       go m e hi ho byte-is rank =
           let h₁ : i < N t (H t - 1) = rw e at hi in
           let h₂ : o < len t (H t - 1) i = rw e at ho in
           let h₃ : at.leafByte t (at.link t (H t - 1) i + o) ≡ byteOf t c = rw e at byte-is in
-          let h₄ : inLeaves t (H t - 1) i o c + 1 ≡ n = rw e at rank in
+          let h₄ : inLeafBytes t (H t - 1) i o c + 1 ≡ n = rw e at rank in
           rw e (last-lands i n o h₁ h₂ h₃ h₄)
 
   -- In a kept block by the child that holds it.

@@ -14,20 +14,20 @@ use lib.Dec.{eqb, ltb}
 use Rattle.text.specs.ListLaws.{bool-cases, bool-clash, lt-or-ge, and-right}
 use Rattle.text.specs.Text.{countIn}
 use Rattle.text.specs.CountLaws.{count-start, count-nil}
-use Rattle.format.specs.LayoutLaws.{Readable, readable-facts, full-pos, level0-holds}
+use Rattle.format.specs.LayoutLaws.{Readable, header-facts, full-pos, level0-holds}
 use Rattle.format.specs.Layout as at
-use Rattle.format.specs.TreeReading.{Path, Visit, visit, keptBlock, targetBlock, targetPlace, pathOf, textOf, readable}
+use Rattle.format.specs.TreeReading.{Path, Visit, visit, keptBlock, targetBlock, targetPlace, pathOf, textOf, headerResult}
 use Rattle.format.specs.Answers.{pathLength}
-use Rattle.format.specs.Answers.{indexOf, addedAfter, added, takenAfter, taken, lastPlace, leavesReached, countOf, isCounted, numberOfByte, countSays}
+use Rattle.format.specs.Answers.{indexOf, addedAfter, added, takenAfter, taken, lastPlace, leavesReached, countOf, isCounted, numberOfByte, countAnswer}
 use Rattle.theory_paths.specs.Links.{H, N, b, s, len, Linked}
 use Rattle.theory_paths.specs.BlockStarts.{child, len-reach}
 use Rattle.theory_paths.specs.PlacesLand.{kept-block, target, target-first, target-second}
 use Rattle.theory_paths.specs.Visits.{Goes, goes}
 use Rattle.theory_paths.specs.PathWalk.{path-holds}
-use Rattle.theory_counts.specs.CountsLocal.{byteOf, inLeaves}
+use Rattle.theory_counts.specs.CountsLocal.{byteOf, inLeafBytes}
 use Rattle.theory_counts.specs.LevelTrue.{tally, parentPlace, Level}
 use Rattle.theory_counts.specs.CountedStretches.{tally-parts, leaves-tally}
-use Rattle.theory_counts.specs.Families.{kept-step}
+use Rattle.theory_counts.specs.SiblingCounts.{kept-step}
 use Rattle.theory_counts.specs.PointedCounts.{points-hand, skip-points}
 
 module _ (t : List ℕ) where
@@ -35,8 +35,8 @@ module _ (t : List ℕ) where
   unfoldable pub leafCount : ℕ → List Visit → ℕ → ℕ
   leafCount c vs x = countIn (byteOf t c) (leavesReached t (record { visits = vs; leaf = x }))
 
-  pub leaf-one : (c l i o : ℕ) → leafCount c (visit l i o ∷ []) (at.link t l i + o) ≡ inLeaves t l i (o + 1) c
-  unfolding leafCount leavesReached lastPlace inLeaves
+  pub leaf-one : (c l i o : ℕ) → leafCount c (visit l i o ∷ []) (at.link t l i + o) ≡ inLeafBytes t l i (o + 1) c
+  unfolding leafCount leavesReached lastPlace inLeafBytes
   leaf-one c l i o = let e : at.link t l i + o - o ≡ at.link t l i = omega arith in rw e
 
   pub leaf-cons : (c : ℕ) (v w : Visit) (vs : List Visit) (x : ℕ) → leafCount c (v ∷ w ∷ vs) x ≡ leafCount c (w ∷ vs) x
@@ -221,7 +221,7 @@ counted t k byte h =
 
 -- Count on an accepted tree.
 
-module _ (t : List ℕ) (r : readable t ≡ 0) (d : Linked t) (a : (m : ℕ) → m < H t → Level t m) where
+module _ (t : List ℕ) (r : headerResult t ≡ 0) (d : Linked t) (a : (m : ℕ) → m < H t → Level t m) where
   -- The answer of count, by the sums.
   count-of : (byte c : ℕ) (q : Path) (v : ℕ) → added t c (q .visits) + countIn byte (leavesReached t q) ≡ taken t c (q .visits) + v
       → countOf t byte c (some q) ≡ record { number = 0; value = v; entered = length (q .visits) }
@@ -233,15 +233,15 @@ module _ (t : List ℕ) (r : readable t ≡ 0) (d : Linked t) (a : (m : ℕ) →
       rw (le-leb minus plus low, f)
 
   count-asked : (byte i : ℕ) → isCounted t byte ≡ true → i ≤ at.textLength t
-      → countSays t byte i ≡ cond (eqb i 0) (record { number = 0; value = 0; entered = 0 }) (countOf t byte (numberOfByte t byte) (pathOf t (i - 1)))
-  unfolding countSays
+      → countAnswer t byte i ≡ cond (eqb i 0) (record { number = 0; value = 0; entered = 0 }) (countOf t byte (numberOfByte t byte) (pathOf t (i - 1)))
+  unfolding countAnswer
   count-asked byte i h hi = rw (r, h, le-leb i (at.textLength t) hi)
 
   pub count-right : (byte i : ℕ) → isCounted t byte ≡ true → i ≤ at.textLength t
-      → countSays t byte i ≡ record { number = 0; value = countIn byte (take i (textOf t)); entered = cond (eqb i 0) 0 (pathLength t (pathOf t (i - 1))) }
+      → countAnswer t byte i ≡ record { number = 0; value = countIn byte (take i (textOf t)); entered = cond (eqb i 0) 0 (pathLength t (pathOf t (i - 1))) }
   count-right byte zero h hi = count-asked byte 0 h hi ∙ rw (count-nil byte)
   count-right byte (suc i) h hi =
-      let k = readable-facts t r in
+      let k = header-facts t r in
       let n = counted t k byte h in
       let c = numberOfByte t byte in
       let e : suc i - 1 ≡ i = omega arith in

@@ -16,7 +16,7 @@ use Rattle.format.specs.Layout as at
 use Rattle.format.specs.LayoutLaws.{Readable, full-pos, full-step, full-last, full-falls, edges-inside, leaf-start-inside}
 use Rattle.theory_paths.specs.Links.{H, N, b, s, len, Linked}
 use Rattle.theory_paths.specs.BlockStarts.{len-small, len-end, start-below, child}
-use Rattle.theory_edges.specs.Truth.{Edged}
+use Rattle.theory_edges.specs.EdgesMatchTree.{Edged}
 use Rattle.theory_edges.specs.EdgesLocal.{childEdges, hasFullChildren}
 
 -- The fact that the test decides.

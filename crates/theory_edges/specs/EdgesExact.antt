@@ -20,7 +20,7 @@ use Rattle.theory_paths.specs.Links.{H, N, s, len, Linked}
 use Rattle.theory_paths.specs.BlockStarts.{len-end, len-pos, start-below}
 use Rattle.theory_paths.specs.FitsFacts.{Fitting, fits-facts}
 use Rattle.theory_paths.specs.OneText.{text-fits}
-use Rattle.theory_edges.specs.Truth.{Edged, edged-facts, edged-make, edges-at, edges-all}
+use Rattle.theory_edges.specs.EdgesMatchTree.{Edged, edged-facts, edged-make, edges-at, edges-all}
 use Rattle.theory_edges.specs.SpanWalk as walks
 use Rattle.theory_edges.specs.EdgesLocal.{edgeIs, ownBytes, childEdges, walkedEdges, hasFullChildren, edgesLocal, levelEdges, allEdges}
 use Rattle.theory_edges.specs.ChildEdges.{Full, full-facts, child-edged, edged-child}

@@ -1,4 +1,4 @@
-pub mod Truth
+pub mod EdgesMatchTree
 pub mod SpanSteps
 pub mod SpanWalk
 pub mod SpanEntered
@@ -6,4 +6,4 @@ pub mod SpanPlaces
 pub mod EdgesLocal
 pub mod ChildEdges
 pub mod EdgesExact
-pub mod Demands
+pub mod Theorems

@@ -15,7 +15,7 @@ use Rattle.format.specs.Layout as at
 use Rattle.format.specs.LayoutLaws.{Readable, full-pos, edges-inside, leaf-start-inside}
 use Rattle.format.specs.TreeReading.{Visit, visit, keptBlock, pointingBlock, targetPlace, lands, landBlock, landPlace, landVisits, provided}
 use Rattle.format.specs.TreeReading.{Short, led, byEdges, inLeaf, shortFrom, shortOf}
-use Rattle.format.specs.ReadSaysLaws.{ShortSpan}
+use Rattle.format.specs.ReadAnswerLaws.{ShortSpan}
 use Rattle.theory_paths.specs.Links.{H, N, b}
 use Rattle.theory_paths.specs.PlacesLand.{target-first, target-second}
 

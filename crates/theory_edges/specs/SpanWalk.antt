@@ -20,7 +20,7 @@ use Rattle.theory_paths.specs.Links.{H, N, b, s, len, Linked, Pointing, pointin
 use Rattle.theory_paths.specs.BlockStarts.{len-small, len-end, start-below, child, last-kept, leaf-below}
 use Rattle.theory_paths.specs.PlacesLand.{kept-block, kept-not, pointing-block, target, target-first, target-second}
 use Rattle.theory_paths.specs.FitsFacts.{Fitting}
-use Rattle.theory_edges.specs.Truth.{Edged}
+use Rattle.theory_edges.specs.EdgesMatchTree.{Edged}
 use Rattle.theory_edges.specs.SpanSteps.{edges-give, over, last-step, kept-step, points-step, between-step}
 
 module _ (T t : List ℕ) (k : Readable t) (d : Linked t) (two : at.layout t ≡ 2) (f : Fitting T t) (x : ℕ) (low : 0 < x) (short : x ≤ at.settings t .leaf) where

@@ -8,5 +8,5 @@ pub mod Reach
 pub mod FitsFacts
 pub mod OneText
 pub mod Reads
-pub mod Demands
+pub mod Theorems
 pub mod PlaceBytes

@@ -11,14 +11,14 @@ use lib.Dec.{eqb}
 use Rattle.text.specs.Text.{tabulate, stretch}
 use Rattle.text.specs.ListLaws.{and-left, and-right}
 use Rattle.format.specs.Layout as at
-use Rattle.format.specs.TreeReading.{Path, pathOf, linksOk, textOf, readable}
-use Rattle.format.specs.LayoutLaws.{readable-facts}
-use Rattle.format.specs.Answers.{Said, refused, byteOf, byteSays, pathsHold}
+use Rattle.format.specs.TreeReading.{Path, pathOf, linksOk, textOf, headerResult}
+use Rattle.format.specs.LayoutLaws.{header-facts}
+use Rattle.format.specs.Answers.{Answer, refused, byteOf, byteAnswer, pathsHold}
 use Rattle.theory_paths.specs.Visits.{path-long}
 use Rattle.theory_paths.specs.FitsFacts.{stretch-tabulate}
 use Rattle.theory_paths.specs.OneText.{text-length}
 use Rattle.theory_paths.specs.Reads.{byte-of-path, text-of-path}
-use Rattle.theory_paths.specs.Demands.{byte-of-text}
+use Rattle.theory_paths.specs.Theorems.{byte-of-text}
 
 -- Where the paths of some places hold, each of them holds. They hold exactly where those of a first part and those of the rest hold.
 
@@ -26,15 +26,15 @@ and-assoc : (a b c : Bool) → (a && (b && c)) ≡ ((a && b) && c)
 and-assoc true b c = refl
 and-assoc false b c = refl
 
-pub hold-at : (t : List ℕ) (len p x : ℕ) → pathsHold t p len ≡ true → x < len → byteSays t (p + x) .number ≡ 0
+pub hold-at : (t : List ℕ) (len p x : ℕ) → pathsHold t p len ≡ true → x < len → byteAnswer t (p + x) .number ≡ 0
 unfolding pathsHold
 hold-at t zero p x h l = absurd (let z : ⊥ = omega arith in z)
 hold-at t (suc len) p zero h l =
     let e : p + 0 ≡ p = omega arith in
-    rw e (eqb-true (byteSays t p .number) 0 (and-left (eqb (byteSays t p .number) 0) (pathsHold t (p + 1) len) h))
+    rw e (eqb-true (byteAnswer t p .number) 0 (and-left (eqb (byteAnswer t p .number) 0) (pathsHold t (p + 1) len) h))
 hold-at t (suc len) p (suc x) h l =
     let e : p + suc x ≡ p + 1 + x = omega arith in
-    rw e (hold-at t len (p + 1) x (and-right (eqb (byteSays t p .number) 0) (pathsHold t (p + 1) len) h) (omega arith))
+    rw e (hold-at t len (p + 1) x (and-right (eqb (byteAnswer t p .number) 0) (pathsHold t (p + 1) len) h) (omega arith))
 
 pub holds-split : (t : List ℕ) (x p rest : ℕ) → pathsHold t p (x + rest) ≡ (pathsHold t p x && pathsHold t (p + x) rest)
 unfolding pathsHold
@@ -45,54 +45,54 @@ holds-split t zero p rest =
 holds-split t (suc x) p rest =
     let a : suc x + rest ≡ suc (x + rest) = omega arith in
     let b : p + suc x ≡ p + 1 + x = omega arith in
-    rw (a, b, pathsHold, holds-split t x (p + 1) rest) (and-assoc (eqb (byteSays t p .number) 0) (pathsHold t (p + 1) x) (pathsHold t (p + 1 + x) rest))
+    rw (a, b, pathsHold, holds-split t x (p + 1) rest) (and-assoc (eqb (byteAnswer t p .number) 0) (pathsHold t (p + 1) x) (pathsHold t (p + 1 + x) rest))
 
-module _ (t : List ℕ) (r : readable t ≡ 0) (p : ℕ) (low : p < at.textLength t) where
-  pub byte-path : byteSays t p ≡ byteOf t (pathOf t p)
-  unfolding byteSays
+module _ (t : List ℕ) (r : headerResult t ≡ 0) (p : ℕ) (low : p < at.textLength t) where
+  pub byte-path : byteAnswer t p ≡ byteOf t (pathOf t p)
+  unfolding byteAnswer
   byte-path = rw (r, lt-ltb p (at.textLength t) low)
 
   -- Byte is not refused only if there is a path.
-  pub path-there : byteSays t p .number ≡ 0 → (q : Path) × (pathOf t p ≡ some q)
-  path-there z = go (pathOf t p) refl (ap (λ (s : Said). s .number) (sym byte-path) ∙ z)
+  pub path-there : byteAnswer t p .number ≡ 0 → (q : Path) × (pathOf t p ≡ some q)
+  path-there z = go (pathOf t p) refl (ap (λ (s : Answer). s .number) (sym byte-path) ∙ z)
     where
       go : (o : Option Path) → pathOf t p ≡ o → byteOf t o .number ≡ 0 → (q : Path) × (pathOf t p ≡ some q)
       go none e y = absurd (let x : ⊥ = omega arith in x)
       go (some q) e y = (q, e)
 
   -- A byte that is answered is the text's.
-  pub byte-text : byteSays t p .number ≡ 0 → byteSays t p .value ≡ getD (textOf t) p 0
+  pub byte-text : byteAnswer t p .number ≡ 0 → byteAnswer t p .value ≡ getD (textOf t) p 0
   byte-text z =
       let w = path-there z in
-      ap (λ (s : Said). s .value) (byte-of-path t (readable-facts t r) r p low (w .0) (w .1)) ∙ sym (text-of-path t (readable-facts t r) r p low (w .0) (w .1))
+      ap (λ (s : Answer). s .value) (byte-of-path t (header-facts t r) r p low (w .0) (w .1)) ∙ sym (text-of-path t (header-facts t r) r p low (w .0) (w .1))
 
   -- If byte is refused here, the number is 14.
-  pub byte-broken : (byteSays t p .number ≡ 0 → ⊥) → byteSays t p .number ≡ 14
+  pub byte-broken : (byteAnswer t p .number ≡ 0 → ⊥) → byteAnswer t p .number ≡ 14
   byte-broken n = go (pathOf t p) refl
     where
-      said : (o : Option Path) → pathOf t p ≡ o → byteSays t p .number ≡ byteOf t o .number
-      said o e = ap (λ (s : Said). s .number) (byte-path ∙ ap (byteOf t) e)
+      said : (o : Option Path) → pathOf t p ≡ o → byteAnswer t p .number ≡ byteOf t o .number
+      said o e = ap (λ (s : Answer). s .number) (byte-path ∙ ap (byteOf t) e)
 
-      go : (o : Option Path) → pathOf t p ≡ o → byteSays t p .number ≡ 14
+      go : (o : Option Path) → pathOf t p ≡ o → byteAnswer t p .number ≡ 14
       go none e = said none e
       go (some q) e = absurd (n (said (some q) e))
 
   -- A result has entered a block, so what has entered none is a refusal.
-  pub only-14 : (q : ℕ) → refused q ≡ byteSays t p → byteSays t p .number ≡ 14
+  pub only-14 : (q : ℕ) → refused q ≡ byteAnswer t p → byteAnswer t p .number ≡ 14
   only-14 q e =
       byte-broken (λ z.
       let w = path-there z in
-      let y = ap (λ (s : Said). s .entered) (e ∙ byte-of-path t (readable-facts t r) r p low (w .0) (w .1)) in
+      let y = ap (λ (s : Answer). s .entered) (e ∙ byte-of-path t (header-facts t r) r p low (w .0) (w .1)) in
       omega (arith, path-long t p (w .0) (w .1)))
 
   -- In a tree that passes question 8 it is answered.
-  pub never-14 : linksOk t ≡ true → byteSays t p .number ≡ 14 → ⊥
-  never-14 links z = let y = ap (λ (s : Said). s .number) (byte-of-text t r links p low .2) in omega arith
+  pub never-14 : linksOk t ≡ true → byteAnswer t p .number ≡ 14 → ⊥
+  never-14 links z = let y = ap (λ (s : Answer). s .number) (byte-of-text t r links p low .2) in omega arith
 
 -- The bytes of places whose paths all hold are those of the text, in any tree that passes questions 5 to 7.
-module _ (t : List ℕ) (r : readable t ≡ 0) where
+module _ (t : List ℕ) (r : headerResult t ≡ 0) where
   pub held-bytes : (p len : ℕ) → p + len ≤ at.textLength t → pathsHold t p len ≡ true
-      → tabulate len (λ x. byteSays t (p + x) .value) ≡ stretch (textOf t) p len
+      → tabulate len (λ x. byteAnswer t (p + x) .value) ≡ stretch (textOf t) p len
   held-bytes p len within hold =
-      sym (stretch-tabulate (textOf t) p len (λ x. byteSays t (p + x) .value) (omega (arith, text-length t))
+      sym (stretch-tabulate (textOf t) p len (λ x. byteAnswer t (p + x) .value) (omega (arith, text-length t))
       (λ o ho. sym (byte-text t r (p + o) (omega arith) (hold-at t len p o hold ho))))

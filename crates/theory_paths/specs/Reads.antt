@@ -12,9 +12,9 @@ use Rattle.text.specs.Text.{tabulate, stretch}
 use Rattle.text.specs.ListLaws.{and-both}
 use Rattle.text.specs.TextLaws.{stretch-ext}
 use Rattle.format.specs.Layout as at
-use Rattle.format.specs.TreeReading.{Path, pathOf, leafOf, textOf, readable}
+use Rattle.format.specs.TreeReading.{Path, pathOf, leafOf, textOf, headerResult}
 use Rattle.format.specs.LayoutLaws.{Readable, full-pos}
-use Rattle.format.specs.Answers.{Said, byteSays, leftOver, runSays, pathsHold, asksSpan, leavesSpan, copyNumber, copyLeaves}
+use Rattle.format.specs.Answers.{Answer, byteAnswer, leftOver, runAnswer, pathsHold, spanQuestions, bufferAfter, copyRefusal, copyBuffer}
 use Rattle.theory_paths.specs.Links.{H, b}
 use Rattle.theory_paths.specs.Visits.{Goes, goes, goes-leaf}
 use Rattle.theory_paths.specs.Shift.{left-most, left-within, within-left, goes-within, path-further}
@@ -28,10 +28,10 @@ pub record Part (t : List ℕ) (p a x : ℕ) : Type 0 where
   pub in-tree : a + x ≤ length t
   pub bytes : take x (drop a t) ≡ stretch (textOf t) p x
 
-module _ (t : List ℕ) (k : Readable t) (r : readable t ≡ 0) (p : ℕ) (hp : p < at.textLength t) (q : Path) (e : pathOf t p ≡ some q) where
+module _ (t : List ℕ) (k : Readable t) (r : headerResult t ≡ 0) (p : ℕ) (hp : p < at.textLength t) (q : Path) (e : pathOf t p ≡ some q) where
   -- Byte, where the path holds: the leaf byte at its end, which is the text's byte, and the number of blocks entered.
-  pub byte-of-path : byteSays t p ≡ record { number = 0; value = at.leafByte t (q .leaf); entered = length (q .visits) }
-  unfolding byteSays
+  pub byte-of-path : byteAnswer t p ≡ record { number = 0; value = at.leafByte t (q .leaf); entered = length (q .visits) }
+  unfolding byteAnswer
   byte-of-path = rw (r, lt-ltb p (at.textLength t) hp, e)
 
   pub text-of-path : getD (textOf t) p 0 ≡ at.leafByte t (q .leaf)
@@ -41,8 +41,8 @@ module _ (t : List ℕ) (k : Readable t) (r : readable t ≡ 0) (p : ℕ) (hp : 
   abbrev size : ℕ
   size = leftOver t (q .visits) (min (at.textLength t - p) (at.leafCount t - q .leaf))
 
-  run-of-path : runSays t p ≡ (at.leafOffset t + q .leaf, size)
-  unfolding runSays
+  run-of-path : runAnswer t p ≡ (at.leafOffset t + q .leaf, size)
+  unfolding runAnswer
   run-of-path = rw (byte-of-path, e)
 
   goes-of-path : Goes t (H t - 1) 0 (p / b t 0) (p % b t 0) (q .visits) (q .leaf)
@@ -75,34 +75,34 @@ module _ (t : List ℕ) (k : Readable t) (r : readable t ≡ 0) (p : ℕ) (hp : 
             (λ d h. rw (add-assoc (at.leafOffset t) (q .leaf) d) (run-byte d h));
       }
 
-  pub run-part : Part t p (runSays t p .0) (runSays t p .1)
+  pub run-part : Part t p (runAnswer t p .0) (runAnswer t p .1)
   run-part = rw run-of-path part-of-path
 
 -- Bytes copied by their paths, where every path holds.
 
-module _ (t : List ℕ) (k : Readable t) (r : readable t ≡ 0) (holds : (p : ℕ) → p < at.textLength t → (q : Path) × (pathOf t p ≡ some q)) where
-  byte-good : (p : ℕ) → p < at.textLength t → byteSays t p .number ≡ 0
-  byte-good p hp = let w = holds p hp in ap (λ (x : Said). x .number) (byte-of-path t k r p hp (w .0) (w .1))
+module _ (t : List ℕ) (k : Readable t) (r : headerResult t ≡ 0) (holds : (p : ℕ) → p < at.textLength t → (q : Path) × (pathOf t p ≡ some q)) where
+  byte-good : (p : ℕ) → p < at.textLength t → byteAnswer t p .number ≡ 0
+  byte-good p hp = let w = holds p hp in ap (λ (x : Answer). x .number) (byte-of-path t k r p hp (w .0) (w .1))
 
-  byte-value : (p : ℕ) → p < at.textLength t → byteSays t p .value ≡ getD (textOf t) p 0
+  byte-value : (p : ℕ) → p < at.textLength t → byteAnswer t p .value ≡ getD (textOf t) p 0
   byte-value p hp =
       let w = holds p hp in
-      ap (λ (x : Said). x .value) (byte-of-path t k r p hp (w .0) (w .1)) ∙ sym (text-of-path t k r p hp (w .0) (w .1))
+      ap (λ (x : Answer). x .value) (byte-of-path t k r p hp (w .0) (w .1)) ∙ sym (text-of-path t k r p hp (w .0) (w .1))
 
   pub paths-hold : (len p : ℕ) → p + len ≤ at.textLength t → pathsHold t p len ≡ true
   unfolding pathsHold
   paths-hold zero p h = refl
-  paths-hold (suc len) p h = and-both (eq-eqb (byteSays t p .number) 0 (byte-good p (omega arith))) (paths-hold len (p + 1) (omega arith))
+  paths-hold (suc len) p h = and-both (eq-eqb (byteAnswer t p .number) 0 (byte-good p (omega arith))) (paths-hold len (p + 1) (omega arith))
 
-  pub copy-number : (p len room : ℕ) → p + len ≤ at.textLength t → len ≤ room → copyNumber t p len room ≡ 0
-  unfolding copyNumber asksSpan
+  pub copy-number : (p len room : ℕ) → p + len ≤ at.textLength t → len ≤ room → copyRefusal t p len room ≡ 0
+  unfolding copyRefusal spanQuestions
   copy-number p len room h fits = rw (r, le-leb _ _ h, le-leb _ _ fits, paths-hold len p h)
 
-  pub bytes-of-text : (p len : ℕ) → p + len ≤ at.textLength t → tabulate len (λ x. byteSays t (p + x) .value) ≡ stretch (textOf t) p len
+  pub bytes-of-text : (p len : ℕ) → p + len ≤ at.textLength t → tabulate len (λ x. byteAnswer t (p + x) .value) ≡ stretch (textOf t) p len
   bytes-of-text p len h =
-      sym (stretch-tabulate (textOf t) p len (λ x. byteSays t (p + x) .value) (omega (arith, text-length t)) (λ o ho. sym (byte-value (p + o) (omega arith))))
+      sym (stretch-tabulate (textOf t) p len (λ x. byteAnswer t (p + x) .value) (omega (arith, text-length t)) (λ o ho. sym (byte-value (p + o) (omega arith))))
 
   pub copy-leaves : (p len : ℕ) (buffer : List ℕ) → p + len ≤ at.textLength t → len ≤ length buffer
-      → copyLeaves t p len buffer ≡ stretch (textOf t) p len ++ drop len buffer
-  unfolding copyLeaves leavesSpan
+      → copyBuffer t p len buffer ≡ stretch (textOf t) p len ++ drop len buffer
+  unfolding copyBuffer bufferAfter
   copy-leaves p len buffer h fits = rw (copy-number p len (length buffer) h fits, bytes-of-text p len h)

@@ -12,16 +12,16 @@ use Rattle.text.specs.ListLaws.{sumBelow-ext}
 use Rattle.format.specs.WordLaws.{wordAt-lt}
 use Rattle.format.specs.Layout.{fieldBytes, leafOffsetAt, headerLength, Settings}
 use Rattle.format.specs.Blocks.{treeOf, startsAt, leafBytes}
-use Rattle.format.specs.LayoutLaws.{Readable, readable-facts, size-edged}
+use Rattle.format.specs.LayoutLaws.{Readable, header-facts, size-edged}
 use Rattle.format.specs.Layout as at
-use Rattle.format.specs.TreeReading.{pathOf, linksOk, textOf, countsTrue, ask, readable, verdict}
+use Rattle.format.specs.TreeReading.{pathOf, linksOk, textOf, countsTrue, ask, headerResult, checkResult}
 use Rattle.format.specs.FittingText.{fits}
-use Rattle.format.specs.Answers.{byteSays}
-use Rattle.format.specs.VerdictLaws as verdicts
-use Rattle.theory_accepted.specs.AcceptedTrees.{StandsFor, accepted-stands, one-text}
+use Rattle.format.specs.Answers.{byteAnswer}
+use Rattle.format.specs.CheckResultLaws as verdicts
+use Rattle.theory_accepted.specs.AcceptedTrees.{Represents, accepted-stands, one-text}
 use Rattle.theory_built.specs.BlockSizes.{Taken}
 use Rattle.theory_built.specs.ReadBack as back
-use Rattle.theory_built.specs.Readable.{built-readable}
+use Rattle.theory_built.specs.BuiltHeader.{built-header}
 use Rattle.theory_without_edges.specs.WithoutEdges.{edgelessLayout, withoutEdges, AllBytes}
 use Rattle.theory_without_edges.specs.TreeInLayout.{treeIn}
 use Rattle.theory_without_edges.specs.Layout1Built as built
@@ -39,13 +39,13 @@ leaf-small t byte = wordAt-lt t leafOffsetAt byte
 
 module _ (t : List ℕ) (byte : AllBytes t) where
   -- Any bytes that pass questions 5 to 7.
-  module _ (r : readable t ≡ 0) where
+  module _ (r : headerResult t ≡ 0) where
     k : Readable t
-    k = readable-facts t r
+    k = header-facts t r
 
     -- The result passes them too, and its layout is 1.
-    pub layout1-readable : readable (withoutEdges t) ≡ 0
-    layout1-readable = reads.layout1-readable t k (leaf-small t byte)
+    pub layout1-header : headerResult (withoutEdges t) ≡ 0
+    layout1-header = reads.layout1-header t k (leaf-small t byte)
 
     pub layout1-layout : at.layout (withoutEdges t) ≡ 1
     layout1-layout = reads.read-layout t k (leaf-small t byte)
@@ -62,47 +62,47 @@ module _ (t : List ℕ) (byte : AllBytes t) where
     pub layout1-path : (p : ℕ) → pathOf (withoutEdges t) p ≡ pathOf t p
     layout1-path = paths.path-same t (withoutEdges t) k layout1-agrees
 
-    pub layout1-byte : (p : ℕ) → byteSays (withoutEdges t) p ≡ byteSays t p
-    layout1-byte = paths.bytes-same t (withoutEdges t) k layout1-agrees r layout1-readable
+    pub layout1-byte : (p : ℕ) → byteAnswer (withoutEdges t) p ≡ byteAnswer t p
+    layout1-byte = paths.bytes-same t (withoutEdges t) k layout1-agrees r layout1-header
 
     pub layout1-text : textOf (withoutEdges t) ≡ textOf t
     layout1-text = paths.paths-text t (withoutEdges t) k layout1-agrees
 
     -- The check returns what it returns for the tree if edges are ignored: 8 for wrong links, 9 for a wrong count, else 0.
-    pub layout1-verdict : verdict (withoutEdges t) ≡ ask 8 (linksOk t) (ask 9 (countsTrue (textOf t) t) 0)
-    layout1-verdict = exact.verdict-same t (withoutEdges t) r layout1-readable layout1-layout layout1-agrees
+    pub layout1-checked : checkResult (withoutEdges t) ≡ ask 8 (linksOk t) (ask 9 (countsTrue (textOf t) t) 0)
+    layout1-checked = exact.checked-same t (withoutEdges t) r layout1-header layout1-layout layout1-agrees
 
   -- Any tree that the check accepts.
-  module _ (v : verdict t ≡ 0) where
-    r : readable t ≡ 0
-    r = verdicts.accepted-readable t v
+  module _ (v : checkResult t ≡ 0) where
+    r : headerResult t ≡ 0
+    r = verdicts.accepted-header t v
 
     -- The check accepts the result.
-    pub layout1-accepted : verdict (withoutEdges t) ≡ 0
-    layout1-accepted = agree.agree-accepted t (withoutEdges t) v (layout1-readable r) (layout1-layout r) (layout1-agrees r)
+    pub layout1-accepted : checkResult (withoutEdges t) ≡ 0
+    layout1-accepted = agree.agree-accepted t (withoutEdges t) v (layout1-header r) (layout1-layout r) (layout1-agrees r)
 
     -- The result represents the tree's text, and no other.
-    pub layout1-represents : StandsFor (withoutEdges t) (textOf t)
+    pub layout1-represents : Represents (withoutEdges t) (textOf t)
     layout1-represents = rw (layout1-text r) at (accepted-stands (withoutEdges t) layout1-accepted)
 
     pub layout1-only : (T : List ℕ) → fits T (withoutEdges t) ≡ true → T ≡ textOf t
-    layout1-only T f = one-text (withoutEdges t) (layout1-readable r) (verdicts.accepted-links (withoutEdges t) layout1-accepted) T f ∙ layout1-text r
+    layout1-only T f = one-text (withoutEdges t) (layout1-header r) (verdicts.accepted-links (withoutEdges t) layout1-accepted) T f ∙ layout1-text r
 
 -- The size: header, words of every record, leaf bytes. A tree of layout 2 is larger by two edges of the leaf length for each block.
-module _ (t : List ℕ) (r : readable t ≡ 0) where
+module _ (t : List ℕ) (r : headerResult t ≡ 0) where
   abbrev blocks : ℕ
   blocks = sumBelow (at.settings t .levels) (at.levelCount t)
 
   pub layout1-length : length (withoutEdges t)
       ≡ headerLength + blocks * fieldBytes (at.countedCount t) + at.leafCount t
-  layout1-length = sizes.layout1-length t (readable-facts t r) ∙ rw (sizes.offset-is t (at.settings t .levels), ← sizes.size-is t)
+  layout1-length = sizes.layout1-length t (header-facts t r) ∙ rw (sizes.offset-is t (at.settings t .levels), ← sizes.size-is t)
 
   pub layout1-shorter : length (withoutEdges t) ≤ length t
-  layout1-shorter = sizes.layout1-shorter t (readable-facts t r)
+  layout1-shorter = sizes.layout1-shorter t (header-facts t r)
 
   pub layout1-saves : at.layout t ≡ 2 → length t ≡ length (withoutEdges t) + blocks * (at.settings t .leaf + at.settings t .leaf)
   layout1-saves two =
-      let k = readable-facts t r in
+      let k = header-facts t r in
       let m = at.settings t .leaf in
       let F = fieldBytes (at.countedCount t) in
       rw (k .size, k .leaf-at, size-edged t k two, layout1-length) (omega (arith, mul-add blocks F (m + m)))
@@ -115,7 +115,7 @@ module _ (S : Settings) (T : List ℕ) (h : Taken S T) where
   pub built-layout1-length : length (treeIn edgelessLayout S T)
       ≡ headerLength + sumBelow (S .levels) (λ l. length (startsAt S T l)) * fieldBytes (length (S .counted)) + length (leafBytes S T)
   built-layout1-length =
-      ap length (sym built-layout1) ∙ layout1-length (treeOf S T) (built-readable S T h)
+      ap length (sym built-layout1) ∙ layout1-length (treeOf S T) (built-header S T h)
       ∙ rw (levels, counts, back.read-countedCount S T h, back.read-leafCount S T h)
     where
       levels : at.settings (treeOf S T) .levels ≡ S .levels

@@ -14,18 +14,18 @@ use Rattle.format.specs.Layout.{wordBytes, wordsBytes, Settings, maxLevels, max
 use Rattle.format.specs.WordLaws.{length-words}
 use Rattle.format.specs.SizeLaws.{record-plain}
 use Rattle.format.specs.Blocks.{treeOf, leafBytes, recordBytes}
-use Rattle.format.specs.LayoutLaws.{Readable, readable-facts}
+use Rattle.format.specs.LayoutLaws.{Readable, header-facts}
 use Rattle.format.specs.Layout as at
-use Rattle.theory_built.specs.BlockSizes.{Taken, Bounds, bounds}
+use Rattle.theory_built.specs.BlockSizes.{Taken, BuiltBounds, bounds}
 use Rattle.theory_built.specs.Structure.{count}
 use Rattle.theory_built.specs.Pairs as pairs
 use Rattle.theory_built.specs.Gather.{concat-suc, in-part}
 use Rattle.theory_built.specs.BuiltRecords.{recordAt, bytesAt, edgesIn, bytes-are, records, recordWords, length-record}
 use Rattle.theory_built.specs.BuiltRecords.{record-bytes, record-byte, length-records}
 use Rattle.theory_built.specs.Shape.{sixWords, countedPlaces, length-places, record-byte-at, leaf-place, tree-length}
-use Rattle.theory_built.specs.BuiltBytes.{Stands, six-stands, counted-stands, level-stands}
+use Rattle.theory_built.specs.BuiltBytes.{BytesAt, six-stands, counted-stands, level-stands}
 use Rattle.theory_built.specs.ReadBack as back
-use Rattle.theory_built.specs.Readable.{built-readable}
+use Rattle.theory_built.specs.BuiltHeader.{built-header}
 use Rattle.theory_without_edges.specs.WithoutEdges.{edgelessLayout, layout1RecordSize, layout1Offset, layout1Header, recordCount}
 use Rattle.theory_without_edges.specs.WithoutEdges.{layout1Record, layout1Records, layout1LeafBytes, withoutEdges}
 use Rattle.theory_without_edges.specs.Layout1Sizes as sizes
@@ -59,36 +59,36 @@ concat-parts (suc n) N f =
     ∙ sym (concat-suc n (λ l. concat (tabulate (N l) (λ i. f (sumBelow l N + i)))))
 
 -- A byte of consecutive words.
-first-byte : (w : ℕ) (rest : List ℕ) (r : ℕ) → r < 4 → getD (wordBytes w ++ rest) r 0 ≡ getD (wordBytes w) r 0
+layout1-first-byte : (w : ℕ) (rest : List ℕ) (r : ℕ) → r < 4 → getD (wordBytes w ++ rest) r 0 ≡ getD (wordBytes w) r 0
 unfolding wordBytes
-first-byte w rest r l = List·getD-append (wordBytes w) rest 0 r l
+layout1-first-byte w rest r l = List·getD-append (wordBytes w) rest 0 r l
 
-next-byte : (w : ℕ) (rest : List ℕ) (x : ℕ) → getD (wordBytes w ++ rest) (4 + x) 0 ≡ getD rest x 0
+layout1-next-byte : (w : ℕ) (rest : List ℕ) (x : ℕ) → getD (wordBytes w ++ rest) (4 + x) 0 ≡ getD rest x 0
 unfolding wordBytes
-next-byte w rest x = getD-append-add (wordBytes w) rest x 0
+layout1-next-byte w rest x = getD-append-add (wordBytes w) rest x 0
 
-words-cons : (w : ℕ) (ws : List ℕ) → wordsBytes (w ∷ ws) ≡ wordBytes w ++ wordsBytes ws
+layout1-words-cons : (w : ℕ) (ws : List ℕ) → wordsBytes (w ∷ ws) ≡ wordBytes w ++ wordsBytes ws
 unfolding wordsBytes concat
-words-cons w ws = refl
+layout1-words-cons w ws = refl
 
 words-byte : (ws : List ℕ) (j r : ℕ) → j < length ws → r < 4 → getD (wordsBytes ws) (4 * j + r) 0 ≡ getD (wordBytes (getD ws j 0)) r 0
 words-byte [] j r l k = absurd (let z : ⊥ = omega arith in z)
 words-byte (w ∷ ws) zero r l k =
     let e : 4 * 0 + r ≡ r = omega arith in
-    rw (words-cons w ws, e) (first-byte w (wordsBytes ws) r k)
+    rw (layout1-words-cons w ws, e) (layout1-first-byte w (wordsBytes ws) r k)
 words-byte (w ∷ ws) (suc j) r l k =
     let e : 4 * suc j + r ≡ 4 + (4 * j + r) = omega arith in
-    rw (words-cons w ws, e) (next-byte w (wordsBytes ws) (4 * j + r) ∙ words-byte ws j r (omega arith) k)
+    rw (layout1-words-cons w ws, e) (layout1-next-byte w (wordsBytes ws) (4 * j + r) ∙ words-byte ws j r (omega arith) k)
 
 module _ (S : Settings) (T : List ℕ) (h : Taken S T) where
   abbrev t : List ℕ
   t = treeOf S T
 
-  limits : Bounds S T
+  limits : BuiltBounds S T
   limits = bounds S T h
 
   k : Readable t
-  k = readable-facts t (built-readable S T h)
+  k = header-facts t (built-header S T h)
 
   levels-are : at.settings t .levels ≡ S .levels
   levels-are = ap (λ (s : Settings). s .levels) (back.read-settings S T h)
@@ -180,13 +180,13 @@ module _ (S : Settings) (T : List ℕ) (h : Taken S T) where
 
   -- A word that is the same in both layouts.
   kept-word : (j : ℕ) → j < 2 * maxLevels + 2 → ((r : ℕ) → r < 4 → bytes.Kept t k (pairsAt + 4 * j + r)) → getD old j 0 ≡ getD new j 0
-      → Stands (withoutEdges t) (pairsAt + 4 * j) (getD new j 0)
+      → BytesAt (withoutEdges t) (pairsAt + 4 * j) (getD new j 0)
   kept-word j jl stays same r m = bytes.kept-byte t k (pairsAt + 4 * j + r) (stays r m) ∙ level-stands S T h j jl r m ∙ rw same
 
   few : S .levels ≤ maxLevels
   few = limits .levels-high
 
-  count-word : (l : ℕ) → l < maxLevels → Stands (withoutEdges t) (pairsAt + 4 * (2 * l)) (getD new (2 * l) 0)
+  count-word : (l : ℕ) → l < maxLevels → BytesAt (withoutEdges t) (pairsAt + 4 * (2 * l)) (getD new (2 * l) 0)
   count-word l hl = kept-word (2 * l) (omega arith) stays (go (lt-or-ge l (S .levels)))
     where
       stays : (r : ℕ) → r < 4 → bytes.Kept t k (pairsAt + 4 * (2 * l) + r)
@@ -203,7 +203,7 @@ module _ (S : Settings) (T : List ℕ) (h : Taken S T) where
           pairs.word-none S T few (2 * l) (omega arith) (omega arith)
           ∙ sym (words.word-none edgelessLayout S T few (2 * l) (omega arith) (omega arith))
 
-  offset-word : (l : ℕ) → l < maxLevels → Stands (withoutEdges t) (pairsAt + 4 * suc (2 * l)) (getD new (suc (2 * l)) 0)
+  offset-word : (l : ℕ) → l < maxLevels → BytesAt (withoutEdges t) (pairsAt + 4 * suc (2 * l)) (getD new (suc (2 * l)) 0)
   offset-word l hl = go (lt-or-ge l (S .levels))
     where
       place : offsetAt l ≡ pairsAt + 4 * suc (2 * l)
@@ -217,7 +217,7 @@ module _ (S : Settings) (T : List ℕ) (h : Taken S T) where
         not-offset = λ x z a b. omega (arith, levels-are);
       }
 
-      go : (l < S .levels) ⊎ (S .levels ≤ l) → Stands (withoutEdges t) (pairsAt + 4 * suc (2 * l)) (getD new (suc (2 * l)) 0)
+      go : (l < S .levels) ⊎ (S .levels ≤ l) → BytesAt (withoutEdges t) (pairsAt + 4 * suc (2 * l)) (getD new (suc (2 * l)) 0)
       go (inl y) =
           rw (words.word-offset edgelessLayout S T few l y, ← place, ← offset-layout1 l (omega arith)) (bytes.offset-stands t k l (rw levels-are y))
       go (inr y) =
@@ -225,12 +225,12 @@ module _ (S : Settings) (T : List ℕ) (h : Taken S T) where
           (pairs.word-none S T few (suc (2 * l)) (omega arith) (omega arith)
           ∙ sym (words.word-none edgelessLayout S T few (suc (2 * l)) (omega arith) (omega arith)))
 
-  leaf-offset-word : Stands (withoutEdges t) (pairsAt + 4 * (2 * maxLevels)) (getD new (2 * maxLevels) 0)
+  leaf-offset-word : BytesAt (withoutEdges t) (pairsAt + 4 * (2 * maxLevels)) (getD new (2 * maxLevels) 0)
   leaf-offset-word =
       rw (words.word-leaf-offset edgelessLayout S T few, ← offset-layout1 (S .levels) (omega arith))
       (rw levels-are at (bytes.leaf-offset-stands t k))
 
-  leaf-count-word : Stands (withoutEdges t) (pairsAt + 4 * (2 * maxLevels + 1)) (getD new (2 * maxLevels + 1) 0)
+  leaf-count-word : BytesAt (withoutEdges t) (pairsAt + 4 * (2 * maxLevels + 1)) (getD new (2 * maxLevels + 1) 0)
   leaf-count-word =
       kept-word (2 * maxLevels + 1) (omega arith) stays (pairs.word-leaf-count S T few ∙ sym (words.word-leaf-count edgelessLayout S T few))
     where
@@ -243,11 +243,11 @@ module _ (S : Settings) (T : List ℕ) (h : Taken S T) where
       }
 
   -- Each word of the header.
-  level-word : (j : ℕ) → j < 2 * maxLevels + 2 → Stands (withoutEdges t) (pairsAt + 4 * j) (getD new j 0)
+  level-word : (j : ℕ) → j < 2 * maxLevels + 2 → BytesAt (withoutEdges t) (pairsAt + 4 * j) (getD new j 0)
   level-word j jl = go (lt-or-ge j (2 * maxLevels)) (lt-or-ge (j % 2) 1) (lt-or-ge j (2 * maxLevels + 1))
     where
       Here : ℕ → Type 0
-      Here x = Stands (withoutEdges t) (pairsAt + 4 * x) (getD new x 0)
+      Here x = BytesAt (withoutEdges t) (pairsAt + 4 * x) (getD new x 0)
 
       go : (j < 2 * maxLevels) ⊎ (2 * maxLevels ≤ j) → (j % 2 < 1) ⊎ (1 ≤ j % 2) → (j < 2 * maxLevels + 1) ⊎ (2 * maxLevels + 1 ≤ j) → Here j
       go (inl y) (inl even) z = let e : j ≡ 2 * (j / 2) = omega arith in subst Here (sym e) (count-word (j / 2) (omega arith))
@@ -262,7 +262,7 @@ module _ (S : Settings) (T : List ℕ) (h : Taken S T) where
   abbrev five : List ℕ
   five = length T ∷ S .leaf ∷ S .arity ∷ S .levels ∷ length (S .counted) ∷ []
 
-  six-word : (j : ℕ) → j < 6 → Stands (withoutEdges t) (4 * j) (getD six j 0)
+  six-word : (j : ℕ) → j < 6 → BytesAt (withoutEdges t) (4 * j) (getD six j 0)
   unfolding sixWords
   six-word zero jl = bytes.layout-stands t k
   six-word (suc j) jl = λ r m. bytes.kept-byte t k (4 * suc j + r) record {

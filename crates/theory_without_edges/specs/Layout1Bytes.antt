@@ -15,7 +15,7 @@ use Rattle.format.specs.WordLaws.{length-setWord, getD-setWord-other, setWord-e
 use Rattle.format.specs.LayoutLaws.{Readable}
 use Rattle.format.specs.Layout as at
 use Rattle.theory_built.specs.Gather.{getD-concat}
-use Rattle.theory_built.specs.BuiltBytes.{Stands}
+use Rattle.theory_built.specs.BuiltBytes.{BytesAt}
 use Rattle.theory_without_edges.specs.WithoutEdges.{edgelessLayout, layout1RecordSize, layout1Offset, offsetsIn, layout1Header}
 use Rattle.theory_without_edges.specs.WithoutEdges.{recordCount, layout1Record, layout1Records, layout1LeafBytes, withoutEdges}
 use Rattle.theory_without_edges.specs.Layout1Sizes as sizes
@@ -25,7 +25,7 @@ unfolding wordBytes
 length-wordBytes v = refl
 
 -- A written word is read back.
-pub written-represents : (t : List ℕ) (i v : ℕ) → i + 4 ≤ length t → Stands (setWord t i v) i v
+pub written-represents : (t : List ℕ) (i v : ℕ) → i + 4 ≤ length t → BytesAt (setWord t i v) i v
 written-represents t i v fits r l =
     let head : length (take i t) ≡ i = length-take-le i t (omega arith) in
     let e : i + r ≡ length (take i t) + r = omega arith in
@@ -57,13 +57,13 @@ module _ (t : List ℕ) where
       ∙ offsets-other n h x (λ l below a b. out l (omega arith) a b)
 
   offsets-stand : (n : ℕ) (h : List ℕ) → n ≤ maxLevels → length h ≡ headerLength → (l : ℕ) → l < n
-      → Stands (offsetsIn t n h) (offsetAt l) (layout1Offset t l)
+      → BytesAt (offsetsIn t n h) (offsetAt l) (layout1Offset t l)
   unfolding offsetsIn
   offsets-stand zero h few long l below = absurd (let z : ⊥ = omega arith in z)
   offsets-stand (suc n) h few long l below = go (below-suc l n below) (offsets-stand n h (omega arith) long l)
     where
-      go : (l < n) ⊎ (l ≡ n) → (l < n → Stands (offsetsIn t n h) (offsetAt l) (layout1Offset t l))
-          → Stands (setWord (offsetsIn t n h) (offsetAt n) (layout1Offset t n)) (offsetAt l) (layout1Offset t l)
+      go : (l < n) ⊎ (l ≡ n) → (l < n → BytesAt (offsetsIn t n h) (offsetAt l) (layout1Offset t l))
+          → BytesAt (setWord (offsetsIn t n h) (offsetAt n) (layout1Offset t n)) (offsetAt l) (layout1Offset t l)
       go (inl y) before =
           λ r m. getD-setWord-other (offsetsIn t n h) (offsetAt n) (layout1Offset t n) (offsetAt l + r) (λ a b. omega arith) ∙ before y r m
       go (inr y) before = rw y (written-represents (offsetsIn t n h) (offsetAt n) (layout1Offset t n) (omega (arith, sizes.length-offsets t n h)))
@@ -111,33 +111,33 @@ module _ (t : List ℕ) where
         ∙ getD-setWord-other start layoutAt edgelessLayout x (λ a b. omega (arith, h .not-layout))
         ∙ getD-take headerLength t x 0 (h .inside)
 
-    in-front : (i v : ℕ) → i + 4 ≤ headerLength → Stands (layout1Header t) i v → Stands (withoutEdges t) i v
+    in-front : (i v : ℕ) → i + 4 ≤ headerLength → BytesAt (layout1Header t) i v → BytesAt (withoutEdges t) i v
     in-front i v fits s r l = front (i + r) (omega arith) ∙ s r l
 
-    pub layout-stands : Stands (withoutEdges t) layoutAt edgelessLayout
+    pub layout-stands : BytesAt (withoutEdges t) layoutAt edgelessLayout
     unfolding layout1Header
     layout-stands = in-front layoutAt edgelessLayout (omega arith) here
       where
-        here : Stands (layout1Header t) layoutAt edgelessLayout
+        here : BytesAt (layout1Header t) layoutAt edgelessLayout
         here r l =
             getD-setWord-other (offsetsIn t H marked) leafOffsetAt (layout1Offset t H) (layoutAt + r) (λ a b. omega arith)
             ∙ offsets-other H marked (layoutAt + r) (λ x h a b. omega arith)
             ∙ written-represents start layoutAt edgelessLayout (omega (arith, long)) r l
 
-    pub offset-stands : (l : ℕ) → l < H → Stands (withoutEdges t) (offsetAt l) (layout1Offset t l)
+    pub offset-stands : (l : ℕ) → l < H → BytesAt (withoutEdges t) (offsetAt l) (layout1Offset t l)
     unfolding layout1Header
     offset-stands l h = in-front (offsetAt l) (layout1Offset t l) (omega (arith, k .bounds .levels-high)) here
       where
-        here : Stands (layout1Header t) (offsetAt l) (layout1Offset t l)
+        here : BytesAt (layout1Header t) (offsetAt l) (layout1Offset t l)
         here r m =
             getD-setWord-other (offsetsIn t H marked) leafOffsetAt (layout1Offset t H) (offsetAt l + r) (λ a b. omega (arith, k .bounds .levels-high))
             ∙ offsets-stand H marked (k .bounds .levels-high) long-marked l h r m
 
-    pub leaf-offset-stands : Stands (withoutEdges t) leafOffsetAt (layout1Offset t H)
+    pub leaf-offset-stands : BytesAt (withoutEdges t) leafOffsetAt (layout1Offset t H)
     unfolding layout1Header
     leaf-offset-stands = in-front leafOffsetAt (layout1Offset t H) (omega arith) here
       where
-        here : Stands (layout1Header t) leafOffsetAt (layout1Offset t H)
+        here : BytesAt (layout1Header t) leafOffsetAt (layout1Offset t H)
         here = written-represents (offsetsIn t H marked) leafOffsetAt (layout1Offset t H) (omega (arith, long-offsets))
 
     -- The records: byte x of the words of the j-th.

@@ -12,51 +12,54 @@ use Rattle.theory_without_edges.specs.WithoutEdges.{layout1RecordSize, l
 use Rattle.theory_without_edges.specs.WithoutEdges.{layout1Record, layout1Records, layout1LeafBytes, withoutEdges}
 use Rattle.theory_without_edges.specs.TreeInLayout.{treeIn, headerIn, pairsIn, levelIn, bytesOf, sizeIn}
 
-book : List ℕ
-book = 81 ∷ 65 ∷ 66 ∷ 67 ∷ 68 ∷ 65 ∷ 66 ∷ 67 ∷ 68 ∷ 69 ∷ 70 ∷ 71 ∷ 65 ∷ 66 ∷ 67 ∷ 68 ∷ 65 ∷ 66 ∷ 67 ∷ 68 ∷ []
+layout1-book : List ℕ
+layout1-book = 81 ∷ 65 ∷ 66 ∷ 67 ∷ 68 ∷ 65 ∷ 66 ∷ 67 ∷ 68 ∷ 69 ∷ 70 ∷ 71 ∷ 65 ∷ 66 ∷ 67 ∷ 68 ∷ 65 ∷ 66 ∷ 67 ∷ 68 ∷ []
 
-twelve : List ℕ
-twelve = replicate 12 65
+layout1-twelve : List ℕ
+layout1-twelve = replicate 12 65
 
-two : Settings
-two = record { leaf = 2; arity = 2; levels = 2; counted = 65 ∷ [] }
+layout1-two : Settings
+layout1-two = record { leaf = 2; arity = 2; levels = 2; counted = 65 ∷ [] }
 
 uncounted : Settings
 uncounted = record { leaf = 2; arity = 2; levels = 2; counted = [] }
 
 -- The words of the records of level l.
-words : Settings → List ℕ → ℕ → List ℕ
-words S T l = concat (tabulate (length (startsAt S T l)) (recordOf S T l (startsAt S T l)))
+layout1-words : Settings → List ℕ → ℕ → List ℕ
+layout1-words S T l = concat (tabulate (length (startsAt S T l)) (recordOf S T l (startsAt S T l)))
 
 -- The trees in layout 1, by hand: the header's words, the records without edges, the leaf bytes.
-older : List ℕ
-older =
+layout1-older : List ℕ
+layout1-older =
     wordsBytes (1 ∷ 20 ∷ 2 ∷ 2 ∷ 2 ∷ 1 ∷ 65 ∷ 5 ∷ 100 ∷ 8 ∷ 240 ∷ []) ++ replicate
-    48 0 ++ wordsBytes (464 ∷ 16 ∷ words two book 0 ++ words two book 1) ++ take 16 book
+    48 0 ++ wordsBytes (464 ∷ 16 ∷ layout1-words layout1-two layout1-book 0 ++ layout1-words layout1-two layout1-book 1) ++ take 16 layout1-book
 
-older-twelve : List ℕ
-older-twelve =
+layout1-older-twelve : List ℕ
+layout1-older-twelve =
     wordsBytes (1 ∷ 12 ∷ 2 ∷ 2 ∷ 2 ∷ 0 ∷ 0 ∷ 3 ∷ 100 ∷ 4 ∷ 148 ∷ []) ++ replicate
-    48 0 ++ wordsBytes (212 ∷ 8 ∷ words uncounted twelve 0 ++ words uncounted twelve 1) ++ replicate 8 65
+    48 0 ++ wordsBytes (212 ∷ 8 ∷ layout1-words uncounted layout1-twelve 0 ++ layout1-words uncounted layout1-twelve 1) ++ replicate 8 65
 
-pub record Marked : Type 0 where
+pub record Layout1Marked : Type 0 where
   -- 532 and 248 bytes with edges, 480 and 220 without
-  book-layout1 : (withoutEdges (treeOf two book) ≡ older) × (length (treeOf two book) ≡ 532) × (length older ≡ 480)
-  twelve-layout1 : (withoutEdges (treeOf uncounted twelve) ≡ older-twelve) × (length (treeOf uncounted twelve) ≡ 248) × (length older-twelve ≡ 220)
-  book-in-layout : treeIn 1 two book ≡ older
-  stays : (withoutEdges older ≡ older) × (withoutEdges older-twelve ≡ older-twelve)
+  book-layout1 : (withoutEdges (treeOf layout1-two layout1-book) ≡ layout1-older) × (length (treeOf layout1-two layout1-book) ≡ 532)
+      × (length layout1-older ≡ 480)
+  twelve-layout1 : (withoutEdges (treeOf uncounted layout1-twelve) ≡ layout1-older-twelve) × (length (treeOf uncounted layout1-twelve) ≡ 248)
+      × (length layout1-older-twelve ≡ 220)
+  book-in-layout : treeIn 1 layout1-two layout1-book ≡ layout1-older
+  stays : (withoutEdges layout1-older ≡ layout1-older) × (withoutEdges layout1-older-twelve ≡ layout1-older-twelve)
   -- The tree of the empty text is its header.
-  empty : length (withoutEdges (treeOf two [])) ≡ 100
+  empty : length (withoutEdges (treeOf layout1-two [])) ≡ 100
 
-pub marked : Marked
-unfolding book twelve two uncounted words older older-twelve withoutEdges layout1RecordSize layout1Offset offsetsIn layout1Header recordCount
+pub layout1-marked : Layout1Marked
+unfolding layout1-book layout1-twelve layout1-two uncounted layout1-words layout1-older layout1-older-twelve withoutEdges layout1RecordSize layout1Offset
+    offsetsIn layout1Header recordCount
     layout1Record layout1Records layout1LeafBytes treeIn headerIn pairsIn levelIn bytesOf sizeIn tabulate concat sumBelow countBelow sameList setWord
     wordAt wordsBytes wordBytes stretch leftmost firstFrom countIn blockLength pieces recordLength treeOf header leafBytes levelPairs recordBytes
     edgesOf filledOut levelBytes recordIn recordOf target occurrence width isKept startsAt cut keptByPairs firstPairAt pairAt lengthOf startOf
     at.levelCount at.levelOffset at.layout at.textLength at.countedCount at.settings at.leafOffset at.leafCount at.recordSize at.field at.start
     at.kind at.link at.gap at.before at.inside at.skip at.edgesAt at.leafByte at.fullLength at.blockLengthAt at.isKept at.isPointing at.hasEdges
-    at.longEnough at.layoutOk at.headerOk
-marked = record {
+    at.holdsHeader at.layoutOk at.headerOk
+layout1-marked = record {
   book-layout1 = (refl, refl, refl);
   twelve-layout1 = (refl, refl, refl);
   book-in-layout = refl;

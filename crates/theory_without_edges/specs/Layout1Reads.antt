@@ -18,7 +18,7 @@ use Rattle.format.specs.SizeLaws.{record-plain}
 use Rattle.format.specs.Layout.{layoutAt, textLengthAt, leafAt, arityAt, levelsAt, countedCountAt, countedAt, pairsAt, countAt, offsetAt, leafOffsetAt}
 use Rattle.format.specs.Layout.{leafCountAt, headerLength}
 use Rattle.format.specs.Layout as at
-use Rattle.format.specs.TreeReading.{readable}
+use Rattle.format.specs.TreeReading.{headerResult}
 use Rattle.theory_built.specs.BuiltBytes.{stands-word}
 use Rattle.theory_without_edges.specs.WithoutEdges.{edgelessLayout, layout1RecordSize, layout1Offset, withoutEdges}
 use Rattle.theory_without_edges.specs.Layout1Sizes as sizes
@@ -225,14 +225,14 @@ module _ (t : List ℕ) (k : Readable t) (small : at.leafOffset t < 4294967296) 
       and-both (and-both (and-both (and-both (and-both (and-both (and-both (and-both length-ok settings-ok) (and-both few-counted counted-ok))
       places-zero) pairs-zero) top-count) offsets-meet) leaves-meet) size-meets
 
-  long-enough : at.longEnough u ≡ true
-  unfolding at.longEnough
+  long-enough : at.holdsHeader u ≡ true
+  unfolding at.holdsHeader
   long-enough = le-leb headerLength (length u) long
 
   layout-ok : at.layoutOk u ≡ true
   unfolding at.layoutOk
   layout-ok = rw read-layout
 
-  pub layout1-readable : readable u ≡ 0
-  unfolding readable
-  layout1-readable = rw (long-enough, layout-ok, header-ok)
+  pub layout1-header : headerResult u ≡ 0
+  unfolding headerResult
+  layout1-header = rw (long-enough, layout-ok, header-ok)

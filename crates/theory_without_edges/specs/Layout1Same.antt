@@ -12,7 +12,7 @@ use Rattle.format.specs.Layout.{wordAt, wordBytes, layoutAt, pairsAt, offsetAt,
 use Rattle.format.specs.SizeLaws.{record-plain}
 use Rattle.format.specs.LayoutLaws.{Readable}
 use Rattle.format.specs.Layout as at
-use Rattle.theory_built.specs.BuiltBytes.{Stands}
+use Rattle.theory_built.specs.BuiltBytes.{BytesAt}
 use Rattle.theory_without_edges.specs.WithoutEdges.{AllBytes, layout1RecordSize, layout1Offset, recordCount, withoutEdges}
 use Rattle.theory_without_edges.specs.Layout1Sizes as sizes
 use Rattle.theory_without_edges.specs.Layout1Bytes as bytes
@@ -26,7 +26,7 @@ digits-of a b c d w ha hb hc hd is =
     let fourth : w / 16777216 ≡ d = omega arith in
     (omega arith, rw second (omega arith), rw third (omega arith), rw fourth (omega arith))
 
-pub word-stands : (t : List ℕ) → AllBytes t → (i w : ℕ) → wordAt t i ≡ w → Stands t i w
+pub word-stands : (t : List ℕ) → AllBytes t → (i w : ℕ) → wordAt t i ≡ w → BytesAt t i w
 unfolding wordAt wordBytes
 word-stands t byte i w is zero l =
     let e : i + 0 ≡ i = omega arith in
@@ -57,7 +57,7 @@ module _ (t : List ℕ) (byte : AllBytes t) (k : Readable t) (edgeless : at.layo
   leaf-same = rw (sizes.leaf-at t k, size-same) (sizes.offset-end t)
 
   -- A word overwritten by itself.
-  anew : (i v : ℕ) → Stands u i v → wordAt t i ≡ v → (x : ℕ) → i ≤ x → x < i + 4 → getD u x 0 ≡ getD t x 0
+  anew : (i v : ℕ) → BytesAt u i v → wordAt t i ≡ v → (x : ℕ) → i ≤ x → x < i + 4 → getD u x 0 ≡ getD t x 0
   anew i v s is x lo hi =
       let e : i + (x - i) ≡ x = omega arith in
       rw e at (s (x - i) (omega arith) ∙ sym (word-stands t byte i v is (x - i) (omega arith)))

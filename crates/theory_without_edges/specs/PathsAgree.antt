@@ -13,8 +13,8 @@ use Rattle.text.specs.ListLaws.{bool-cases, bool-clash, lt-or-ge, and-left, and
 use Rattle.format.specs.LayoutLaws.{Readable}
 use Rattle.format.specs.Layout as at
 use Rattle.format.specs.TreeReading.{Path, entered, keptBlock, pointingBlock, targetBlock, targetPlace, landBlock, landPlace, landVisits, lands}
-use Rattle.format.specs.TreeReading.{pathFrom, pathOf, leafOf, textOf, readable}
-use Rattle.format.specs.Answers.{byteOf, byteSays}
+use Rattle.format.specs.TreeReading.{pathFrom, pathOf, leafOf, textOf, headerResult}
+use Rattle.format.specs.Answers.{byteOf, byteAnswer}
 use Rattle.theory_paths.specs.Links.{H, N, b}
 use Rattle.theory_without_edges.specs.TreesAgree as agree
 use Rattle.theory_without_edges.specs.TreesAgree.{Agree}
@@ -167,6 +167,6 @@ module _ (t u : List ℕ) (k : Readable t) (g : Agree t u) where
   byte-same none = refl
   byte-same (some q) = rw (g .leaf-bytes (q .leaf))
 
-  pub bytes-same : readable t ≡ 0 → readable u ≡ 0 → (p : ℕ) → byteSays u p ≡ byteSays t p
-  unfolding byteSays
+  pub bytes-same : headerResult t ≡ 0 → headerResult u ≡ 0 → (p : ℕ) → byteAnswer u p ≡ byteAnswer t p
+  unfolding byteAnswer
   bytes-same r r₁ p = rw (r, r₁, g .length-is, path-same p, byte-same (pathOf t p))

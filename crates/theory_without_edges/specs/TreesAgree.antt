@@ -9,10 +9,10 @@ use native.Mathlib.Omega.{arith}
 use Rattle.text.specs.Text.{sumBelow}
 use Rattle.text.specs.ListLaws.{bool-cases, sumBelow-ext, sumBelow-part}
 use Rattle.format.specs.Layout.{startField, kindField, linkField, gapField, beforeField, insideField, skipField, Settings, maxLevels}
-use Rattle.format.specs.LayoutLaws.{fieldCount, Readable, readable-facts}
+use Rattle.format.specs.LayoutLaws.{fieldCount, Readable, header-facts}
 use Rattle.format.specs.Layout as at
-use Rattle.format.specs.TreeReading.{lastLevel, widthAt, textOf, countsTrue, readable, verdict}
-use Rattle.format.specs.VerdictLaws as verdicts
+use Rattle.format.specs.TreeReading.{lastLevel, widthAt, textOf, countsTrue, headerResult, checkResult}
+use Rattle.format.specs.CheckResultLaws as verdicts
 use Rattle.theory_paths.specs.Links.{H, N, b, s, len, Kept, Follows, Pointing, Linked, linked-facts, points-not-kept}
 use Rattle.theory_paths.specs.FitsFacts.{Fitting, fits-facts, fits-make}
 use Rattle.theory_paths.specs.OneText as one
@@ -227,17 +227,17 @@ module _ (t u : List ℕ) (k : Readable t) (g : Agree t u) where
           block l i c hl₁ hi₁ hc₁ (counts-facts t h l hl₁ i c hi₁ hc₁))
 
 -- If the check accepts t, it accepts every tree of layout 1 that passes questions 5 to 7 and agrees with t, and the same text fits.
-module _ (t u : List ℕ) (v : verdict t ≡ 0) (r : readable u ≡ 0) (edgeless : at.layout u ≡ 1) (g : Agree t u) where
+module _ (t u : List ℕ) (v : checkResult t ≡ 0) (r : headerResult u ≡ 0) (edgeless : at.layout u ≡ 1) (g : Agree t u) where
   k : Readable t
-  k = readable-facts t (verdicts.accepted-readable t v)
+  k = header-facts t (verdicts.accepted-header t v)
 
   d : Linked t
   d = linked-facts t (verdicts.accepted-links t v)
 
   pub agree-same-text : textOf u ≡ textOf t
-  agree-same-text = agree-text t u k g d (readable-facts u r)
+  agree-same-text = agree-text t u k g d (header-facts u r)
 
-  pub agree-accepted : verdict u ≡ 0
+  pub agree-accepted : checkResult u ≡ 0
   agree-accepted =
-      verdicts.accepted u r (linked-make u (agree-linked t u k g d)) (agree-counts t u k g d (readable-facts u r) (verdicts.accepted-counts t v))
+      verdicts.accepted u r (linked-make u (agree-linked t u k g d)) (agree-counts t u k g d (header-facts u r) (verdicts.accepted-counts t v))
       (verdicts.no-edges (textOf u) u edgeless)

@@ -5,10 +5,10 @@ use mathlib.Core.Path.{_≡_, refl, sym, _∙_}
 use mathlib.Core.Logic.{_⊎_, inl, inr}
 use Prim.Native.Nat.{ℕ, _<_}
 use Rattle.text.specs.ListLaws.{bool-cases, bool-clash}
-use Rattle.format.specs.LayoutLaws.{Readable, readable-facts}
+use Rattle.format.specs.LayoutLaws.{Readable, header-facts}
 use Rattle.format.specs.Layout as at
-use Rattle.format.specs.TreeReading.{linksOk, textOf, countsTrue, edgesTrue, ask, readable, verdict}
-use Rattle.format.specs.VerdictLaws as verdicts
+use Rattle.format.specs.TreeReading.{linksOk, textOf, countsTrue, edgesTrue, ask, headerResult, checkResult}
+use Rattle.format.specs.CheckResultLaws as verdicts
 use Rattle.theory_paths.specs.Links.{linked-facts}
 use Rattle.theory_without_edges.specs.LinksMade.{linked-make}
 use Rattle.theory_without_edges.specs.TreesAgree as agree
@@ -57,15 +57,15 @@ and-true : (x : Bool) → (x && true) ≡ x
 and-true true = refl
 and-true false = refl
 
-pub verdict-same : (t u : List ℕ) → readable t ≡ 0 → readable u ≡ 0 → at.layout u ≡ 1 → Agree t u
-    → verdict u ≡ ask 8 (linksOk t) (ask 9 (countsTrue (textOf t) t) 0)
-verdict-same t u r r₁ edgeless g = verdicts.verdict-readable u r₁ ∙ go (bool-cases (linksOk t))
+pub checked-same : (t u : List ℕ) → headerResult t ≡ 0 → headerResult u ≡ 0 → at.layout u ≡ 1 → Agree t u
+    → checkResult u ≡ ask 8 (linksOk t) (ask 9 (countsTrue (textOf t) t) 0)
+checked-same t u r r₁ edgeless g = verdicts.checked-header u r₁ ∙ go (bool-cases (linksOk t))
   where
     k : Readable t
-    k = readable-facts t r
+    k = header-facts t r
 
     k₁ : Readable u
-    k₁ = readable-facts u r₁
+    k₁ = header-facts u r₁
 
     go : (linksOk t ≡ true) ⊎ (linksOk t ≡ false)
         → ask 8 (linksOk u) (ask 9 (countsTrue (textOf u) u && edgesTrue (textOf u) u) 0) ≡ ask 8 (linksOk t) (ask 9 (countsTrue (textOf t) t) 0)

@@ -1,2 +1,2 @@
 mod CheckLaws
-pub mod Demands
+pub mod Theorems

@@ -18,14 +18,14 @@ use Rattle.format.specs.Answers.{leftOver}
 use Rattle.theory_paths.specs.Shift.{target-small}
 use Rattle.layout.specs.declared.place.BlockNumber.{BlockNumber}
 use Rattle.layout.specs.declared.place.BlockPlace.{BlockPlace}
-use Rattle.walk_steps.specs.declared.Next.{Next}
-use Rattle.walk_steps.specs.declared.Next.the-variants.{Kept, Points, Off}
-use Rattle.layout.specs.declared.place.Spot.{Spot}
-use Rattle.walk_steps.specs.declared.Arrived.{Arrived}
-use Rattle.walk_steps.specs.declared.Arrived.the-variants as arrived
-use Rattle.walk_path.specs.declared.Trail.{Trail}
-use Rattle.walk_path.specs.declared.Walked.{Walked}
-use Rattle.walk_path.specs.declared.Walked.the-variants.{At, Broken}
+use Rattle.walk_steps.specs.declared.BlockKind.{BlockKind}
+use Rattle.walk_steps.specs.declared.BlockKind.the-variants.{Kept, Points, Off}
+use Rattle.layout.specs.declared.place.BlockPosition.{BlockPosition}
+use Rattle.walk_steps.specs.declared.BlockAt.{BlockAt}
+use Rattle.walk_steps.specs.declared.BlockAt.the-variants as arrived
+use Rattle.walk_path.specs.declared.WalkState.{WalkState}
+use Rattle.walk_path.specs.declared.WalkAnswer.{WalkAnswer}
+use Rattle.walk_path.specs.declared.WalkAnswer.the-variants.{At, Broken}
 use Rattle.walk_steps.specs.Steps.{OnLevel, Pointing, nextAt, childAt, landAt}
 use Rattle.walk_steps.proofs.NextLaws.{next-kept, next-points, next-off, level-below, child-at, child-off, land-at, land-off}
 use Rattle.walk_steps.proofs.StepLaws.{b-pos, b-small, first-there, kept-in}
@@ -37,12 +37,12 @@ use Rattle.walk_path.proofs.AboveLaws.{above-last, above-kept, above-po
 
 -- What is carried.
 
-pub onward-is : (trail : Trail) (here left : ℕ) → left ≡ min (trail .left) here → record { entered = trail .entered + 1; left = left } ≡ onward trail here
+pub onward-is : (trail : WalkState) (here left : ℕ) → left ≡ min (trail .left) here → record { entered = trail .entered + 1; left = left } ≡ onward trail here
 unfolding onward
 onward-is trail here left e = rw e
 
 -- A block entered first is carried on.
-pub walked-enter : (t : List ℕ) (trail : Trail) (l i o : ℕ) (r : Option Above)
+pub walked-enter : (t : List ℕ) (trail : WalkState) (l i o : ℕ) (r : Option Above)
     → walked t (onward trail (at.fullLength t l - o)) r ≡ walked t trail (enteredAbove (visit l i o ∷ []) r)
 unfolding walked onward leftOver
 walked-enter t trail l i o none = refl
@@ -126,21 +126,23 @@ module _ (t : List ℕ) (size level b i o entered : ℕ) (k : KeptAt t size leve
       → (below : ℕ) → below ≡ b / at.settings t .arity → (OnLevel t size (level + 1) below) × (i < at.levelCount t level)
   asks-child down below b-is = (rw b-is (level-below t size level b (k .on) down), kept-in t level i (k .kept))
 
-module _ (t : List ℕ) (size level b i o : ℕ) (trail : Trail) (k : KeptAt t size level b i o (trail .entered)) where
+module _ (t : List ℕ) (size level b i o : ℕ) (trail : WalkState) (k : KeptAt t size level b i o (trail .entered)) where
   -- What is left fits a word.
-  pub left-fits : (on : Trail) → on ≡ onward trail (b - o) → on .left ≤ maxText
+  pub left-fits : (on : WalkState) → on ≡ onward trail (b - o) → on .left ≤ maxText
   unfolding onward
   left-fits on e =
-      let l : on .left ≡ min (trail .left) (b - o) = ap (λ (y : Trail). y .left) e in
+      let l : on .left ≡ min (trail .left) (b - o) = ap (λ (y : WalkState). y .left) e in
       omega (arith, b-small t size level b (k .on))
 
-  module _ (down : level + 1 ≡ at.settings t .levels → ⊥) (below : ℕ) (b-is : below ≡ b / at.settings t .arity) (on : Trail) (on-is : on ≡ onward trail (b - o))
-      (x : Arrived) (x-is : x ≡ childAt t (level + 1) (at.link t level i + o / below) (o % below)) where
+  module _ (down : level + 1 ≡ at.settings t .levels → ⊥) (below : ℕ) (b-is : below ≡ b / at.settings t .arity) (on : WalkState)
+      (on-is : on ≡ onward trail (b - o))
+      (x : BlockAt) (x-is : x ≡ childAt t (level + 1) (at.link t level i + o / below) (o % below)) where
     lower : OnLevel t size (level + 1) below
     lower = asks-child t size level b i o (trail .entered) k down below b-is .0
 
     -- The path goes on with the child.
-    kept-down : (r : Walked) → r ≡ walked t on (aboveFrom t (at.settings t .levels - 1 - (level + 1)) (level + 1) (at.link t level i + o / below) (o % below))
+    kept-down : (r : WalkAnswer) → r ≡ walked t on (aboveFrom t (at.settings t .levels - 1 - (level + 1)) (level + 1) (at.link t level i + o / below)
+        (o % below))
         → r ≡ walked t trail (aboveFrom t (at.settings t .levels - 1 - level) level i o)
     kept-down r e =
         let n = at.settings t .levels - 1 - (level + 1) in
@@ -153,14 +155,14 @@ module _ (t : List ℕ) (size level b i o : ℕ) (trail : Trail) (k : KeptAt t s
     child-may j p e =
         let z = child-at t (level + 1) (at.link t level i + o / below) (o % below) x x-is j p e in
         let m : o % below < below = mod-lt o (b-pos t size (level + 1) below lower) in
-        let n : on .entered ≡ trail .entered + 1 = ap (λ (y : Trail). y .entered) on-is in record {
+        let n : on .entered ≡ trail .entered + 1 = ap (λ (y : WalkState). y .entered) on-is in record {
           on = lower;
           block-in = rw (z .1) (z .0);
           place-in = rw (z .2) m;
           few = omega (arith, k .few);
         }
 
-    pub child-by : (r : Walked) (j : BlockNumber) (p : BlockPlace) → x ≡ arrived.At j p
+    pub child-by : (r : WalkAnswer) (j : BlockNumber) (p : BlockPlace) → x ≡ arrived.At j p
         → r ≡ walked t on (aboveFrom t (at.settings t .levels - 1 - (level + 1)) (level + 1) (j .0) (p .0))
         → r ≡ walked t trail (aboveFrom t (at.settings t .levels - 1 - level) level i o)
     child-by r j p e f =
@@ -180,7 +182,7 @@ module _ (t : List ℕ) (size level b i o entered : ℕ) (k : MayPoint t size le
   pub may-enter : entered ≤ 2 * maxLevels
   may-enter = omega (arith, k .few, k .on .level-in, k .on .facts .bounds .levels-high)
 
-  module _ (x : Next) (x-is : x ≡ nextAt t level i o) (j : BlockNumber) (p : BlockPlace) where
+  module _ (x : BlockKind) (x-is : x ≡ nextAt t level i o) (j : BlockNumber) (p : BlockPlace) where
     pub may-keep : x ≡ Kept j p → KeptAt t size level b i o entered
     may-keep e = record {
       on = k .on;
@@ -193,11 +195,12 @@ module _ (t : List ℕ) (size level b i o entered : ℕ) (k : MayPoint t size le
     may-point e = record { on = k .on; place-in = k .place-in; points = next-points t level i o x x-is j p e .1 }
 
 -- The kept block for a place of a block above the last level.
-same-landing : (j : BlockNumber) (p : BlockPlace) (on : Trail) (i o : ℕ) (trail : Trail) → j .0 ≡ i → p .0 ≡ o → on ≡ trail
+same-landing : (j : BlockNumber) (p : BlockPlace) (on : WalkState) (i o : ℕ) (trail : WalkState) → j .0 ≡ i → p .0 ≡ o → on ≡ trail
     → landed.At j p on ≡ landed.At (record { 0 = i }) (record { 0 = o }) trail
 same-landing j p on i o trail e f g = rw (← e, ← f, g)
 
-module _ (t : List ℕ) (size level b i o : ℕ) (trail : Trail) (k : MayPoint t size level b i o (trail .entered)) (x : Next) (x-is : x ≡ nextAt t level i o) where
+module _ (t : List ℕ) (size level b i o : ℕ) (trail : WalkState) (k : MayPoint t size level b i o (trail .entered)) (x : BlockKind)
+    (x-is : x ≡ nextAt t level i o) where
   pub landing-off : x ≡ Off → landed.Off ≡ landingAt t trail level i o
   unfolding landingAt
   landing-off e =
@@ -216,7 +219,7 @@ module _ (t : List ℕ) (size level b i o : ℕ) (trail : Trail) (k : MayPoint t
     apart : keptBlock t level i ≡ false
     apart = next-points t level i o x x-is j p e .0
 
-    module _ (y : Arrived) (y-is : y ≡ landAt t level i o) where
+    module _ (y : BlockAt) (y-is : y ≡ landAt t level i o) where
       -- On the last level no block points; nor does a target.
       pub land-breaks : y ≡ arrived.Off → pathFrom t (at.settings t .levels - 1 - level) level i o ≡ none
       land-breaks f = go (lt-or-ge (level + 1) (at.settings t .levels))
@@ -236,13 +239,13 @@ module _ (t : List ℕ) (size level b i o : ℕ) (trail : Trail) (k : MayPoint t
           let z : keptBlock t level (targetBlock t level i o) ≡ false = rw (lt-ltb _ _ more) at (land-off t level i o y y-is f) in
           rw (apart, points, z)
 
-      module _ (on : Trail) (on-is : on ≡ onward trail (b - o)) (m : BlockNumber) (q : BlockPlace) (f : y ≡ arrived.At m q) where
+      module _ (on : WalkState) (on-is : on ≡ onward trail (b - o)) (m : BlockNumber) (q : BlockPlace) (f : y ≡ arrived.At m q) where
         pub land-to : KeptAt t size level b (m .0) (q .0) (on .entered)
         unfolding onward
         land-to =
             let z = land-at t level i o y y-is m q f in
             let small = target-small t level i o points (rw (k .on .b-is) at (k .place-in)) in
-            let n : on .entered ≡ trail .entered + 1 = ap (λ (w : Trail). w .entered) on-is in record {
+            let n : on .entered ≡ trail .entered + 1 = ap (λ (w : WalkState). w .entered) on-is in record {
               on = k .on;
               place-in = rw (z .3, k .on .b-is) small;
               kept = rw (z .2) (z .1);
@@ -257,7 +260,7 @@ module _ (t : List ℕ) (size level b i o : ℕ) (trail : Trail) (k : MayPoint t
 
 -- Where the walk goes on: in the block itself, or in its target.
 
-cases-at : (kept both : Bool) (i o m q : ℕ) (trail further : Trail) (j : BlockNumber) (p : BlockPlace) (on : Trail)
+cases-at : (kept both : Bool) (i o m q : ℕ) (trail further : WalkState) (j : BlockNumber) (p : BlockPlace) (on : WalkState)
     → landed.At j p on ≡ cond kept (landed.At (record { 0 = i }) (record { 0 = o }) trail)
     (cond both (landed.At (record { 0 = m }) (record { 0 = q }) further) landed.Off)
     → ((kept ≡ true) × (j ≡ record { 0 = i }) × (p ≡ record { 0 = o }) × (on ≡ trail))
@@ -266,7 +269,7 @@ cases-at true both i o m q trail further j p on e = inl (refl, cc, cc, cc)
 cases-at false true i o m q trail further j p on e = inr (refl, refl, cc, cc, cc)
 cases-at false false i o m q trail further j p on e = absurd (let z : _≡_ {A = ℕ} 0 1 = cc in omega arith)
 
-cases-off : (kept both : Bool) (i o m q : ℕ) (trail further : Trail)
+cases-off : (kept both : Bool) (i o m q : ℕ) (trail further : WalkState)
     → landed.Off ≡ cond kept (landed.At (record { 0 = i }) (record { 0 = o }) trail)
     (cond both (landed.At (record { 0 = m }) (record { 0 = q }) further) landed.Off)
     → (kept ≡ false) × (both ≡ false)
@@ -274,7 +277,7 @@ cases-off true both i o m q trail further e = absurd (let z : _≡_ {A = ℕ} 0 
 cases-off false true i o m q trail further e = absurd (let z : _≡_ {A = ℕ} 0 1 = cc in omega arith)
 cases-off false false i o m q trail further e = (refl, refl)
 
-module _ (t : List ℕ) (size level b i o : ℕ) (trail : Trail) (k : MayPoint t size level b i o (trail .entered)) where
+module _ (t : List ℕ) (size level b i o : ℕ) (trail : WalkState) (k : MayPoint t size level b i o (trail .entered)) where
   -- On the last level.
   pub last-fits : level + 1 ≡ at.settings t .levels → at.leafOffset t < 4294967296 → (i < 268435456) × (o < 256) × (trail .entered < 16)
   last-fits last word =
@@ -290,7 +293,7 @@ module _ (t : List ℕ) (size level b i o : ℕ) (trail : Trail) (k : MayPoint t
       )
 
   pub last-walked : level + 1 ≡ at.settings t .levels
-      → (r : Walked) → r ≡ At (record { block = record { 0 = i }; place = record { 0 = o }; trail = trail })
+      → (r : WalkAnswer) → r ≡ At (record { block = record { 0 = i }; place = record { 0 = o }; trail = trail })
       → r ≡ walked t trail (aboveFrom t (at.settings t .levels - 1 - level) level i o)
   unfolding walked leftOver
   last-walked last r e =
@@ -311,7 +314,7 @@ module _ (t : List ℕ) (size level b i o : ℕ) (trail : Trail) (k : MayPoint t
         let z = cases-off (keptBlock t level i) both i o _ _ trail _ (sym e ∙ y-is) in
         rw (steps, above-off t (at.settings t .levels - 1 - (level + 1)) level i o (z .0) (λ pt. rw pt at (z .1)))
 
-    module _ (j : BlockNumber) (p : BlockPlace) (on : Trail) (e : y ≡ landed.At j p on) where
+    module _ (j : BlockNumber) (p : BlockPlace) (on : WalkState) (e : y ≡ landed.At j p on) where
       abbrev Cases : Type 0
       Cases = ((keptBlock t level i ≡ true) × (j ≡ record { 0 = i }) × (p ≡ record { 0 = o }) × (on ≡ trail))
           ⊎ ((keptBlock t level i ≡ false) × (both ≡ true) × (j ≡ record { 0 = targetBlock t level i o })
@@ -337,7 +340,7 @@ module _ (t : List ℕ) (size level b i o : ℕ) (trail : Trail) (k : MayPoint t
                 few = omega (arith, k .few);
               })
 
-      pub landed-by : (r : Walked) → r ≡ walked t on (aboveFrom t (at.settings t .levels - 1 - level) level (j .0) (p .0))
+      pub landed-by : (r : WalkAnswer) → r ≡ walked t on (aboveFrom t (at.settings t .levels - 1 - level) level (j .0) (p .0))
           → r ≡ walked t trail (aboveFrom t (at.settings t .levels - 1 - level) level i o)
       landed-by r f = go landed-cases
         where
@@ -354,7 +357,7 @@ module _ (t : List ℕ) (size level b i o : ℕ) (trail : Trail) (k : MayPoint t
 
 -- The start, on level 0.
 
-module _ (t : List ℕ) (size b p : ℕ) (on : OnLevel t size 0 b) (x : Spot)
+module _ (t : List ℕ) (size b p : ℕ) (on : OnLevel t size 0 b) (x : BlockPosition)
     (x-is : x ≡ record { block = record { 0 = p / b }; place = record { 0 = p % b } }) where
   pub top-may : p < at.textLength t → MayPoint t size 0 b (x .block .0) (x .place .0) 0
   top-may low =
@@ -365,7 +368,7 @@ module _ (t : List ℕ) (size b p : ℕ) (on : OnLevel t size 0 b) (x : Spot)
         few = omega arith;
       })
 
-  pub top-by : (trail : Trail) (r : Walked)
+  pub top-by : (trail : WalkState) (r : WalkAnswer)
       → r ≡ walked t trail (aboveFrom t (at.settings t .levels - 1 - 0) 0 (x .block .0) (x .place .0)) → r ≡ walked t trail (aboveOf t p)
   unfolding aboveOf
   top-by trail r e =

@@ -9,20 +9,20 @@ use lib.ListN.{length}
 use Rattle.format.specs.Layout as at
 use Rattle.format.specs.TreeReading.{keptBlock, pointingBlock, targetBlock, targetPlace}
 use Rattle.format.specs.Answers.{leftOver}
-use Rattle.walk_path.specs.declared.Trail.{Trail}
-use Rattle.walk_path.specs.declared.Walked.{Walked}
-use Rattle.walk_path.specs.declared.Walked.the-variants.{At, Broken}
+use Rattle.walk_path.specs.declared.WalkState.{WalkState}
+use Rattle.walk_path.specs.declared.WalkAnswer.{WalkAnswer}
+use Rattle.walk_path.specs.declared.WalkAnswer.the-variants.{At, Broken}
 use Rattle.walk_path.specs.declared.Landing.{Landing}
 use Rattle.walk_path.specs.declared.Landing.the-variants as landed
 use Rattle.walk_steps.specs.Steps.{OnLevel}
 use Rattle.walk_path.specs.Above.{Above}
 
 -- The state after one more block with `here` bytes left in it.
-unfoldable pub onward : Trail → ℕ → Trail
+unfoldable pub onward : WalkState → ℕ → WalkState
 onward trail here = record { entered = trail .entered + 1; left = min (trail .left) here }
 
 -- The result of a walk: the block and the place on the last level, the number of blocks entered above it, and the bytes left in each of them, at the least.
-unfoldable pub walked : List ℕ → Trail → Option Above → Walked
+unfoldable pub walked : List ℕ → WalkState → Option Above → WalkAnswer
 walked t trail none = Broken
 walked t trail (some a) = At (record {
   block = record { 0 = a .block };
@@ -32,7 +32,7 @@ walked t trail (some a) = At (record {
 
 -- The result that the word of a step represents: the block + 2^28 × the place + 2^36 × the blocks entered + 2^40 × the bytes left; all ones if the path
 -- breaks.
-unfoldable pub walkedIn : ℕ → Walked
+unfoldable pub walkedIn : ℕ → WalkAnswer
 walkedIn w =
     cond (eqb w 18446744073709551615) Broken
     (At (record {
@@ -42,7 +42,7 @@ walkedIn w =
     }))
 
 -- The kept block for a place of a block above the last level: the block itself if it is kept, else its kept target, with one more block entered.
-unfoldable pub landingAt : List ℕ → Trail → ℕ → ℕ → ℕ → Landing
+unfoldable pub landingAt : List ℕ → WalkState → ℕ → ℕ → ℕ → Landing
 landingAt t trail l i o =
     cond (keptBlock t l i) (landed.At (record { 0 = i }) (record { 0 = o }) trail)
     (cond (pointingBlock t l i && keptBlock t l (targetBlock t l i o))

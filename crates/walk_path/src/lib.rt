@@ -3,52 +3,52 @@
 use layout::header::Header;
 use layout::place::BlockNumber;
 use layout::place::BlockPlace;
-use layout::place::On;
+use layout::place::LevelAt;
 use layout::place::TextPlace;
-use walk_steps::Arrived;
-use walk_steps::Next;
+use walk_steps::BlockAt;
+use walk_steps::BlockKind;
 use walk_steps::fields;
 ghost use mathlib.Core.Path.{_≡_};
 ghost use Prim.Native.Nat.{_+_, _-_, _*_, _≤_, _<_};
 ghost use Rattle.format.specs.Layout as at;
-ghost use Rattle.layout.specs.HeaderSays.{HeaderOf};
+ghost use Rattle.layout.specs.HeaderFields.{HeaderOf};
 ghost use Rattle.format.specs.Layout.{maxText, maxLevels};
 ghost use Rattle.walk_path.specs.Above.{aboveFrom, aboveOf};
 ghost use Rattle.walk_path.specs.Walk.{KeptAt, MayPoint, walked, walkedIn, onward, landingAt};
 
 // What is carried down a path: the number of blocks entered, and the bytes left after the place in each of them, at the least.
-pub struct Trail {
+pub struct WalkState {
     pub entered: u32,
     pub left: u32,
 }
 
 // Where a path ends on the last level, with what was carried there. The record of this block has not been read.
-pub struct Reached {
+pub struct PathEnd {
     pub block: BlockNumber,
     pub place: BlockPlace,
-    pub trail: Trail,
+    pub trail: WalkState,
 }
 
-pub enum Walked {
-    At(Reached),
+pub enum WalkAnswer {
+    At(PathEnd),
     Broken,
 }
 
 // The kept block that contains a place, the place in it, and what is carried there.
 pub enum Landing {
-    At(BlockNumber, BlockPlace, Trail),
+    At(BlockNumber, BlockPlace, WalkState),
     Off,
 }
 
-impl Trail {
+impl WalkState {
     // After one more block is entered at a place; b is the block length of its level.
-    pub fn enter(self, b: u32, place: BlockPlace) -> Trail
+    pub fn enter(self, b: u32, place: BlockPlace) -> WalkState
         requires { ⌜ (self .entered ≤ 2 * maxLevels) × (place .0 < b) ⌝ }
         ensures { λ r. ⌜ r ≡ onward self (b - place .0) ⌝ }
     {
-        Trail {
+        WalkState {
             entered: self.entered + 1,
-            left: stretches::shorter(self.left, b - place.0),
+            left: byte_slices::min(self.left, b - place.0),
         }
     }
 }
@@ -57,25 +57,25 @@ impl Trail {
 const BROKEN: u64 = 18446744073709551615;
 
 // The result of a walk in one word: the block + 2^28 × the place + 2^36 × the blocks entered + 2^40 × the bytes left.
-fn packed(block: BlockNumber, place: BlockPlace, trail: Trail) -> u64
+fn packed(block: BlockNumber, place: BlockPlace, trail: WalkState) -> u64
     requires { ⌜ (block .0 < 268435456) × (place .0 < 256) × (trail .entered < 16) × (trail .left ≤ maxText) ⌝ }
-    ensures { λ r. ⌜ walkedIn r ≡ Walked.At (record { block = block; place = place; trail = trail }) ⌝ }
+    ensures { λ r. ⌜ walkedIn r ≡ WalkAnswer.At (record { block = block; place = place; trail = trail }) ⌝ }
 {
     let carried = trail.entered as u64 + 16 * trail.left as u64;
     block.0 as u64 + 268435456 * (place.0 as u64 + 256 * carried)
 }
 
 // The walk that such a word represents.
-fn unpacked(word: u64) -> Walked
+fn unpacked(word: u64) -> WalkAnswer
     ensures { λ r. ⌜ r ≡ walkedIn word ⌝ }
 {
     if word == BROKEN {
-        return Walked::Broken;
+        return WalkAnswer::Broken;
     }
-    Walked::At(Reached {
+    WalkAnswer::At(PathEnd {
         block: BlockNumber((word % 268435456) as u32),
         place: BlockPlace((word / 268435456 % 256) as u32),
-        trail: Trail {
+        trail: WalkState {
             entered: (word / 68719476736 % 16) as u32,
             left: (word / 1099511627776) as u32,
         },
@@ -86,26 +86,26 @@ fn unpacked(word: u64) -> Walked
 fn to_kept(
     t: &[u8],
     size: u32,
-    on: On,
+    on: LevelAt,
     block: BlockNumber,
     place: BlockPlace,
-    trail: Trail,
+    trail: WalkState,
 ) -> Landing
     requires { ⌜ (MayPoint (now t) size (on .level) (on .b) (block .0) (place .0) (trail .entered)) × (on .level + 1 < at.settings (now t) .levels) ⌝ }
     ensures { λ r. ⌜ r ≡ landingAt (now (t .entry)) trail (on .level) (block .0) (place .0) ⌝ }
 {
-    let here = walk_steps::look(t, size, on.level, on.b, block, place);
+    let here = walk_steps::classify_block(t, size, on.level, on.b, block, place);
     match here {
-        Next::Kept(_, _) => Landing::At(block, place, trail),
-        Next::Points(_, _) => {
+        BlockKind::Kept(_, _) => Landing::At(block, place, trail),
+        BlockKind::Points(_, _) => {
             let further = trail.enter(on.b, place);
-            let there = walk_steps::land(t, size, on.level, on.b, block, place);
-            let Arrived::At(i, p) = there else {
+            let there = walk_steps::resolve_target(t, size, on.level, on.b, block, place);
+            let BlockAt::At(i, p) = there else {
                 return Landing::Off;
             };
             Landing::At(i, p, further)
         }
-        Next::Off => Landing::Off,
+        BlockKind::Off => Landing::Off,
     }
 }
 
@@ -113,28 +113,28 @@ fn to_kept(
 fn kept_step(
     t: &[u8],
     size: u32,
-    on: On,
+    on: LevelAt,
     block: BlockNumber,
     place: BlockPlace,
-    trail: Trail,
+    trail: WalkState,
 ) -> u64
     requires { ⌜ (KeptAt (now t) size (on .level) (on .b) (block .0) (place .0) (trail .entered)) × (on .level + 1 < at.settings (now t) .levels) ⌝ }
     ensures { λ r. ⌜ walkedIn r ≡ walked (now (t .entry)) trail
         (aboveFrom (now (t .entry)) (at.settings (now (t .entry)) .levels - 1 - on .level) (on .level) (block .0) (place .0)) ⌝ }
 {
-    let tree = fields::whole(t);
+    let tree = fields::reborrow(t);
     let shape = fields::shape_of(tree);
     let below = walk_steps::quotient(on.b, shape.arity);
     let further = trail.enter(on.b, place);
     let child = walk_steps::child(tree, size, on.level, below, block, place);
-    let Arrived::At(i, p) = child else {
+    let BlockAt::At(i, p) = child else {
         return BROKEN;
     };
     let down = on.level + 1;
     if down + 1 == shape.levels {
         return packed(i, p, further);
     }
-    let under = On {
+    let under = LevelAt {
         level: down,
         b: below,
     };
@@ -146,16 +146,16 @@ fn kept_step(
 fn pointing_step(
     t: &[u8],
     size: u32,
-    on: On,
+    on: LevelAt,
     block: BlockNumber,
     place: BlockPlace,
-    trail: Trail,
+    trail: WalkState,
 ) -> u64
     requires { ⌜ (MayPoint (now t) size (on .level) (on .b) (block .0) (place .0) (trail .entered)) × (on .level + 1 < at.settings (now t) .levels) ⌝ }
     ensures { λ r. ⌜ walkedIn r ≡ walked (now (t .entry)) trail
         (aboveFrom (now (t .entry)) (at.settings (now (t .entry)) .levels - 1 - on .level) (on .level) (block .0) (place .0)) ⌝ }
 {
-    let tree = fields::whole(t);
+    let tree = fields::reborrow(t);
     let there = to_kept(tree, size, on, block, place, trail);
     let Landing::At(i, p, further) = there else {
         return BROKEN;
@@ -164,11 +164,11 @@ fn pointing_step(
 }
 
 // The path of a place of the text down to the last level. The bytes left at its start are those of the text.
-pub fn walk(t: &[u8], h: Header, at: TextPlace) -> Walked
+pub fn walk(t: &[u8], h: Header, at: TextPlace) -> WalkAnswer
     requires { ⌜ (HeaderOf (now t) h) × (at .0 < h .«text_length») ⌝ }
     ensures { λ r. ⌜ r ≡ walked (now (t .entry)) (record { entered = 0; left = h .«text_length» - at .0 }) (aboveOf (now (t .entry)) (at .0)) ⌝ }
 {
-    let trail = Trail {
+    let trail = WalkState {
         entered: 0,
         left: h.text_length - at.0,
     };
@@ -176,7 +176,7 @@ pub fn walk(t: &[u8], h: Header, at: TextPlace) -> Walked
     let block = spot.block;
     let place = spot.place;
     if h.settings.levels == 1 {
-        return Walked::At(Reached {
+        return WalkAnswer::At(PathEnd {
             block,
             place,
             trail,
@@ -185,7 +185,7 @@ pub fn walk(t: &[u8], h: Header, at: TextPlace) -> Walked
     unpacked(pointing_step(
         t,
         h.record_size,
-        On {
+        LevelAt {
             level: 0,
             b: h.top_length,
         },

@@ -20,9 +20,9 @@ use Rattle.theory_paths.specs.PlacesLand.{target-first, target-second}
 use Rattle.layout.specs.declared.place.BlockNumber.{BlockNumber}
 use Rattle.layout.specs.declared.place.BlockPlace.{BlockPlace}
 use Rattle.layout.specs.Record.{EdgesIn}
-use Rattle.walk_steps.specs.declared.Next.{Next}
-use Rattle.walk_steps.specs.declared.Next.the-variants as next
-use Rattle.walk_steps.specs.declared.Part.{Part}
+use Rattle.walk_steps.specs.declared.BlockKind.{BlockKind}
+use Rattle.walk_steps.specs.declared.BlockKind.the-variants as next
+use Rattle.walk_steps.specs.declared.DivRem.{DivRem}
 use Rattle.walk_steps.specs.declared.fields.Shape.{Shape}
 use Rattle.walk_steps.specs.Steps.{nextAt, OnLevel, Pointing}
 use Rattle.walk_steps.proofs.StepLaws.{kept-in, pointing-gap, Shapes}
@@ -104,7 +104,7 @@ unfolding gathered inLeaf
 leaf-none t level i o len entered un = rw un
 
 -- The block of the last level that a span lies in.
-module _ (t : List ℕ) (level i o len entered : ℕ) (x : Next) (x-is : x ≡ nextAt t level i o) where
+module _ (t : List ℕ) (level i o len entered : ℕ) (x : BlockKind) (x-is : x ≡ nextAt t level i o) where
   pub last-kept : (j : BlockNumber) (p : BlockPlace) → x ≡ next.Kept j p → keptBlock t level (j .0) ≡ true
   last-kept j p e = let z = next-kept t level i o x x-is j p e in rw (z .1) (z .0)
 
@@ -120,7 +120,7 @@ module _ (t : List ℕ) (level i o len entered : ℕ) (x : Next) (x-is : x ≡ n
 
 -- To the children.
 pub down-is : (t : List ℕ) (level c i o n link : ℕ) → link ≡ at.link t level i
-    → (part : Part) → part ≡ record { blocks = o / c; place = record { 0 = o % c } }
+    → (part : DivRem) → part ≡ record { blocks = o / c; place = record { 0 = o % c } }
     → land.Down (record { 0 = link }) (part .blocks) (part .place) n ≡ downTo t level c i o n
 unfolding downTo
 down-is t level c i o n link e part part-is = rw (e, part-is)
@@ -164,7 +164,7 @@ module _ (t : List ℕ) (size level b c i o len : ℕ) (k : Pointing t size leve
         go (inl low) = omega (arith, here low .1, inside low, k .on .b-is)
         go (inr high) = omega (arith, target-second t level i o (omega (arith, gap-is, k .on .b-is)) .1, gap-is, gap-low, fits, k .on .b-is)
 
-    module _ (x : Next) (x-is : x ≡ nextAt t level (targetBlock t level i o) (targetPlace t level i o)) where
+    module _ (x : BlockKind) (x-is : x ≡ nextAt t level (targetBlock t level i o) (targetPlace t level i o)) where
       pub pointed-in : (j : BlockNumber) (p : BlockPlace)
           → x ≡ next.Kept j p → (r : Land) → r ≡ downTo t level c (j .0) (p .0) 2 → r ≡ pointedTo t level i o len
       unfolding pointedTo
@@ -188,7 +188,7 @@ module _ (t : List ℕ) (size level b c i o len : ℕ) (k : Pointing t size leve
           rw (z .1) (kept-in t level (targetBlock t level i o) (z .0))
 
 -- Where a span lands.
-module _ (t : List ℕ) (level c i o len : ℕ) (c-is : c ≡ at.fullLength t (level + 1)) (x : Next) (x-is : x ≡ nextAt t level i o) where
+module _ (t : List ℕ) (level c i o len : ℕ) (c-is : c ≡ at.fullLength t (level + 1)) (x : BlockKind) (x-is : x ≡ nextAt t level i o) where
   pub land-kept : (j : BlockNumber) (p : BlockPlace) → x ≡ next.Kept j p → (r : Land) → r ≡ downTo t level c (j .0) (p .0) 1 → r ≡ landing t level i o len
   unfolding landing
   land-kept j p e r r-is =

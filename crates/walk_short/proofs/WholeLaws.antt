@@ -20,7 +20,7 @@ use Rattle.theory_paths.specs.Shift.{target-small}
 use Rattle.layout.specs.declared.header.Header.{Header}
 use Rattle.layout.specs.declared.place.BlockNumber.{BlockNumber}
 use Rattle.layout.specs.declared.place.BlockPlace.{BlockPlace}
-use Rattle.layout.specs.HeaderSays.{HeaderOf}
+use Rattle.layout.specs.HeaderFields.{HeaderOf}
 use Rattle.walk_steps.specs.Steps.{OnLevel}
 use Rattle.walk_steps.proofs.StepLaws.{b-small}
 use Rattle.walk_steps.proofs.NextLaws.{level-below, on-top}
@@ -29,7 +29,7 @@ use Rattle.walk_short.specs.declared.gather.Gathered.{Gathered}
 use Rattle.walk_short.specs.declared.gather.Gathered.the-variants.{At, Broken}
 use Rattle.walk_short.specs.declared.gather.Land.{Land}
 use Rattle.walk_short.specs.declared.gather.Land.the-variants as land
-use Rattle.walk_short.specs.Gathered.{gathered, downTo, pointedTo, landing, Crossing, Walking, Within}
+use Rattle.walk_short.specs.Gathered.{gathered, downTo, pointedTo, landing, Crossing, Walking, InRange}
 use Rattle.walk_short.proofs.GatherLaws.{gathered-led, child-pos}
 
 gathered-none : (n : ℕ) → Broken ≡ gathered n none
@@ -279,18 +279,18 @@ module _ (t : List ℕ) (h : Header) (k : HeaderOf t h) where
   -- The bytes that were found are in the tree.
   pub within-tree : at.layout t ≡ 2
       → (len : ℕ) → 0 < len → len ≤ h .settings .leaf → (below l i o : ℕ) → l + below + 1 ≡ at.settings t .levels → o < at.fullLength t l
-      → (r : Gathered) (n : ℕ) → r ≡ gathered n (shortFrom t below l i o len) → Within t len r
+      → (r : Gathered) (n : ℕ) → r ≡ gathered n (shortFrom t below l i o len) → InRange t len r
   unfolding gathered
   within-tree two len low short below l i o lev ho r n e =
       go (shortFrom t below l i o len) e (places.short-in t (k .facts) two len low (rw (k .leaf-is) at short) below l i o lev ho)
     where
-      go : (x : Option Short) → r ≡ gathered n x → ((q : Short) → x ≡ some q → places.Inside t len q) → Within t len r
+      go : (x : Option Short) → r ≡ gathered n x → ((q : Short) → x ≡ some q → places.Inside t len q) → InRange t len r
       go none e f = rw e tt
       go (some q) e f = let z = f q refl in rw e (z .few, z .first-in, z .next-in)
 
   pub top-by : (p len : ℕ) → at.layout t ≡ 2 → 1 ≤ len → len ≤ h .settings .leaf → (r : Gathered)
       → r ≡ gathered 0 (shortFrom t (at.settings t .levels - 1 - 0) 0 (p / h .«top_length» + 0) (p % h .«top_length») len)
-      → (r ≡ gathered 0 (shortOf t p len)) × Within t len r
+      → (r ≡ gathered 0 (shortOf t p len)) × InRange t len r
   unfolding shortOf
   top-by p len two low short r e =
       let z : at.settings t .levels - 1 - 0 ≡ at.settings t .levels - 1 = omega arith in
@@ -302,6 +302,6 @@ module _ (t : List ℕ) (h : Header) (k : HeaderOf t h) where
       )
 
 -- The two parts that a walk finds, within the tree.
-pub parts-in : (t : List ℕ) (x : ℕ) (found : Gathered) (q : Parts) → found ≡ At q → Within t x found
+pub parts-in : (t : List ℕ) (x : ℕ) (found : Gathered) (q : Parts) → found ≡ At q → InRange t x found
     → (q .size ≤ x) × (q .from + q .size ≤ length t) × (q .next + (x - q .size) ≤ length t)
 parts-in t x found q is w = rw is at w

@@ -51,6 +51,6 @@ module _ (t : List ℕ) where
     pub few : entered ≤ 2 * level
 
 -- The bytes that were found are in the tree.
-abbrev pub Within : List ℕ → ℕ → Gathered → Type 0
-Within t len (At q) = (q .size ≤ len) × (q .from + q .size ≤ length t) × (q .next + (len - q .size) ≤ length t)
-Within t len Broken = Unit {0}
+abbrev pub InRange : List ℕ → ℕ → Gathered → Type 0
+InRange t len (At q) = (q .size ≤ len) × (q .from + q .size ≤ length t) × (q .next + (len - q .size) ≤ length t)
+InRange t len Broken = Unit {0}

@@ -1,15 +1,15 @@
 // The walk of a short span: it descends while one block contains the span, and takes the bytes at a border from two edges.
 use layout::header;
 use layout::header::Header;
-use layout::place::Ahead;
 use layout::place::BlockNumber;
+use layout::place::BlockOffset;
 use layout::place::BlockPlace;
-use layout::place::On;
-use layout::place::Spot;
+use layout::place::BlockPosition;
+use layout::place::LevelAt;
 use layout::place::TextPlace;
 use layout::record;
 use layout::word;
-use walk_steps::Next;
+use walk_steps::BlockKind;
 use walk_steps::fields;
 ghost use mathlib.Core.Bool.{true, _&&_};
 ghost use mathlib.Core.Path.{_≡_};
@@ -18,10 +18,10 @@ ghost use lib.Dec.{ltb};
 ghost use Rattle.format.specs.Layout.{maxText, maxLevels};
 ghost use Rattle.format.specs.Layout as at;
 ghost use Rattle.format.specs.TreeReading.{keptBlock, byEdges, inLeaf, shortFrom, shortOf};
-ghost use Rattle.layout.specs.HeaderSays.{HeaderOf};
+ghost use Rattle.layout.specs.HeaderFields.{HeaderOf};
 ghost use Rattle.format.specs.LayoutLaws.{Readable};
 ghost use Rattle.walk_steps.specs.Steps.{OnLevel, Pointing};
-ghost use Rattle.walk_short.specs.Gathered.{gathered, downTo, pointedTo, landing, Crossing, Walking, Within};
+ghost use Rattle.walk_short.specs.Gathered.{gathered, downTo, pointedTo, landing, Crossing, Walking, InRange};
 
 // Where the bytes of a span are in the tree: `size` of them from `from` on, the others from `next` on; and the number of blocks entered.
 pub struct Parts {
@@ -52,7 +52,14 @@ pub struct Stretch {
 
 // A span that crosses the end of a block: the end of the block's last edge, and the beginning of the next block's first edge. The block counts as full, and
 // no kind is read.
-fn over(t: &[u8], size: u32, on: On, ahead: Ahead, place: BlockPlace, entered: u32) -> Gathered
+fn over(
+    t: &[u8],
+    size: u32,
+    on: LevelAt,
+    ahead: BlockOffset,
+    place: BlockPlace,
+    entered: u32,
+) -> Gathered
     requires { ⌜ Crossing (now t) size (on .level) (on .b) (place .0) entered ⌝ }
     ensures { λ r. ⌜ r ≡ gathered entered (byEdges (now (t .entry)) (on .level) (ahead .first .0 + ahead .steps) (place .0)) ⌝ }
 {
@@ -101,32 +108,39 @@ fn leaf_part(
 }
 
 // A span in a block of the last level, where no block points.
-fn last(t: &[u8], size: u32, on: On, ahead: Ahead, span: Stretch, entered: u32) -> Gathered
+fn last(
+    t: &[u8],
+    size: u32,
+    on: LevelAt,
+    ahead: BlockOffset,
+    span: Stretch,
+    entered: u32,
+) -> Gathered
     requires { ⌜ (OnLevel (now t) size (on .level) (on .b)) × (entered ≤ 2 * maxLevels) ⌝ }
     ensures { λ r. ⌜ r ≡ gathered entered (inLeaf (now (t .entry)) (on .level) (ahead .first .0 + ahead .steps) (span .place .0) (span .len)) ⌝ }
 {
-    let next = walk_steps::look_after(t, size, on, ahead, span.place);
+    let next = walk_steps::classify_next(t, size, on, ahead, span.place);
     match next {
-        Next::Kept(i, p) => {
+        BlockKind::Kept(i, p) => {
             let there = Stretch {
                 place: p,
                 len: span.len,
             };
             leaf_part(t, size, on.level, i, there, entered)
         }
-        Next::Points(_, _) => Gathered::Broken,
-        Next::Off => Gathered::Broken,
+        BlockKind::Points(_, _) => Gathered::Broken,
+        BlockKind::Off => Gathered::Broken,
     }
 }
 
 // From a kept block that contains a span to its children, of c bytes each.
-fn into(t: &[u8], size: u32, level: u32, c: u32, spot: Spot, entered: u32) -> Land
+fn into(t: &[u8], size: u32, level: u32, c: u32, spot: BlockPosition, entered: u32) -> Land
     requires { ⌜ (Readable (now t)) × (size ≡ at.recordSize (now t)) × (level < at.settings (now t) .levels)
         × (spot .block .0 < at.levelCount (now t) level) × (0 < c) ⌝ }
     ensures { λ r. ⌜ r ≡ downTo (now (t .entry)) level c (spot .block .0) (spot .place .0) entered ⌝ }
 {
     let link = record::link(t, size, level, spot.block);
-    let part = walk_steps::part_of(spot.place, c);
+    let part = walk_steps::div_rem(spot.place, c);
     let rest = part.place;
     Land::Down(BlockNumber(link.0), part.blocks, rest, entered)
 }
@@ -143,7 +157,7 @@ fn splits(b: u32, place: BlockPlace, len: u32) -> bool
 }
 
 // The next step from a pointing block: to a kept block that contains the span, or across the border of its two targets.
-fn pointed(t: &[u8], size: u32, on: On, c: u32, block: BlockNumber, span: Stretch) -> Land
+fn pointed(t: &[u8], size: u32, on: LevelAt, c: u32, block: BlockNumber, span: Stretch) -> Land
     requires { ⌜ (Pointing (now t) size (on .level) (on .b) (block .0) (span .place .0)) × (span .place .0 + span .len ≤ on .b)
         × (c ≡ at.fullLength (now t) (on .level + 1)) ⌝ }
     ensures { λ r. ⌜ r ≡ pointedTo (now (t .entry)) (on .level) (block .0) (span .place .0) (span .len) ⌝ }
@@ -156,39 +170,60 @@ fn pointed(t: &[u8], size: u32, on: On, c: u32, block: BlockNumber, span: Stretc
     }
     let next = walk_steps::target(t, size, on.level, on.b, block, span.place);
     match next {
-        Next::Kept(i, p) => into(t, size, on.level, c, Spot { block: i, place: p }, 2),
-        Next::Points(_, _) => Land::Off,
-        Next::Off => Land::Off,
+        BlockKind::Kept(i, p) => into(
+            t,
+            size,
+            on.level,
+            c,
+            BlockPosition { block: i, place: p },
+            2,
+        ),
+        BlockKind::Points(_, _) => Land::Off,
+        BlockKind::Off => Land::Off,
     }
 }
 
 // The next step of a span inside a block above the last level; c is the block length of the children.
-fn settle(t: &[u8], size: u32, on: On, c: u32, ahead: Ahead, span: Stretch) -> Land
+fn settle(t: &[u8], size: u32, on: LevelAt, c: u32, ahead: BlockOffset, span: Stretch) -> Land
     requires { ⌜ (OnLevel (now t) size (on .level) (on .b)) × (span .place .0 < on .b) × (span .place .0 + span .len ≤ on .b)
         × (c ≡ at.fullLength (now t) (on .level + 1)) ⌝ }
     ensures { λ r. ⌜ r ≡ landing (now (t .entry)) (on .level) (ahead .first .0 + ahead .steps) (span .place .0) (span .len) ⌝ }
 {
-    let next = walk_steps::look_after(t, size, on, ahead, span.place);
+    let next = walk_steps::classify_next(t, size, on, ahead, span.place);
     match next {
-        Next::Kept(i, p) => into(t, size, on.level, c, Spot { block: i, place: p }, 1),
-        Next::Points(i, p) => {
+        BlockKind::Kept(i, p) => into(
+            t,
+            size,
+            on.level,
+            c,
+            BlockPosition { block: i, place: p },
+            1,
+        ),
+        BlockKind::Points(i, p) => {
             let there = Stretch {
                 place: p,
                 len: span.len,
             };
             pointed(t, size, on, c, i, there)
         }
-        Next::Off => Land::Off,
+        BlockKind::Off => Land::Off,
     }
 }
 
 // The walk from the block some steps after another; the levels left fall.
-pub fn gather(t: &[u8], size: u32, on: On, ahead: Ahead, span: Stretch, entered: u32) -> Gathered
+pub fn gather(
+    t: &[u8],
+    size: u32,
+    on: LevelAt,
+    ahead: BlockOffset,
+    span: Stretch,
+    entered: u32,
+) -> Gathered
     requires { ⌜ Walking (now t) size (on .level) (on .b) (span .place .0) (span .len) entered ⌝ }
     ensures { λ r. ⌜ r ≡ gathered entered (shortFrom (now (t .entry)) (at.settings (now (t .entry)) .levels - 1 - on .level) (on .level)
         (ahead .first .0 + ahead .steps) (span .place .0) (span .len)) ⌝ }
 {
-    let tree = fields::whole(t);
+    let tree = fields::reborrow(t);
     if on.b < span.place.0 + span.len {
         return over(tree, size, on, ahead, span.place, entered);
     }
@@ -203,15 +238,22 @@ pub fn gather(t: &[u8], size: u32, on: On, ahead: Ahead, span: Stretch, entered:
         Land::Down(first, steps, place, n) => gather(
             tree,
             size,
-            On { level: down, b: c },
-            Ahead { first, steps },
+            LevelAt { level: down, b: c },
+            BlockOffset { first, steps },
             Stretch {
                 place,
                 len: span.len,
             },
             entered + n,
         ),
-        Land::Over(first, p) => over(tree, size, on, Ahead { first, steps: 0 }, p, entered + 1),
+        Land::Over(first, p) => over(
+            tree,
+            size,
+            on,
+            BlockOffset { first, steps: 0 },
+            p,
+            entered + 1,
+        ),
         Land::Off => Gathered::Broken,
     }
 }
@@ -219,14 +261,14 @@ pub fn gather(t: &[u8], size: u32, on: On, ahead: Ahead, span: Stretch, entered:
 // The walk from a place of the text.
 pub fn from_text(t: &[u8], h: Header, p: TextPlace, len: u32) -> Gathered
     requires { ⌜ (HeaderOf (now t) h) × (at.layout (now t) ≡ 2) × (1 ≤ len) × (len ≤ h .settings .leaf) × (p .0 + len ≤ h .«text_length») ⌝ }
-    ensures { λ r. ⌜ (r ≡ gathered 0 (shortOf (now (t .entry)) (p .0) len)) × Within (now (t .entry)) len r ⌝ }
+    ensures { λ r. ⌜ (r ≡ gathered 0 (shortOf (now (t .entry)) (p .0) len)) × InRange (now (t .entry)) len r ⌝ }
 {
     let b = h.top_length;
     gather(
         t,
         h.record_size,
-        On { level: 0, b },
-        Ahead {
+        LevelAt { level: 0, b },
+        BlockOffset {
             first: BlockNumber(p.0 / b),
             steps: 0,
         },

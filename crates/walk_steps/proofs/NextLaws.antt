@@ -14,14 +14,14 @@ use Rattle.format.specs.LayoutLaws.{full-step}
 use Rattle.layout.specs.declared.header.Header.{Header}
 use Rattle.layout.specs.declared.place.BlockNumber.{BlockNumber}
 use Rattle.layout.specs.declared.place.BlockPlace.{BlockPlace}
-use Rattle.layout.specs.HeaderSays.{HeaderOf}
-use Rattle.walk_steps.specs.declared.Next.{Next}
-use Rattle.walk_steps.specs.declared.Next.the-variants.{Kept, Points, Off}
-use Rattle.walk_steps.specs.declared.Arrived.{Arrived}
-use Rattle.walk_steps.specs.declared.Arrived.the-variants as arrived
+use Rattle.layout.specs.HeaderFields.{HeaderOf}
+use Rattle.walk_steps.specs.declared.BlockKind.{BlockKind}
+use Rattle.walk_steps.specs.declared.BlockKind.the-variants.{Kept, Points, Off}
+use Rattle.walk_steps.specs.declared.BlockAt.{BlockAt}
+use Rattle.walk_steps.specs.declared.BlockAt.the-variants as arrived
 use Rattle.walk_steps.specs.Steps.{OnLevel, nextAt, childAt, landAt, arriving}
 
-abbrev next-cases : (kept points : Bool) (i o : ℕ) → Next
+abbrev next-cases : (kept points : Bool) (i o : ℕ) → BlockKind
 next-cases kept points i o = cond kept (Kept (record { 0 = i }) (record { 0 = o })) (cond points (Points (record { 0 = i }) (record { 0 = o })) Off)
 
 case-kept : (kept points : Bool) (i o : ℕ) (j : BlockNumber) (p : BlockPlace) → next-cases kept points i o ≡ Kept j p
@@ -41,7 +41,7 @@ case-off true points i o e = absurd (let z : _≡_ {A = ℕ} 0 1 = cc in omega a
 case-off false true i o e = absurd (let z : _≡_ {A = ℕ} 0 1 = cc in omega arith)
 case-off false false i o e = (refl, refl)
 
-module _ (t : List ℕ) (l i o : ℕ) (x : Next) (is : x ≡ nextAt t l i o) where
+module _ (t : List ℕ) (l i o : ℕ) (x : BlockKind) (is : x ≡ nextAt t l i o) where
   pub next-kept : (j : BlockNumber) (p : BlockPlace) → x ≡ Kept j p → (keptBlock t l i ≡ true) × (j .0 ≡ i) × (p .0 ≡ o)
   unfolding nextAt
   next-kept j p e =
@@ -104,7 +104,7 @@ case-none : (x : Bool) (i o : ℕ) → arriving x i o ≡ arrived.Off → x ≡ 
 case-none true i o e = absurd (let z : _≡_ {A = ℕ} 0 1 = cc in omega arith)
 case-none false i o e = refl
 
-module _ (t : List ℕ) (l i o : ℕ) (x : Arrived) where
+module _ (t : List ℕ) (l i o : ℕ) (x : BlockAt) where
   module _ (is : x ≡ childAt t l i o) where
     pub child-at : (j : BlockNumber) (p : BlockPlace) → x ≡ arrived.At j p → (i < at.levelCount t l) × (j .0 ≡ i) × (p .0 ≡ o)
     unfolding childAt

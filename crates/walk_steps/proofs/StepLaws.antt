@@ -17,12 +17,12 @@ use Rattle.theory_paths.specs.PlacesLand.{target-first, target-second}
 use Rattle.layout.specs.Record.{FieldIn, field-in}
 use Rattle.layout.specs.declared.place.BlockNumber.{BlockNumber}
 use Rattle.layout.specs.declared.place.BlockPlace.{BlockPlace}
-use Rattle.layout.specs.declared.place.Spot.{Spot}
+use Rattle.layout.specs.declared.place.BlockPosition.{BlockPosition}
 use Rattle.walk_steps.specs.declared.fields.Shape.{Shape}
-use Rattle.walk_steps.specs.declared.Part.{Part}
-use Rattle.walk_steps.specs.declared.Next.{Next}
-use Rattle.walk_steps.specs.declared.Next.the-variants.{Kept, Points, Off}
-use Rattle.walk_steps.specs.declared.Arrived.the-variants as arrived
+use Rattle.walk_steps.specs.declared.DivRem.{DivRem}
+use Rattle.walk_steps.specs.declared.BlockKind.{BlockKind}
+use Rattle.walk_steps.specs.declared.BlockKind.the-variants.{Kept, Points, Off}
+use Rattle.walk_steps.specs.declared.BlockAt.the-variants as arrived
 use Rattle.walk_steps.proofs.NextLaws.{next-kept, next-points, next-off}
 use Rattle.walk_steps.specs.Steps.{OnLevel, InTable, Pointing, nextAt, childAt, landAt, shapeOf}
 
@@ -94,7 +94,7 @@ module _ (t : List ℕ) (size level b i o : ℕ) (s : Pointing t size level b i 
   pub sum-small : (g : ℕ) → g ≡ at.gap t level i → g + o < (2 * maxText)
   sum-small g e = omega (arith, pointing-gap t level i (s .points), s .on .b-is, s .place-in, b-small t size level b (s .on))
 
-  module _ (k g : ℕ) (k-is : k ≡ at.link t level i) (g-is : g ≡ at.gap t level i) (r : Next) where
+  module _ (k g : ℕ) (k-is : k ≡ at.link t level i) (g-is : g ≡ at.gap t level i) (r : BlockKind) where
     target-here : g + o < b → r ≡ nextAt t level (k + 0) (g + o) → r ≡ nextAt t level (targetBlock t level i o) (targetPlace t level i o)
     target-here small e =
         let z = target-first t level i o (omega (arith, s .on .b-is)) in
@@ -135,9 +135,9 @@ rest-is x b q e =
 
 -- The child that contains a place.
 module _ (t : List ℕ) (l k link count o b : ℕ)
-    (x : Part) (link-is : link ≡ k) (count-is : count ≡ at.levelCount t l) (x-is : x ≡ record { blocks = o / b; place = record { 0 = o % b } }) where
+    (x : DivRem) (link-is : link ≡ k) (count-is : count ≡ at.levelCount t l) (x-is : x ≡ record { blocks = o / b; place = record { 0 = o % b } }) where
   blocks-are : x .blocks ≡ o / b
-  blocks-are = ap (λ (y : Part). y .blocks) x-is
+  blocks-are = ap (λ (y : DivRem). y .blocks) x-is
 
   pub child-past : count ≤ link + x .blocks → arrived.Off ≡ childAt t l (k + o / b) (o % b)
   unfolding childAt
@@ -147,7 +147,7 @@ module _ (t : List ℕ) (l k link count o b : ℕ)
       → q ≡ x .place → link + x .blocks < count → arrived.At (record { 0 = link + x .blocks }) q ≡ childAt t l (k + o / b) (o % b)
   unfolding childAt
   child-there q q-is low =
-      let f : q ≡ record { 0 = o % b } = q-is ∙ ap (λ (y : Part). y .place) x-is in
+      let f : q ≡ record { 0 = o % b } = q-is ∙ ap (λ (y : DivRem). y .place) x-is in
       let z : k + o / b < at.levelCount t l = omega (arith, link-is, blocks-are, count-is) in
       rw (lt-ltb (k + o / b) (at.levelCount t l) z, f, link-is, blocks-are)
 
@@ -157,7 +157,7 @@ module _ (t : List ℕ) (l i o : ℕ) where
   unfolding landAt
   land-last last = rw (le-ltb _ _ last)
 
-  module _ (x : Next) (x-is : x ≡ nextAt t l (targetBlock t l i o) (targetPlace t l i o)) where
+  module _ (x : BlockKind) (x-is : x ≡ nextAt t l (targetBlock t l i o) (targetPlace t l i o)) where
     pub land-kept : (j : BlockNumber) (p : BlockPlace) → l + 1 < at.settings t .levels → x ≡ Kept j p → arrived.At j p ≡ landAt t l i o
     unfolding landAt
     land-kept j p more e =
@@ -202,10 +202,10 @@ shapes-on t u x e f = shapes t x (f ∙ ap shapeOf e)
 
 -- The part of a place.
 pub part-is : (x b q : ℕ)
-    → q ≡ x / b → _≡_ {A = Part} (record { blocks = q; place = record { 0 = x - q * b } }) (record { blocks = x / b; place = record { 0 = x % b } })
+    → q ≡ x / b → _≡_ {A = DivRem} (record { blocks = q; place = record { 0 = x - q * b } }) (record { blocks = x / b; place = record { 0 = x % b } })
 part-is x b q e = rw (rest-is x b q e .1, e)
 
 pub top-spot-is : (x b q : ℕ) → q ≡ x / b
-    → _≡_ {A = Spot} (record { block = record { 0 = q }; place = record { 0 = x - q * b } })
+    → _≡_ {A = BlockPosition} (record { block = record { 0 = q }; place = record { 0 = x - q * b } })
     (record { block = record { 0 = x / b }; place = record { 0 = x % b } })
 top-spot-is x b q e = rw (rest-is x b q e .1, e)

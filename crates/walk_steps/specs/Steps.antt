@@ -8,28 +8,28 @@ use Rattle.format.specs.Layout as at
 use Rattle.format.specs.LayoutLaws.{Readable}
 use Rattle.format.specs.TreeReading.{keptBlock, pointingBlock, targetBlock, targetPlace}
 use Rattle.walk_steps.specs.declared.fields.Shape.{Shape}
-use Rattle.walk_steps.specs.declared.Next.{Next}
-use Rattle.walk_steps.specs.declared.Next.the-variants.{Kept, Points, Off}
-use Rattle.walk_steps.specs.declared.Arrived.{Arrived}
-use Rattle.walk_steps.specs.declared.Arrived.the-variants as arrived
+use Rattle.walk_steps.specs.declared.BlockKind.{BlockKind}
+use Rattle.walk_steps.specs.declared.BlockKind.the-variants.{Kept, Points, Off}
+use Rattle.walk_steps.specs.declared.BlockAt.{BlockAt}
+use Rattle.walk_steps.specs.declared.BlockAt.the-variants as arrived
 
 -- The block if a test holds, else none.
-abbrev pub arriving : Bool → ℕ → ℕ → Arrived
+abbrev pub arriving : Bool → ℕ → ℕ → BlockAt
 arriving x i o = cond x (arrived.At (record { 0 = i }) (record { 0 = o })) arrived.Off
 
 module _ (t : List ℕ) where
   -- The kind of block i of level l, reached at place o.
-  unfoldable pub nextAt : ℕ → ℕ → ℕ → Next
+  unfoldable pub nextAt : ℕ → ℕ → ℕ → BlockKind
   nextAt l i o =
       cond (keptBlock t l i) (Kept (record { 0 = i }) (record { 0 = o }))
       (cond (pointingBlock t l i) (Points (record { 0 = i }) (record { 0 = o })) Off)
 
   -- Child i of level l, which contains place o of a kept block.
-  unfoldable pub childAt : ℕ → ℕ → ℕ → Arrived
+  unfoldable pub childAt : ℕ → ℕ → ℕ → BlockAt
   childAt l i o = arriving (ltb i (at.levelCount t l)) i o
 
   -- The kept block that place o of pointing block i of level l refers to.
-  unfoldable pub landAt : ℕ → ℕ → ℕ → Arrived
+  unfoldable pub landAt : ℕ → ℕ → ℕ → BlockAt
   landAt l i o = arriving (ltb (l + 1) (at.settings t .levels) && keptBlock t l (targetBlock t l i o)) (targetBlock t l i o) (targetPlace t l i o)
 
   -- The fields of the header that a step needs.

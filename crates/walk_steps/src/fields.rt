@@ -34,7 +34,7 @@ pub fn shape_of(t: &[u8]) -> Shape
 }
 
 // Reborrows the tree, so that a step passes on its borrow without keeping it.
-pub fn whole(t: &[u8]) -> &[u8]
+pub fn reborrow(t: &[u8]) -> &[u8]
     ensures { λ r. ⌜ now r ≡ now (t .entry) ⌝ }
 {
     let n = t.len();

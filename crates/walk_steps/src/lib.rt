@@ -3,11 +3,11 @@
 pub mod fields;
 
 use layout::cut;
-use layout::place::Ahead;
 use layout::place::BlockNumber;
+use layout::place::BlockOffset;
 use layout::place::BlockPlace;
-use layout::place::On;
-use layout::place::Spot;
+use layout::place::BlockPosition;
+use layout::place::LevelAt;
 use layout::place::TextPlace;
 use layout::record;
 ghost use mathlib.Core.Path.{_≡_};
@@ -19,7 +19,7 @@ ghost use Rattle.format.specs.TreeReading.{targetBlock, targetPlace};
 ghost use Rattle.walk_steps.specs.Steps.{OnLevel, InTable, Pointing, nextAt, childAt, landAt};
 
 // The kind of the block that a path reaches, and the place in it.
-pub enum Next {
+pub enum BlockKind {
     Kept(BlockNumber, BlockPlace),
     Points(BlockNumber, BlockPlace),
     // Outside the table, of a kind above 1, or pointing with a gap that is not below the block length.
@@ -27,14 +27,14 @@ pub enum Next {
 }
 
 // The block that a place refers to, and the place in it.
-pub enum Arrived {
+pub enum BlockAt {
     At(BlockNumber, BlockPlace),
     // Outside the table, or not a kept block where one is required.
     Off,
 }
 
 // The number of children of a block that end before a place in it, and the place in the next child.
-pub struct Part {
+pub struct DivRem {
     pub blocks: u32,
     pub place: BlockPlace,
 }
@@ -53,59 +53,72 @@ pub fn quotient(x: u32, b: u32) -> u32
 }
 
 // The child of b bytes that contains a place of the block.
-pub fn part_of(place: BlockPlace, b: u32) -> Part
+pub fn div_rem(place: BlockPlace, b: u32) -> DivRem
     requires { ⌜ 0 < b ⌝ }
     ensures { λ r. ⌜ r ≡ record { blocks = place .0 / b; place = record { 0 = place .0 % b } } ⌝ }
 {
     let blocks = quotient(place.0, b);
-    Part {
+    DivRem {
         blocks,
         place: BlockPlace(place.0 - blocks * b),
     }
 }
 
 // The block of level 0 that contains a place of the text, and the place in it; b is the block length of level 0.
-pub fn top_spot(place: TextPlace, b: u32) -> Spot
+pub fn top_spot(place: TextPlace, b: u32) -> BlockPosition
     requires { ⌜ 0 < b ⌝ }
     ensures { λ r. ⌜ r ≡ record { block = record { 0 = place .0 / b }; place = record { 0 = place .0 % b } } ⌝ }
 {
     let blocks = quotient(place.0, b);
-    Spot {
+    BlockPosition {
         block: BlockNumber(blocks),
         place: BlockPlace(place.0 - blocks * b),
     }
 }
 
 // The kind of a block.
-pub fn look(t: &[u8], size: u32, level: u32, b: u32, block: BlockNumber, place: BlockPlace) -> Next
+pub fn classify_block(
+    t: &[u8],
+    size: u32,
+    level: u32,
+    b: u32,
+    block: BlockNumber,
+    place: BlockPlace,
+) -> BlockKind
     requires { ⌜ InTable (now t) size level b (block .0) ⌝ }
     ensures { λ r. ⌜ r ≡ nextAt (now (t .entry)) level (block .0) (place .0) ⌝ }
 {
     let kind = record::kind(t, size, level, block);
     if kind == 0 {
-        return Next::Kept(block, place);
+        return BlockKind::Kept(block, place);
     }
     if kind != 1 {
-        return Next::Off;
+        return BlockKind::Off;
     }
     let gap = record::gap(t, size, level, block);
     if gap.0 < b {
-        return Next::Points(block, place);
+        return BlockKind::Points(block, place);
     }
-    Next::Off
+    BlockKind::Off
 }
 
 // The kind of the block some steps after another.
-pub fn look_after(t: &[u8], size: u32, on: On, ahead: Ahead, place: BlockPlace) -> Next
+pub fn classify_next(
+    t: &[u8],
+    size: u32,
+    on: LevelAt,
+    ahead: BlockOffset,
+    place: BlockPlace,
+) -> BlockKind
     requires { ⌜ OnLevel (now t) size (on .level) (on .b) ⌝ }
     ensures { λ r. ⌜ r ≡ nextAt (now (t .entry)) (on .level) (ahead .first .0 + ahead .steps) (place .0) ⌝ }
 {
     let count = record::level_count(t, on.level) as u64;
     let number = ahead.first.0 as u64 + ahead.steps as u64;
     if count <= number {
-        return Next::Off;
+        return BlockKind::Off;
     }
-    look(t, size, on.level, on.b, BlockNumber(number as u32), place)
+    classify_block(t, size, on.level, on.b, BlockNumber(number as u32), place)
 }
 
 // The child of a kept block that contains a place; b is the block length of the children.
@@ -116,19 +129,19 @@ pub fn child(
     b: u32,
     block: BlockNumber,
     place: BlockPlace,
-) -> Arrived
+) -> BlockAt
     requires { ⌜ (OnLevel (now t) size (level + 1) b) × (block .0 < at.levelCount (now t) level) ⌝ }
     ensures { λ r. ⌜ r ≡ childAt (now (t .entry)) (level + 1) (at.link (now (t .entry)) level (block .0) + place .0 / b) (place .0 % b) ⌝ }
 {
     let link = record::link(t, size, level, block);
     let count = record::level_count(t, level + 1) as u64;
-    let part = part_of(place, b);
+    let part = div_rem(place, b);
     let number = link.0 as u64 + part.blocks as u64;
     if count <= number {
-        return Arrived::Off;
+        return BlockAt::Off;
     }
     let rest = part.place;
-    Arrived::At(BlockNumber(number as u32), rest)
+    BlockAt::At(BlockNumber(number as u32), rest)
 }
 
 // 1 if a place, from the start of a block, is past its b bytes, else 0.
@@ -149,7 +162,7 @@ pub fn target(
     b: u32,
     block: BlockNumber,
     place: BlockPlace,
-) -> Next
+) -> BlockKind
     requires { ⌜ Pointing (now t) size level b (block .0) (place .0) ⌝ }
     ensures { λ r. ⌜ r ≡ nextAt (now (t .entry))
         level (targetBlock (now (t .entry)) level (block .0) (place .0)) (targetPlace (now (t .entry)) level (block .0) (place .0)) ⌝ }
@@ -158,11 +171,11 @@ pub fn target(
     let gap = record::gap(t, size, level, block);
     let sum = BlockPlace(gap.0 + place.0);
     let over = past(sum, b);
-    look_after(
+    classify_next(
         t,
         size,
-        On { level, b },
-        Ahead {
+        LevelAt { level, b },
+        BlockOffset {
             first: BlockNumber(link.0),
             steps: over,
         },
@@ -171,25 +184,25 @@ pub fn target(
 }
 
 // The kept block that a place of a pointing block above the last level refers to.
-pub fn land(
+pub fn resolve_target(
     t: &[u8],
     size: u32,
     level: u32,
     b: u32,
     block: BlockNumber,
     place: BlockPlace,
-) -> Arrived
+) -> BlockAt
     requires { ⌜ Pointing (now t) size level b (block .0) (place .0) ⌝ }
     ensures { λ r. ⌜ r ≡ landAt (now (t .entry)) level (block .0) (place .0) ⌝ }
 {
     let shape = fields::shape_of(t);
     if level + 1 == shape.levels {
-        return Arrived::Off;
+        return BlockAt::Off;
     }
     match target(t, size, level, b, block, place) {
-        Next::Kept(i, p) => Arrived::At(i, p),
-        Next::Points(_, _) => Arrived::Off,
-        Next::Off => Arrived::Off,
+        BlockKind::Kept(i, p) => BlockAt::At(i, p),
+        BlockKind::Points(_, _) => BlockAt::Off,
+        BlockKind::Off => BlockAt::Off,
     }
 }
 

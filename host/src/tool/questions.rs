@@ -11,7 +11,7 @@ use crate::manifest::Figures;
 use crate::say::{self, several};
 use crate::table::{self, AFTER, FROM, ROW_COLUMNS, UNCHECKED};
 use crate::{by_columns, reasons, values, Failure};
-use codebook::{text_rows, Range, Reached, Refusal, Tree};
+use codebook::{text_rows, Answer, Range, Refusal, Tree};
 
 /// A question.
 #[derive(Clone, Debug, PartialEq, Eq)]
@@ -172,14 +172,14 @@ impl Question {
         match *self {
             Question::Rows(first, Some(last)) if first == last => page.row(first, &one_row(tree, guide, first)?),
             Question::Rows(first, last) => {
-                let last = last.map_or_else(|| to_the_end(first, tree.rows()?).ok_or(Refusal::NoSuch), Ok)?;
+                let last = last.map_or_else(|| to_the_end(first, tree.row_count()?).ok_or(Refusal::NoSuch), Ok)?;
                 let text = stretch(tree, guide, first, last)?;
                 text_rows(&text).zip(first..).for_each(|(row, q)| page.row(q, row));
             }
             Question::ColumnRows(first, last, width) => {
                 let rows = tree.text_length().checked_div(width).ok_or(Refusal::Width)?;
                 let last = last.map_or_else(|| to_the_end(first, rows.into()).ok_or(Refusal::Place), Ok)?;
-                (first..=last).try_for_each(|q| column_row(tree, width, q).map(|row| page.row(q, &row)))?;
+                (first..=last).try_for_each(|q| row_by_columns(tree, width, q).map(|row| page.row(q, &row)))?;
             }
             Question::Places(ref pattern) => {
                 tree.places(pattern)?.into_iter().for_each(|place| page.add(format!("{place}\n"), || Object::new().number("place", place)));
@@ -199,22 +199,22 @@ impl Question {
     fn figures(&self, tree: Tree, guide: Option<&[u8]>, page: &mut Page) -> Result<(), Refusal> {
         match *self {
             Question::Byte(place) => {
-                let Reached { value, entered } = tree.byte(place)?;
+                let Answer { value, entered } = tree.byte(place)?;
                 let object = Object::new().number("place", place).number("byte", value);
                 page.figure(&format!("{value} '{}'", [value].escape_ascii()), entered, object);
             }
             Question::Run(place) => {
-                let (offset, run) = tree.run_at(place)?;
+                let (offset, run) = tree.run_range(place)?;
                 let object = || Object::new().number("place", place).number("offset", offset).number("length", run.len()).bytes("text", run);
                 page.add(format!("offset {offset}, {}: '{}'\n", several(run.len() as u64, "byte"), run.escape_ascii()), object);
             }
             Question::Span(place, length) => {
-                let Reached { value, entered } = tree.span(place, length)?;
+                let Answer { value, entered } = tree.span(place, length)?;
                 let object = || Object::new().number("place", place).number("length", length).bytes("text", &value).number("entered", entered);
                 page.add(&value, object);
             }
             Question::Count(byte, length) => {
-                let Reached { value, entered } = tree.count(byte, length)?;
+                let Answer { value, entered } = tree.count(byte, length)?;
                 page.figure(&value.to_string(), entered, Object::new().number("byte", byte).number("length", length).number("count", value));
             }
             Question::Find(byte, number) => found(tree, guide, byte, number, page)?,
@@ -241,7 +241,7 @@ fn one_row(tree: Tree, guide: Option<&[u8]>, q: u32) -> Result<Vec<u8>, Refusal>
 
 /// The text from the first row to the last, ends included: two finds and a span, and not two finds for each row.
 fn stretch(tree: Tree, guide: Option<&[u8]>, first: u32, last: u32) -> Result<Vec<u8>, Refusal> {
-    let (length, rows) = (tree.text_length(), tree.rows()?);
+    let (length, rows) = (tree.text_length(), tree.row_count()?);
     // all rows of a book that has none
     if last < first {
         return Ok(Vec::new());
@@ -259,7 +259,7 @@ fn stretch(tree: Tree, guide: Option<&[u8]>, first: u32, last: u32) -> Result<Ve
 }
 
 /// Row `q`, from 1, of a book by columns, without its end: byte 10, and one byte 13 directly before it.
-fn column_row(tree: Tree, width: u32, q: u32) -> Result<Vec<u8>, Refusal> {
+fn row_by_columns(tree: Tree, width: u32, q: u32) -> Result<Vec<u8>, Refusal> {
     let a = q.checked_sub(1).ok_or(Refusal::Place)?;
     let mut row = tree.row_by_columns(width, a)?;
     let end = match row[..] {
@@ -274,7 +274,7 @@ fn column_row(tree: Tree, width: u32, q: u32) -> Result<Vec<u8>, Refusal> {
 fn found(tree: Tree, guide: Option<&[u8]>, byte: u8, number: u32, page: &mut Page) -> Result<(), Refusal> {
     let object = |place: u32| Object::new().number("byte", byte).number("number", number).number("place", place);
     let Some(guide) = guide else {
-        let Reached { value, entered } = tree.find(byte, number)?;
+        let Answer { value, entered } = tree.find(byte, number)?;
         page.figure(&value.to_string(), entered, object(value));
         return Ok(());
     };

@@ -61,7 +61,7 @@ pub fn all_typed(bytes: &[u8]) -> String {
 fn why(refusal: Refusal, question: &Question, tree: Tree) -> Option<String> {
     let length = tree.text_length();
     match (refusal, question) {
-        (Refusal::NoSuch, Question::Rows(..)) => tree.rows().ok().map(|rows| numbers("rows", rows, "the book has no rows")),
+        (Refusal::NoSuch, Question::Rows(..)) => tree.row_count().ok().map(|rows| numbers("rows", rows, "the book has no rows")),
         (Refusal::Place, Question::ColumnRows(_, _, width)) => {
             Some(numbers(&format!("rows of {width} bytes"), (length / width).into(), "the book has no rows"))
         }

@@ -9,7 +9,7 @@ use crate::json::Object;
 use crate::manifest::{Figures, Manifest};
 use crate::say::{self, grouped};
 use crate::Failure;
-use codebook::{enough, scan_words, Tree};
+use codebook::{scan_words, size_bound, Tree};
 use std::path::Path;
 
 pub fn stats(given: &Given) -> Result<(), Failure> {
@@ -90,7 +90,7 @@ fn totals(tree: Tree) -> Vec<(u8, u64)> {
 
 /// One of several.
 fn line(name: &str, tree: Tree, beside: Option<&Beside>) -> String {
-    let rows = tree.rows().map_or(String::new(), |rows| format!(", {}", say::several(rows, "row")));
+    let rows = tree.row_count().map_or(String::new(), |rows| format!(", {}", say::several(rows, "row")));
     let (size, length) = (tree.size(), tree.text_length());
     let manifest = beside.map(|beside| &beside.manifest);
     let term = manifest.and_then(Manifest::term).map(|term| term.to_string());
@@ -112,7 +112,7 @@ fn table(name: &str, tree: Tree, beside: Option<&Beside>) -> String {
     for (byte, total) in totals(tree) {
         text += &format!("counted     {byte} '{}': {} times\n", [byte].escape_ascii(), grouped(total));
     }
-    if let Ok(rows) = tree.rows() {
+    if let Ok(rows) = tree.row_count() {
         text += &format!("rows        {}\n", grouped(rows));
     }
     text += &beside.map_or(String::new(), from_manifest);
@@ -148,7 +148,7 @@ fn object(name: &str, tree: Tree) -> Object {
     let object = Object::new().text("tree", name).number("size", tree.size()).number("length", tree.text_length()).number("layout", tree.layout());
     let object = object.number("leaf", settings.leaf).number("arity", settings.arity).number("levels", settings.levels);
     let object = object.numbers("counted", &settings.counted).objects("totals", counted);
-    let object = tree.rows().map_or(object.clone(), |rows| object.number("rows", rows));
+    let object = tree.row_count().map_or(object.clone(), |rows| object.number("rows", rows));
     saving(object.object("bytes", &bytes).objects("by_level", levels), tree)
 }
 
@@ -181,7 +181,7 @@ pub fn sizes(given: &Given) -> Result<(), Failure> {
     let counted = build::counted(given)?;
     let settings = build::settings(given, &counted)?.ok_or_else(|| given.usage("--leaf, --arity and --levels are missing"))?;
     let told = format!("{}; bytes counted: {}", shape(&settings), listed(&counted));
-    let tree = enough(length as usize, &settings)
+    let tree = size_bound(length as usize, &settings)
         .map_err(|refusal| Failure::library("", refusal, format!("{refusal}; given: {} bytes, {told}", grouped(length))))?;
     let words = scan_words(length, settings.leaf);
     if given.json() {

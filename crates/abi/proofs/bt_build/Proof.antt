@@ -11,7 +11,7 @@ bt-build-spec =
     (λ c. search needs)
     (λ c. search needs)
     (λ c. search needs)
-    (λ c. let w = c .before .before .before .before .before in let z = laws.build-told
+    (λ c. let w = c .before .before .before .before .before in let z = laws.build-answered
     _ _ _ (w .build .ensures .0) (w .build .ensures .1 .0) _ (c .before .built .given .1) in (z .0, (z .1, w .build .ensures .1 .1)))
     (λ c. search needs)
     (λ c. let w = c .before .before .before .before .before in let z = laws.build-refused

@@ -12,7 +12,7 @@ bt-build-scanned-spec =
     (λ c. search needs)
     (λ c. search needs)
     (λ c. search needs)
-    (λ c. let e = c .before .before .before .before .before .before .before .build-scanned .ensures in let z = laws.scan-told
+    (λ c. let e = c .before .before .before .before .before .before .before .build-scanned .ensures in let z = laws.scan-answered
     _ _ _ _ (e .0) (e .1 .0) (e .1 .1 .0) _ _ (e .1 .1 .1 .1) _ _ (c .before .scanned .given .1) in (z .0, (z .1, (z .2, (e .1 .1 .1 .0, z .3)))))
     (λ c. search needs)
     (λ c. search needs)

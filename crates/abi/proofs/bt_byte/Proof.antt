@@ -11,5 +11,5 @@ bt-byte-spec =
     (λ c. search needs)
     (λ c. search needs)
     (λ c. search needs)
-    (λ c. laws.byte-told _ _ (c .before .before .before .byte .ensures) _ _ (c .before .answer .given .1))
+    (λ c. laws.byte-answered _ _ (c .before .before .before .byte .ensures) _ _ (c .before .answer .given .1))
     (λ c. laws.byte-refused _ _ (c .before .before .before .byte .ensures) _ (c .before .answer2 .given .1)))

@@ -14,5 +14,5 @@ bt-count-spec =
     (λ c κs. search needs)
     (λ c. search needs)
     (λ c. search needs)
-    (λ c. laws.count-told _ _ (c .before .before .before .count .ensures .says) _ _ (c .before .counted .given .1))
-    (λ c. laws.count-refused _ _ (c .before .before .before .count .ensures .says) _ (c .before .counted2 .given .1)))
+    (λ c. laws.count-answered _ _ (c .before .before .before .count .ensures .answers) _ _ (c .before .counted .given .1))
+    (λ c. laws.count-refused _ _ (c .before .before .before .count .ensures .answers) _ (c .before .counted2 .given .1)))

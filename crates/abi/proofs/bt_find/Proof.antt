@@ -14,5 +14,5 @@ bt-find-spec =
     (λ c κs. search needs)
     (λ c. search needs)
     (λ c. search needs)
-    (λ c. laws.find-told _ _ _ _ (c .before .before .before .find .ensures .says) _ _ (c .before .found .given .1))
-    (λ c. laws.find-refused _ _ _ _ (c .before .before .before .find .ensures .says) _ (c .before .found2 .given .1)))
+    (λ c. laws.find-answered _ _ _ _ (c .before .before .before .find .ensures .answers) _ _ (c .before .found .given .1))
+    (λ c. laws.find-refused _ _ _ _ (c .before .before .before .find .ensures .answers) _ (c .before .found2 .given .1)))

@@ -11,6 +11,6 @@ bt-list-spec =
     (λ c. search needs)
     (λ c. search needs)
     (λ c. search needs)
-    (λ c. let l = c .before .before .before .before .before .list .ensures in (laws.list-told _ _ (l .0 .says) _ (c .before .listed .given .1), l .1))
+    (λ c. let l = c .before .before .before .before .before .list .ensures in (laws.list-answered _ _ (l .0 .answers) _ (c .before .listed .given .1), l .1))
     (λ c. search needs)
-    (λ c. let l = c .before .before .before .before .before .list .ensures in (laws.list-refused _ _ (l .0 .says) _ (c .before .listed2 .given .1), l .1)))
+    (λ c. let l = c .before .before .before .before .before .list .ensures in (laws.list-refused _ _ (l .0 .answers) _ (c .before .listed2 .given .1), l .1)))

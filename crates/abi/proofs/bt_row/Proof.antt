@@ -11,6 +11,6 @@ bt-row-spec =
     (λ c. search needs)
     (λ c. search needs)
     (λ c. search needs)
-    (λ c. laws.row-told _ _ _ _ _ (c .before .before .before .before .before .row .ensures .says) _ (c .before .copied .given .1))
+    (λ c. laws.row-answered _ _ _ _ _ (c .before .before .before .before .before .row .ensures .answers) _ (c .before .copied .given .1))
     (λ c. search needs)
-    (λ c. laws.row-refused _ _ _ _ _ (c .before .before .before .before .before .row .ensures .says) _ (c .before .copied2 .given .1)))
+    (λ c. laws.row-refused _ _ _ _ _ (c .before .before .before .before .before .row .ensures .answers) _ (c .before .copied2 .given .1)))

@@ -12,7 +12,7 @@ bt-span-spec =
     (λ c. search needs)
     (λ c. search needs)
     (λ c. let k = c .before .before .before .before .before .span .ensures in
-    let a = laws.span-told _ _ _ _ _ (k .0) _ _ (c .before .copied .given .1) in (a .0, (a .1, k .1)))
+    let a = laws.span-answered _ _ _ _ _ (k .0) _ _ (c .before .copied .given .1) in (a .0, (a .1, k .1)))
     (λ c. search needs)
     (λ c. let k = c .before .before .before .before .before .span .ensures in
     let a = laws.span-refused _ _ _ _ _ (k .0) _ (c .before .copied2 .given .1) in (a .0, (a .1, k .1))))

@@ -23,7 +23,7 @@ build-scanned-spec =
     (λ c. search needs)
     (λ c. let w = c .before .before .before .before .before .before .before .before in let v = w .before .before in
     let a = v .before .before .before .before .before .before .args in let e = c .before .before .before .before .scan-with .ensures in
-    let t = laws.settings-said (a .leaf) (a .arity) (a .levels) (a .counted .now) (a .text .now) (a .out .now) (a .words .now) (first.few-bytes
+    let t = laws.settings-answer (a .leaf) (a .arity) (a .levels) (a .counted .now) (a .text .now) (a .out .now) (a .words .now) (first.few-bytes
     (a .text .now) (v .before .if1 .left)) _ (v .new .ensures) _ (w .checked .given .1) (c .before .before .before .before .scan-with .result)
     _ _ (e .0) (e .1 .0) (e .1 .1 .0) (e .1 .1 .1 .0) (e .1 .1 .1 .1) in (t .number, (t .size, (t .windows, (t .buffer, t .table)))))
     (λ c. let w = c .before .before .before in let a = w .before .before .before .before .before .before .args in let t = laws.settings-refused

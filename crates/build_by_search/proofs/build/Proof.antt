@@ -19,7 +19,7 @@ build-spec =
     (λ c. search needs)
     (λ c. search needs)
     (λ c. let w = c .before .before .before .before .before in let v = w .before .before in let a = v .before .before .before .before .before .args in
-    let t = laws.settings-told (a .leaf) (a .arity) (a .levels) (a .counted .now) (a .text .now) (a .out .now)
+    let t = laws.settings-answered (a .leaf) (a .arity) (a .levels) (a .counted .now) (a .text .now) (a .out .now)
     (laws.few-bytes (a .text .now) (v .before .if1 .left)) _ (v .new .ensures) _ (w .checked .given .1) (c .before .before .build-with .result)
     _ (c .before .before .build-with .ensures .0) (c .before .before .build-with .ensures .1 .0) (c .before .before .build-with .ensures .1 .1) in
     (t .number, (t .size, t .buffer)))

@@ -1,6 +1,6 @@
 use native.Mathlib.Omega.{arith}
 use borrow.Author.Needs.{needs}
-use Rattle.layout.specs.HeaderSays.{header-good}
+use Rattle.layout.specs.HeaderFields.{header-good}
 use Rattle.build_without_edges.proofs.WithoutEdgesLaws as laws
 use Rattle.build_without_edges.proofs.without_edges.Statement.{statement}
 use Rattle.build_without_edges.proofs.without_edges.Tie as tie

@@ -1,5 +1,5 @@
 use borrow.Author.Needs.{needs}
-use Rattle.layout.specs.HeaderSays.{header-good}
+use Rattle.layout.specs.HeaderFields.{header-good}
 use Rattle.list_lines.proofs.LineLaws as laws
 use Rattle.list_lines.proofs.level_lines.Statement.{statement}
 use Rattle.list_lines.proofs.level_lines.Tie as tie

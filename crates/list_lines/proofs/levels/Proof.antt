@@ -6,10 +6,10 @@ use native.Mathlib.Omega.{arith}
 use Rattle.list_lines.proofs.LineLaws as laws
 use Rattle.list_lines.proofs.levels.Statement.{statement}
 use Rattle.list_lines.proofs.levels.Tie as tie
-use Rattle.list_lines.specs.ListedLines.{linesBelow, maxLine, Put}
+use Rattle.list_lines.specs.ListedLines.{linesBelow, maxLine, ListPut}
 
 abbrev Inv-loop : tie.InvT-loop
-Inv-loop t h out₀ count end₀ l₀ out end l = (l ≤ count) × (length out ≡ length out₀) × Put out₀ out 0 end (linesBelow t l) (maxLine * l)
+Inv-loop t h out₀ count end₀ l₀ out end l = (l ≤ count) × (length out ≡ length out₀) × ListPut out₀ out 0 end (linesBelow t l) (maxLine * l)
 
 abbrev μ-loop : tie.MeasureT-loop
 μ-loop t h out₀ count end₀ l₀ out end l = count - l

@@ -1,5 +1,5 @@
 use borrow.Author.Needs.{needs}
-use Rattle.layout.specs.HeaderSays.{header-good}
+use Rattle.layout.specs.HeaderFields.{header-good}
 use Rattle.query_digest.proofs.DigestAnswerLaws as laws
 use Rattle.query_digest.proofs.digest.Statement.{statement}
 use Rattle.query_digest.proofs.digest.Tie as tie

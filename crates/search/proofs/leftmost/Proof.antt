@@ -2,7 +2,7 @@
 use native.Mathlib.Omega.{arith}
 use borrow.Author.Needs.{needs}
 use Rattle.search.proofs.Usable.{ready}
-use Rattle.search.proofs.AnswerCases.{says-outside, says-at}
+use Rattle.search.proofs.AnswerCases.{answers-outside, answers-at}
 use Rattle.search.proofs.leftmost.Statement.{statement}
 use Rattle.search.proofs.leftmost.Tie as tie
 
@@ -12,7 +12,7 @@ leftmost-spec =
     (tie.spec
     (λ c. search needs)
     (λ c. search needs)
-    (λ c. says-outside _ _ _ (c .if1 .taken))
+    (λ c. answers-outside _ _ _ (c .if1 .taken))
     (λ c κs. search needs)
     (λ c κs. (omega arith, rw (c .new .ensures) (ready _ _)))
-    (λ c. says-at _ _ _ _ (c .before .before .if1 .left) (c .scan .ensures)))
+    (λ c. answers-at _ _ _ _ (c .before .before .if1 .left) (c .scan .ensures)))

@@ -1,5 +1,5 @@
 use borrow.Author.Needs.{needs}
-use Rattle.layout.specs.HeaderSays.{header-good}
+use Rattle.layout.specs.HeaderFields.{header-good}
 use Rattle.tree.proofs.CheckLaws.{header-number}
 use Rattle.tree.proofs.check.Statement.{statement}
 use Rattle.tree.proofs.check.Tie as tie

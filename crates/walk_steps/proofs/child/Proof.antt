@@ -17,7 +17,7 @@ child-spec =
     (λ c. search needs)
     (λ c. search needs)
     (λ c. let w = c .before .before .before in
-    laws.child-past _ _ _ _ _ _ _ _ (w .before .before .link .ensures) (w .before .level-count .ensures) (w .part-of .ensures) (c .if1 .taken))
+    laws.child-past _ _ _ _ _ _ _ _ (w .before .before .link .ensures) (w .before .level-count .ensures) (w .div-rem .ensures) (c .if1 .taken))
     (λ c. search needs)
     (λ c. let w = c .before .before .before .before in laws.child-there
-    _ _ _ _ _ _ _ _ (w .before .before .link .ensures) (w .before .level-count .ensures) (w .part-of .ensures) _ refl (c .before .if1 .left)))
+    _ _ _ _ _ _ _ _ (w .before .before .link .ensures) (w .before .level-count .ensures) (w .div-rem .ensures) _ refl (c .before .if1 .left)))

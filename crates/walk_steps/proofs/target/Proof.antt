@@ -22,4 +22,4 @@ target-spec =
     (λ c. search needs)
     (λ c κs. search needs)
     (λ c. let w = c .before .before .before .before .before in laws.target-by _ _ _ _ _ _
-    (w .before .before .before .pre) _ _ (w .before .link .ensures) (w .gap .ensures) _ _ (c .before .before .past .ensures .0) (c .look-after .ensures)))
+    (w .before .before .before .pre) _ _ (w .before .link .ensures) (w .gap .ensures) _ _ (c .before .before .past .ensures .0) (c .classify-next .ensures)))

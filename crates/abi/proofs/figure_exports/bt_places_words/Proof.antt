@@ -10,5 +10,5 @@ bt-places-words-spec =
     (λ c κs. search needs)
     (λ c. search needs)
     (λ c. search needs)
-    (λ c. laws.room-told _ _ (c .before .before .before .places-words .ensures .says) _ (c .before .room .given .1))
-    (λ c. laws.room-refused _ _ (c .before .before .before .places-words .ensures .says) _ (c .before .room2 .given .1)))
+    (λ c. laws.room-answered _ _ (c .before .before .before .places-words .ensures .answers) _ (c .before .room .given .1))
+    (λ c. laws.room-refused _ _ (c .before .before .before .places-words .ensures .answers) _ (c .before .room2 .given .1)))

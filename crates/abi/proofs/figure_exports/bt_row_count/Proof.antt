@@ -10,5 +10,5 @@ bt-row-count-spec =
     (λ c κs. search needs)
     (λ c. search needs)
     (λ c. search needs)
-    (λ c. laws.count-told _ _ (c .before .before .before .row-count .ensures .says) _ (c .before .count .given .1))
-    (λ c. laws.count-refused _ _ (c .before .before .before .row-count .ensures .says) _ (c .before .count2 .given .1)))
+    (λ c. laws.count-answered _ _ (c .before .before .before .row-count .ensures .answers) _ (c .before .count .given .1))
+    (λ c. laws.count-refused _ _ (c .before .before .before .row-count .ensures .answers) _ (c .before .count2 .given .1)))

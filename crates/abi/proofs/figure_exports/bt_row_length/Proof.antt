@@ -10,5 +10,5 @@ bt-row-length-spec =
     (λ c κs. search needs)
     (λ c. search needs)
     (λ c. search needs)
-    (λ c. laws.length-told _ _ _ (c .before .before .before .row-length .ensures .says) _ (c .before .length .given .1))
-    (λ c. laws.length-refused _ _ _ (c .before .before .before .row-length .ensures .says) _ (c .before .length2 .given .1)))
+    (λ c. laws.length-answered _ _ _ (c .before .before .before .row-length .ensures .answers) _ (c .before .length .given .1))
+    (λ c. laws.length-refused _ _ _ (c .before .before .before .row-length .ensures .answers) _ (c .before .length2 .given .1)))

@@ -14,5 +14,5 @@ bt-find-guided-spec =
     (λ c κs. search needs)
     (λ c. search needs)
     (λ c. search needs)
-    (λ c. laws.guided-told _ _ _ _ _ (c .before .before .before .find-guided .ensures .says) _ _ _ (c .before .found .given .1))
-    (λ c. laws.guided-refused _ _ _ _ _ (c .before .before .before .find-guided .ensures .says) _ (c .before .found2 .given .1)))
+    (λ c. laws.guided-answered _ _ _ _ _ (c .before .before .before .find-guided .ensures .answers) _ _ _ (c .before .found .given .1))
+    (λ c. laws.guided-refused _ _ _ _ _ (c .before .before .before .find-guided .ensures .answers) _ (c .before .found2 .given .1)))

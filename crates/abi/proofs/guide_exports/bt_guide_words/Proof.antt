@@ -10,5 +10,5 @@ bt-guide-words-spec =
     (λ c κs. search needs)
     (λ c. search needs)
     (λ c. search needs)
-    (λ c. laws.size-told _ _ (c .before .before .before .guide-words .ensures .0) _ (c .before .size .given .1))
+    (λ c. laws.size-answered _ _ (c .before .before .before .guide-words .ensures .0) _ (c .before .size .given .1))
     (λ c. laws.size-refused _ _ (c .before .before .before .guide-words .ensures .0) _ (c .before .size2 .given .1)))

@@ -11,6 +11,6 @@ bt-make-guide-spec =
     (λ c. search needs)
     (λ c. search needs)
     (λ c. search needs)
-    (λ c. let m = c .before .before .before .before .before .make-guide .ensures in (laws.size-told _ _ (m .0 .0) _ (c .before .size .given .1), m .1))
+    (λ c. let m = c .before .before .before .before .before .make-guide .ensures in (laws.size-answered _ _ (m .0 .0) _ (c .before .size .given .1), m .1))
     (λ c. search needs)
     (λ c. let m = c .before .before .before .before .before .make-guide .ensures in (laws.size-refused _ _ (m .0 .0) _ (c .before .size2 .given .1), m .1)))

@@ -13,6 +13,6 @@ bt-days-left-spec =
     (λ c κs. search needs)
     (λ c. search needs)
     (λ c. search needs)
-    (λ c. let k = laws.left-told _ _ _ (c .before .before .before .days-left .ensures) _ (c .before .left .given .1) in
+    (λ c. let k = laws.left-answered _ _ _ (c .before .before .before .days-left .ensures) _ (c .before .left .given .1) in
     (k .0, toZ-ofZ w32 _ (record { sfits = c .known-told .given .0 .1 }) ∙ k .1))
     (λ c. laws.left-refused _ _ _ (c .before .before .before .days-left .ensures) _ (c .before .left2 .given .1)))

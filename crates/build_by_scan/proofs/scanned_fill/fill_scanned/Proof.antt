@@ -2,13 +2,13 @@ use borrow.Author.Needs.{needs}
 use native.Mathlib.Omega.{arith}
 use Prim.Native.Nat.{_-_}
 use Rattle.build_by_search.proofs.LevelFillLaws as laws
-use Rattle.build_records.proofs.StateLaws.{few}
-use Rattle.build_records.specs.State.{settingsOf}
+use Rattle.build_records.proofs.StateLaws.{record-few}
+use Rattle.build_records.specs.State.{recordSettingsOf}
 use Rattle.build_by_scan.proofs.scanned_fill.fill_scanned.Statement.{statement}
 use Rattle.build_by_scan.proofs.scanned_fill.fill_scanned.Tie as tie
 
 abbrev Inv-loop : tie.InvT-loop
-Inv-loop out₀ words text counted level left₀ link₀ i₀ out left link i = laws.Going (settingsOf (level .settings) counted) text level out₀ out left link i
+Inv-loop out₀ words text counted level left₀ link₀ i₀ out left link i = laws.Going (recordSettingsOf (level .settings) counted) text level out₀ out left link i
 
 abbrev μ-loop : tie.MeasureT-loop
 μ-loop out₀ words text counted level left₀ link₀ i₀ out left link i = level .count - i
@@ -38,7 +38,7 @@ fill-scanned-spec =
           _ _ (c .before .before .put-block .ensures .0) (c .before .before .put-block .ensures .1 .0) (c .before .before .put-block .ensures .1 .1),
     ))
     (λ c. let w = c .before .before .before .before .before .before .before .before .before in
-    let z = w .before .before .before .before .before .before .before in omega (arith, w .if1 .taken, few _ _ _ (z .pre .0 .level-is) .count-few))
+    let z = w .before .before .before .before .before .before .before in omega (arith, w .if1 .taken, record-few _ _ _ (z .pre .0 .level-is) .count-few))
     (λ c. omega (arith, c .before .before .before .before .before .before .before .before .before .if1 .taken))
     (λ c. let w = c .before .before .before .before .before .before in let v = w .before .before .before in
     let z = v .before .before .before .before .before .before .before in let g = v .before .before .loop .inv in

@@ -2,9 +2,9 @@ use borrow.Author.Needs.{needs}
 use native.Mathlib.Omega.{arith}
 use lib.ListN.{length}
 use Rattle.format.specs.Blocks.{recordBytes}
-use Rattle.build_records.specs.State.{settingsOf}
+use Rattle.build_records.specs.State.{recordSettingsOf}
 use Rattle.build_by_scan.proofs.TableRoom.{pieces-few}
-use Rattle.build_by_scan.proofs.TableTold.{same-items}
+use Rattle.build_by_scan.proofs.TableGivesMarking.{same-items}
 use Rattle.build_by_scan.proofs.table.items_of.Statement.{statement}
 use Rattle.build_by_scan.proofs.table.items_of.Tie as tie
 
@@ -28,5 +28,5 @@ items-of-spec =
     let p = z .pre in omega (arith, p .5, p .1, pieces-few (length (z .args .text .now)) (z .args .level .settings .leaf), p .3, p .4))
     (λ c κs. search needs)
     (λ c. let z = c .before .before .before .before .before .before in
-    same-items (length (z .args .text .now)) (recordBytes (settingsOf (z .args .level .settings) (z .args .counted .now)))
-    (z .args .level) (z .args .seed) _ _ _ (c .before .before .pieces .ensures) (c .before .record-size .ensures .0) (c .shorter .ensures)))
+    same-items (length (z .args .text .now)) (recordBytes (recordSettingsOf (z .args .level .settings) (z .args .counted .now)))
+    (z .args .level) (z .args .seed) _ _ _ (c .before .before .pieces .ensures) (c .before .record-size .ensures .0) (c .min .ensures)))

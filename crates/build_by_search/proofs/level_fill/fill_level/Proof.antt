@@ -2,13 +2,13 @@ use borrow.Author.Needs.{needs}
 use Prim.Native.Nat.{_-_}
 use native.Mathlib.Omega.{arith}
 use Rattle.build_by_search.proofs.LevelFillLaws as laws
-use Rattle.build_records.proofs.StateLaws.{few}
-use Rattle.build_records.specs.State.{settingsOf}
+use Rattle.build_records.proofs.StateLaws.{record-few}
+use Rattle.build_records.specs.State.{recordSettingsOf}
 use Rattle.build_by_search.proofs.level_fill.fill_level.Statement.{statement}
 use Rattle.build_by_search.proofs.level_fill.fill_level.Tie as tie
 
 abbrev Inv-loop : tie.InvT-loop
-Inv-loop out₀ text counted level left₀ link₀ i₀ out left link i = laws.Going (settingsOf (level .settings) counted) text level out₀ out left link i
+Inv-loop out₀ text counted level left₀ link₀ i₀ out left link i = laws.Going (recordSettingsOf (level .settings) counted) text level out₀ out left link i
 
 abbrev μ-loop : tie.MeasureT-loop
 μ-loop out₀ text counted level left₀ link₀ i₀ out left link i = level .count - i
@@ -38,7 +38,7 @@ fill-level-spec =
       arith,
       w .before .before .loop .inv .within,
       w .if1 .taken,
-      few _ _ _ (w .before .before .before .before .before .before .pre .level-is) .count-few,
+      record-few _ _ _ (w .before .before .before .before .before .before .pre .level-is) .count-few,
     ))
     (λ c. let w = c .before .before .before .before .before .before .before .before .before in
     omega (arith, w .before .before .loop .inv .within, w .if1 .taken))

@@ -4,7 +4,7 @@ use Prim.Native.Nat.{ℕ, _+_, _-_, _*_, _≤_, _<_}
 use lib.ListN.{getD}
 use Rattle.format.specs.Layout.{wordAt}
 use Rattle.format.specs.Layout as at
-use Rattle.ask_guide.specs.Guides.{guideOf, listedEvery}
+use Rattle.query_guide.specs.Guides.{guideOf, listedEvery}
 use Rattle.build_guide.proofs.GuideWrittenLaws as laws
 use Rattle.build_guide.proofs.GuideWrittenLaws.{false-not, true-not}
 use Rattle.build_guide.proofs.guide_checked.entries_right.Statement.{statement}

@@ -5,8 +5,8 @@ use lib.ListN.{getD}
 use borrow.Author.Tests.{not-true, not-false}
 use Rattle.format.specs.Layout.{wordAt}
 use Rattle.format.specs.Layout as at
-use Rattle.ask_guide.specs.Guides.{entriesBefore, guideOf}
-use Rattle.ask_guide.proofs.GuideList as list
+use Rattle.query_guide.specs.Guides.{entriesBefore, guideOf}
+use Rattle.query_guide.proofs.GuideList as list
 use Rattle.build_guide.proofs.GuideWrittenLaws as laws
 use Rattle.build_guide.proofs.guide_checked.right_by.Statement.{statement}
 use Rattle.build_guide.proofs.guide_checked.right_by.Tie as tie

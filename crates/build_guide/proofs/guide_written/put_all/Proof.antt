@@ -2,9 +2,9 @@ use native.Mathlib.Omega.{arith}
 use mathlib.Core.Path.{_≡_}
 use Prim.Native.Nat.{_-_, _≤_, _<_}
 use Rattle.format.specs.Layout as at
-use Rattle.ask_guide.specs.Guides.{entriesBefore}
+use Rattle.query_guide.specs.Guides.{entriesBefore}
 use Rattle.build_guide.specs.EntriesWritten.{Puts}
-use Rattle.ask_guide.proofs.GuideList as list
+use Rattle.query_guide.proofs.GuideList as list
 use Rattle.build_guide.proofs.GuideWrittenLaws as laws
 use Rattle.build_guide.proofs.guide_written.put_all.Statement.{statement}
 use Rattle.build_guide.proofs.guide_written.put_all.Tie as tie

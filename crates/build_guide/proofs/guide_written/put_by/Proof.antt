@@ -2,7 +2,7 @@ use borrow.Author.Needs.{needs}
 use native.Mathlib.Omega.{arith}
 use mathlib.Core.Path.{_∙_, ap}
 use Prim.Native.Nat.{ℕ}
-use Rattle.ask_guide.proofs.GuideList as list
+use Rattle.query_guide.proofs.GuideList as list
 use Rattle.build_guide.proofs.GuideWrittenLaws as laws
 use Rattle.build_guide.proofs.guide_written.put_by.Statement.{statement}
 use Rattle.build_guide.proofs.guide_written.put_by.Tie as tie

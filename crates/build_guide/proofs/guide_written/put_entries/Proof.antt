@@ -6,7 +6,7 @@ use Rattle.build_guide.specs.EntriesWritten.{Puts}
 use Rattle.build_guide.proofs.GuideWrittenLaws as laws
 use Rattle.build_guide.proofs.guide_written.put_entries.Statement.{statement}
 use Rattle.build_guide.proofs.guide_written.put_entries.Tie as tie
-use Rattle.ask_guide.specs.Guides.{listedEvery}
+use Rattle.query_guide.specs.Guides.{listedEvery}
 
 abbrev Inv-loop : tie.InvT-loop
 Inv-loop table₀ t h number place count block₀ e₀ table block e =

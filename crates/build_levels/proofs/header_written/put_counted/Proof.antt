@@ -7,7 +7,7 @@ use Rattle.build_levels.proofs.HeaderWrittenLaws.{places-more}
 use Rattle.build_levels.proofs.header_written.put_counted.Statement.{statement}
 use Rattle.build_levels.proofs.header_written.put_counted.Tie as tie
 use Rattle.build_levels.specs.Head.{places}
-use Rattle.stretches.specs.Stretches.{bytesWritten}
+use Rattle.byte_slices.specs.ByteSlices.{bytesWritten}
 
 abbrev Inv-loop : tie.InvT-loop
 Inv-loop out₀ counted x₀ out x = (x ≤ maxCounted) × ((length out ≡ length out₀) × (out ≡ bytesWritten out₀ countedAt (places counted) 0 x))

@@ -1,6 +1,6 @@
 use native.Mathlib.Omega.{arith}
 use Rattle.build_levels.proofs.LevelStepLaws as laws
-use Rattle.build_records.proofs.StateLaws.{few}
+use Rattle.build_records.proofs.StateLaws.{record-few}
 use Rattle.theory_built.specs.BlockSizes.{bounds}
 use Rattle.build_levels.proofs.level_step.finish.Statement.{statement}
 use Rattle.build_levels.proofs.level_step.finish.Tie as tie
@@ -10,7 +10,7 @@ finish-spec =
     tie.close
     (tie.spec
     (λ c κs. laws.pair-asks _ _ _ _ _ (c .before .before .before .before .pre .0))
-    (λ c κs. let f = few _ _ _ (c .before .before .before .before .before .before .before .pre .0 .level-is) in
+    (λ c κs. let f = record-few _ _ _ (c .before .before .before .before .before .before .before .pre .0 .level-is) in
     (f .counted-few, f .table-few, f .count-few, f .leaf-few))
     (λ c. omega (
       arith,

@@ -1,7 +1,7 @@
 use native.Mathlib.Omega.{arith}
 use Rattle.build_levels.proofs.LevelStepLaws as laws
 use Rattle.build_records.proofs.Growth.{grown-then}
-use Rattle.build_records.proofs.StateLaws.{few}
+use Rattle.build_records.proofs.StateLaws.{record-few}
 use Rattle.theory_built.specs.BlockSizes.{bounds}
 use Rattle.build_levels.proofs.level_step.go_down.Statement.{statement}
 use Rattle.build_levels.proofs.level_step.go_down.Tie as tie
@@ -11,7 +11,7 @@ go-down-spec =
     tie.close
     (tie.spec
     (λ c κs. laws.pair-asks _ _ _ _ _ (c .before .before .before .before .pre .0))
-    (λ c κs. let w = c .before .before .before .before .before .before .before in let f = few _ _ _ (w .pre .0 .level-is) in let b = bounds
+    (λ c κs. let w = c .before .before .before .before .before .before .before in let f = record-few _ _ _ (w .pre .0 .level-is) in let b = bounds
     _ _ (w .pre .0 .level-is .taken) in (
       (
         f .counted-few,

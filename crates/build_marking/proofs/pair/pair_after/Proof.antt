@@ -2,7 +2,7 @@ use borrow.Author.Needs.{needs}
 use native.Mathlib.Omega.{arith}
 use Rattle.build_marking.proofs.PairLaws as laws
 use Rattle.build_records.proofs.RecordsRead.{start-fits, start-read, start-in}
-use Rattle.build_records.proofs.StateLaws.{few}
+use Rattle.build_records.proofs.StateLaws.{record-few}
 use Rattle.build_marking.proofs.pair.pair_after.Statement.{statement}
 use Rattle.build_marking.proofs.pair.pair_after.Tie as tie
 
@@ -14,11 +14,11 @@ pair-after-spec =
     (λ c. laws.apart-last _ _ _ _ _ (c .before .before .before .before .before .before .pre) (c .if1 .taken))
     (λ c. search needs)
     (λ c. laws.apart-end _ _ _ _ _ (c .before .before .before .before .before .before .before .before .before .pre) (c .if2 .taken))
-    (λ c κs. let w = c .before .before .before .before .before .before .before .before .before in let f = few _ _ _ (w .pre .level-is) in
+    (λ c κs. let w = c .before .before .before .before .before .before .before .before .before in let f = record-few _ _ _ (w .pre .level-is) in
     (f .counted-few, f .table-few, omega (arith, w .pre .block-in, f .count-few), f .leaf-few, start-fits _ _ _ _ _ (w .pre) _ (w .pre .block-in)))
     (λ c. search needs)
     (λ c κs. let w = c .before .before .before .before .before .before .before .before .before .before .before in
-    let f = few _ _ _ (w .pre .level-is) in (
+    let f = record-few _ _ _ (w .pre .level-is) in (
       f .counted-few,
       f .table-few,
       omega (arith, w .pre .block-in, f .count-few),
@@ -26,7 +26,7 @@ pair-after-spec =
       start-fits _ _ _ _ _ (w .pre) _ (omega (arith, w .pre .block-in, c .before .before .if2 .left)),
     ))
     (λ c. let w = c .before .before .before .before .before .before .before .before .before .before .before .before .before .before in
-    let f = few _ _ _ (w .pre .level-is) in omega (
+    let f = record-few _ _ _ (w .pre .level-is) in omega (
       arith,
       f .size-few,
       f .text-few,
@@ -38,7 +38,7 @@ pair-after-spec =
     let v = w .before .before in laws.apart-far _ _ _ _ _ (v .before .before .before .before .before .before .before .before .before .before .pre)
     _ _ (v .start .ensures) (v .before .if2 .left) (w .start2 .ensures) (λ e. omega (arith, c .if3 .taken)))
     (λ c κs. let w = c .before .before .before .before .before .before .before .before .before .before .before .before .before .before .before .before
-    in let f = few _ _ _ (w .pre .level-is) in (
+    in let f = record-few _ _ _ (w .pre .level-is) in (
       omega (
         arith,
         c .before .before .before .before .before .before .start .ensures,

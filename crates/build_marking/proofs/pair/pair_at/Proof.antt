@@ -13,6 +13,6 @@ pair-at-spec =
     (λ c κs. search needs)
     (λ c κs. search needs)
     (λ c. let w = c .before .before .before .before .before in let a = w .args in again-here (a .text .now)
-    (a .start .0) (a .size) _ _ (w .pre .0) (c .before .before .shorter .ensures) (c .before .occurs-earlier .ensures) (c .if1 .taken))
+    (a .start .0) (a .size) _ _ (w .pre .0) (c .before .before .min .ensures) (c .before .occurs-earlier .ensures) (c .if1 .taken))
     (λ c. let w = c .before .before .before .before .before in let a = w .args in first-here (a .text .now)
-    (a .start .0) (a .size) _ _ (w .pre .0) (c .before .before .shorter .ensures) (c .before .occurs-earlier .ensures) (c .if1 .left)))
+    (a .start .0) (a .size) _ _ (w .pre .0) (c .before .before .min .ensures) (c .before .occurs-earlier .ensures) (c .if1 .left)))

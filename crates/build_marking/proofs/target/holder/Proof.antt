@@ -4,11 +4,11 @@ use Rattle.build_marking.proofs.TargetStep.{one-left}
 use Rattle.build_marking.proofs.target.holder.Statement.{statement}
 use Rattle.build_marking.proofs.target.holder.Tie as tie
 use Rattle.build_marking.specs.TargetSearch.{Between}
-use Rattle.build_records.specs.State.{settingsOf}
+use Rattle.build_records.specs.State.{recordSettingsOf}
 
 abbrev Inv-loop : tie.InvT-loop
 Inv-loop counted out level place range₀ range =
-    Between out (level .table) (level .count) (settingsOf (level .settings) counted) (place .0) (range .low .0) (range .high .0)
+    Between out (level .table) (level .count) (recordSettingsOf (level .settings) counted) (place .0) (range .low .0) (range .high .0)
 
 abbrev μ-loop : tie.MeasureT-loop
 μ-loop counted out level place range₀ range = range .high .0 - range .low .0
@@ -23,4 +23,4 @@ holder-spec =
     (λ c. c .narrow .ensures .1)
     (λ c. c .narrow .ensures .0)
     (λ c. let w = c .before .before .before .before in let a = w .before .before .before .args in one-left (a .out .now)
-    (a .level .table) (a .level .count) (settingsOf (a .level .settings) (a .counted .now)) _ _ _ (w .loop .inv) (c .before .if1 .left)))
+    (a .level .table) (a .level .count) (recordSettingsOf (a .level .settings) (a .counted .now)) _ _ _ (w .loop .inv) (c .before .if1 .left)))

@@ -1,6 +1,6 @@
 use native.Mathlib.Omega.{arith}
 use Rattle.build_marking.proofs.TargetLaws as laws
-use Rattle.build_records.proofs.StateLaws.{few}
+use Rattle.build_records.proofs.StateLaws.{record-few}
 use Rattle.build_marking.proofs.target.pointing_block.Statement.{statement}
 use Rattle.build_marking.proofs.target.pointing_block.Tie as tie
 
@@ -12,7 +12,7 @@ pointing-block-spec =
     (λ c κs. let w = c .before .before .before .before .before in
     (laws.sorted _ _ _ _ _ (w .pre .0), laws.whole-range _ _ _ _ _ (w .pre .0) (w .pre .1 .0) _ (w .pre .1 .1)))
     (λ c κs. let w = c .before .before .before .before .before .before in
-    let f = few _ _ _ (w .pre .0 .level-is) in (
+    let f = record-few _ _ _ (w .pre .0 .level-is) in (
       f .counted-few,
       f .table-few,
       omega (arith, c .holder .ensures .within, f .count-few),

@@ -2,7 +2,7 @@ use borrow.Author.Needs.{needs}
 use native.Mathlib.Omega.{arith}
 use Rattle.build_records.proofs.BelowLaws as laws
 use Rattle.build_records.proofs.Growth.{grown-none}
-use Rattle.build_records.proofs.StateLaws.{few}
+use Rattle.build_records.proofs.StateLaws.{record-few}
 use Rattle.build_records.proofs.below.put_children_of.Statement.{statement}
 use Rattle.build_records.proofs.below.put_children_of.Tie as tie
 
@@ -10,7 +10,7 @@ pub put-children-of-spec : {M : Type 1} → statement M
 put-children-of-spec =
     tie.close
     (tie.spec
-    (λ c κs. let f = few _ _ _ (c .before .before .before .pre .0 .level-is) in
+    (λ c κs. let f = record-few _ _ _ (c .before .before .before .pre .0 .level-is) in
     (f .counted-few, f .table-few, omega (arith, f .count-few, c .before .before .before .pre .1), f .leaf-few))
     (λ c. search needs)
     (λ c κs. let w = c .before .before .before .before .before in
@@ -29,7 +29,7 @@ put-children-of-spec =
     laws.pieces-asks _ _ _ _ _ _ (v .pre .0) (v .pre .1) _ (w .before .before .before .place .ensures .0)
     _ (w .before .read .ensures) (w .if1 .left) _ (c .before .before .read2 .ensures) _ (c .stretch-of .ensures))
     (λ c κs. let w = c .before .before .before .before .before .before in
-    let v = w .before .before .before .before .before .before .before in let f = few _ _ _ (v .pre .0 .next-is) in (
+    let v = w .before .before .before .before .before .before .before in let f = record-few _ _ _ (v .pre .0 .next-is) in (
       f .counted-few,
       f .table-few,
       laws.link-few _ _ _ _ _ _ (v .pre .0) (v .pre .1) _ (w .before .before .before .place .ensures .0)
@@ -37,7 +37,7 @@ put-children-of-spec =
       f .leaf-few,
     ))
     (λ c κs. let w = c .before .before .before .before .before .before .before in
-    let f = few _ _ _ (w .before .before .before .before .before .before .before .pre .0 .level-is) in (f .counted-few, f .leaf-few))
+    let f = record-few _ _ _ (w .before .before .before .before .before .before .before .pre .0 .level-is) in (f .counted-few, f .leaf-few))
     (λ c κs. let w = c .before .before .before .before .before .before .before .before in
     let v = w .before .before .before .before .before .before .before in
     laws.starts-ask _ _ _ _ _ _ (v .pre .0) (v .pre .1) _ (w .before .before .before .place .ensures .0) _ (w .before .read .ensures)

@@ -1,5 +1,5 @@
 use borrow.Author.Needs.{needs}
-use Rattle.build_records.proofs.LevelWrittenLaws.{size-is}
+use Rattle.build_records.proofs.LevelWrittenLaws.{record-size-is}
 use Rattle.build_records.proofs.level_written.record_size.Statement.{statement}
 use Rattle.build_records.proofs.level_written.record_size.Tie as tie
 
@@ -12,4 +12,4 @@ record-size-spec =
     (λ c. search needs)
     (λ c. search needs)
     (λ c. search needs)
-    (λ c. let z = c .before in size-is (z .args .s) (z .args .counted .now) (z .pre .0) (z .pre .1)))
+    (λ c. let z = c .before in record-size-is (z .args .s) (z .args .counted .now) (z .pre .0) (z .pre .1)))

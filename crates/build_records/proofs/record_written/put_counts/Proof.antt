@@ -7,16 +7,16 @@ use Rattle.build_records.proofs.RecordCounts as laws
 use Rattle.build_records.proofs.StateLaws.{writing-grown}
 use Rattle.build_records.proofs.record_written.put_counts.Statement.{statement}
 use Rattle.build_records.proofs.record_written.put_counts.Tie as tie
-use Rattle.build_records.specs.Grown.{Grown, Within}
-use Rattle.build_records.specs.State.{settingsOf, placeAt}
+use Rattle.build_records.specs.WritesOnlyTree.{WritesOnlyTree, AgreesOn}
+use Rattle.build_records.specs.State.{recordSettingsOf, placeAt}
 use Rattle.format.specs.Layout.{plainBytes, countedBytes}
 use Rattle.format.specs.Blocks.{treeOf}
 
 abbrev Inv-loop : tie.InvT-loop
 Inv-loop out₀ text counted level i block c₀ out c =
-    (c ≤ length counted) × ((length out ≡ length out₀) × (Grown (treeOf (settingsOf (level .settings) counted) text) out₀ out
-    × Within (treeOf (settingsOf (level .settings) counted) text) out (placeAt (settingsOf (level .settings) counted) text (level .number)
-    (i .0) + plainBytes) (placeAt (settingsOf (level .settings) counted) text (level .number) (i .0) + plainBytes + countedBytes * c)))
+    (c ≤ length counted) × ((length out ≡ length out₀) × (WritesOnlyTree (treeOf (recordSettingsOf (level .settings) counted) text) out₀ out
+    × AgreesOn (treeOf (recordSettingsOf (level .settings) counted) text) out (placeAt (recordSettingsOf (level .settings) counted) text (level .number)
+    (i .0) + plainBytes) (placeAt (recordSettingsOf (level .settings) counted) text (level .number) (i .0) + plainBytes + countedBytes * c)))
 
 abbrev μ-loop : tie.MeasureT-loop
 μ-loop out₀ text counted level i block c₀ out c = length counted - c
@@ -30,14 +30,14 @@ put-counts-spec =
       (
         refl,
         (
-          grown-none (treeOf (settingsOf (a .level .settings) (a .counted .now)) (a .text .now)) (a .out .now),
-          within-none (treeOf (settingsOf (a .level .settings) (a .counted .now)) (a .text .now)) _ _ _ (omega arith),
+          grown-none (treeOf (recordSettingsOf (a .level .settings) (a .counted .now)) (a .text .now)) (a .out .now),
+          within-none (treeOf (recordSettingsOf (a .level .settings) (a .counted .now)) (a .text .now)) _ _ _ (omega arith),
         ),
       ),
     ))
     (λ c κs. let w = c .before .before .before .before .before .before in
     let a = w .args in (
-      writing-grown (settingsOf (a .level .settings) (a .counted .now))
+      writing-grown (recordSettingsOf (a .level .settings) (a .counted .now))
           (a .text .now) (a .out .now) _ (a .level) (a .i .0) (a .block) (w .pre) (c .before .before .loop .inv .1 .1 .0),
       c .before .loop-test .taken,
     ))
@@ -49,9 +49,9 @@ put-counts-spec =
       (
         w .put-count-of .ensures .0 .same-length ∙ v .1 .0,
         (
-          grown-then (treeOf (settingsOf (a .level .settings) (a .counted .now)) (a .text .now)) _
+          grown-then (treeOf (recordSettingsOf (a .level .settings) (a .counted .now)) (a .text .now)) _
               _ _ (v .1 .1 .0) (w .put-count-of .ensures .0),
-          laws.one-more (treeOf (settingsOf (a .level .settings) (a .counted .now)) (a .text .now))
+          laws.one-more (treeOf (recordSettingsOf (a .level .settings) (a .counted .now)) (a .text .now))
               _ _ _ _ (v .1 .1 .1) (w .put-count-of .ensures .0) (w .put-count-of .ensures .1),
         ),
       ),
@@ -60,6 +60,6 @@ put-counts-spec =
     (λ c. let w = c .before .before .before .before .before in
     let a = w .args in let v = c .before .loop .inv in (
       v .1 .1 .0,
-      laws.counted-all (settingsOf (a .level .settings) (a .counted .now))
+      laws.counted-all (recordSettingsOf (a .level .settings) (a .counted .now))
           (a .text .now) (a .out .now) (a .level) (a .i .0) (a .block) (w .pre) _ (c .before .loop .c) (v .0) (omega arith) (v .1 .1 .1),
     )))

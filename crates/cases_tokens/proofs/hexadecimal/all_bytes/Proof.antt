@@ -2,7 +2,7 @@
 use Prim.Native.Nat.{_-_, _≤_}
 use native.Mathlib.Omega.{arith}
 use borrow.Author.Needs.{needs}
-use Rattle.cases_tokens.proofs.HexadecimalLaws.{Bytes, bytes-none, bytes-more, bytes-all, bytes-not}
+use Rattle.cases_tokens.proofs.HexadecimalLaws.{Bytes, bytes-none, token-bytes-more, bytes-all, bytes-not}
 use Rattle.cases_tokens.proofs.hexadecimal.all_bytes.Statement.{statement}
 use Rattle.cases_tokens.proofs.hexadecimal.all_bytes.Tie as tie
 
@@ -22,5 +22,5 @@ all-bytes-spec =
     _ _ (c .before .before .loop-test .taken) (c .before .byte .ensures) (c .if1 .taken))
     (λ c. search needs)
     (λ c. search needs)
-    (λ c. (omega arith, bytes-more _ _ _ (c .before .before .before .loop .inv .1) (c .before .byte .ensures) (c .if1 .left)))
+    (λ c. (omega arith, token-bytes-more _ _ _ (c .before .before .before .loop .inv .1) (c .before .byte .ensures) (c .if1 .left)))
     (λ c. bytes-all (c .before .before .before .args .word .now) _ (c .before .loop .inv .1) (omega arith)))

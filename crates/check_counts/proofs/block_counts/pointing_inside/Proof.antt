@@ -15,14 +15,14 @@ pointing-inside-spec =
     (λ c κs. let w = c .before .before in
     (w .pre .0, laws.end-there _ _ _ _ _ (w .pre .1) (w .pre .2) (w .pre .3) _ (c .block-length .ensures .0)))
     (λ c κs. let l = c .before .before .before in let w = l .before .before in
-    (w .pre .0, laws.hand-there _ _ _ _ _ (w .pre .1) (w .pre .2) (w .pre .3) _ (l .block-length .ensures .0) _ (c .before .before .hand-on .ensures .0)))
+    (w .pre .0, laws.hand-there _ _ _ _ _ (w .pre .1) (w .pre .2) (w .pre .3) _ (l .block-length .ensures .0) _ (c .before .before .prefix-target .ensures .0)))
     (λ c. let o = c .before .before .before .before in let l = o .before in let w = l .before .before in
     omega (
       arith,
-      o .hand-on .ensures .1,
+      o .prefix-target .ensures .1,
       walk-small _ _ _ _ _ _ _ (w .pre .0)
-          (laws.hand-there _ _ _ _ _ (w .pre .1) (w .pre .2) (w .pre .3) _ (l .block-length .ensures .0) _ (o .hand-on .ensures .0))
+          (laws.hand-there _ _ _ _ _ (w .pre .1) (w .pre .2) (w .pre .3) _ (l .block-length .ensures .0) _ (o .prefix-target .ensures .0))
           _ (c .before .up-to .ensures),
     ))
     (λ c. let o = c .before .before .before .before in let l = o .before in let w = l .before .before in
-    laws.hand-is _ _ _ _ _ (w .pre .1) (w .pre .2) (w .pre .3) _ (l .block-length .ensures .0) _ (o .hand-on .ensures .0) _ (c .before .up-to .ensures)))
+    laws.hand-is _ _ _ _ _ (w .pre .1) (w .pre .2) (w .pre .3) _ (l .block-length .ensures .0) _ (o .prefix-target .ensures .0) _ (c .before .up-to .ensures)))

@@ -4,7 +4,7 @@ use borrow.Author.Needs.{needs}
 use mathlib.Core.Bool.{true}
 use mathlib.Core.Path.{_≡_}
 use native.Mathlib.Omega.{arith}
-use Rattle.layout.specs.HeaderSays as header
+use Rattle.layout.specs.HeaderFields as header
 use Rattle.check_counts.proofs.LevelCountsLaws as laws
 use Rattle.layout.proofs.AnswerTests.{failed, held}
 use Rattle.check_counts.proofs.level_counts.level_right.Statement.{statement}

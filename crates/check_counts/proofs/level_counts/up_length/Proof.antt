@@ -2,7 +2,7 @@ use borrow.Author.Needs.{needs}
 use borrow.Author.Tests.{ne-eqb, eq-eqb}
 use Rattle.check_counts.proofs.level_counts.up_length.Statement.{statement}
 use Rattle.check_counts.proofs.level_counts.up_length.Tie as tie
-use Rattle.check_counts.specs.Hand.{upFrom}
+use Rattle.check_counts.specs.PrefixTargets.{upFrom}
 
 pub up-length-spec : {M : Type 1} → statement M
 unfolding upFrom

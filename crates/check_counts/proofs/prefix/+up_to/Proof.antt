@@ -13,7 +13,7 @@ use Rattle.check_counts.proofs.prefix.up_to.Kinds as up-to-kinds
 use Rattle.check_counts.proofs.prefix.+up_to.Lts-up_to as up-to-lts
 use Rattle.check_counts.proofs.prefix.in_leaves.Reads as in-leaves-reads
 use Rattle.check_counts.proofs.prefix.step.Reads as step-reads
-use Rattle.walk_steps.proofs.fields.whole.Reads as whole-reads
+use Rattle.walk_steps.proofs.fields.reborrow.Reads as whole-reads
 use Rattle.walk_steps.proofs.fields.shape_of.Reads as shape-of-reads
 use Rattle.walk_steps.proofs.quotient.Reads as quotient-reads
 use Rattle.walk_steps.proofs.CycleClaims.{at-measure, below-measure}
@@ -52,14 +52,14 @@ module _ {t : ℕ} (e : up-to-lts.Else1 (claims t) (up-to-at t) up-to.Post) wher
   abbrev s : up-to-lts.After-shape-of (claims t) (up-to-at t) up-to.Post
   s = e .before .before .before
 
-  abbrev w : up-to-lts.After-whole (claims t) (up-to-at t) up-to.Post
+  abbrev w : up-to-lts.After-reborrow (claims t) (up-to-at t) up-to.Post
   w = s .before
 
   abbrev S : up-to-lts.Start (claims t) (up-to-at t) up-to.Post
   S = w .before .before
 
   x : Shapes (S .args .t .now) (s .shape-of .result)
-  x = shapes-on _ _ _ (w .whole .ensures) (s .shape-of .ensures)
+  x = shapes-on _ _ _ (w .reborrow .ensures) (s .shape-of .ensures)
 
   up : S .args .on .level + 1 < levels (S .args .t .now)
   up = laws.not-last _ _ _ _ _ _ _ (S .pre .1 .0) (S .pre .1 .1) (λ last. e .if1 .left (last ∙ sym (x .levels-is)))
@@ -71,7 +71,7 @@ pub +up-to-spec : {M : Type 1} → statement M
     (up-to-at t)
     up-to.Post
     (λ c κs. search needs)
-    (λ c κs. rw (c .whole .ensures) (c .before .before .pre .1 .1 .block .table .tree .facts .long))
+    (λ c κs. rw (c .reborrow .ensures) (c .before .before .pre .1 .1 .block .table .tree .facts .long))
     (λ c. let k = c .before .before .before .before .pre .1 .1 .block .table in omega (arith, k .level-in, k .tree .facts .bounds .levels-high))
     (λ c.
     let w = c .before .before .before .before .before in
@@ -81,9 +81,9 @@ pub +up-to-spec : {M : Type 1} → statement M
     let s = c .before .before .before .before in
     let w = s .before in
     let S = w .before .before in
-    rw (w .whole .ensures) (
+    rw (w .reborrow .ensures) (
       S .pre .1 .1 .block .table,
-      c .before .if1 .taken ∙ shapes-on _ _ _ (w .whole .ensures) (s .shape-of .ensures) .levels-is,
+      c .before .if1 .taken ∙ shapes-on _ _ _ (w .reborrow .ensures) (s .shape-of .ensures) .levels-is,
       (let few : S .args .spot .place .0 + 1 ≤ at.blockLengthAt (S .args .t .now) (S .args .on .level) (S .args .spot .block .0) =
           omega (arith, S .pre .1 .1 .block .place-in) in few),
     ))
@@ -92,24 +92,24 @@ pub +up-to-spec : {M : Type 1} → statement M
     let w = s .before in
     let S = w .before .before in
     laws.walk-last _ _ _ _ _ _ _ (S .pre .1 .0) (S .pre .1 .1)
-    (c .before .before .if1 .taken ∙ shapes-on _ _ _ (w .whole .ensures) (s .shape-of .ensures) .levels-is)
-    _ (rw (w .whole .ensures) at (c .in-leaves .ensures .0)))
+    (c .before .before .if1 .taken ∙ shapes-on _ _ _ (w .reborrow .ensures) (s .shape-of .ensures) .levels-is)
+    _ (rw (w .reborrow .ensures) at (c .in-leaves .ensures .0)))
     (λ c κs.
     let s = c .before .before .before in
     let w = s .before in
     let tree = w .before .before .pre .1 .1 .block .table .tree in
-    omega (arith, shapes-on _ _ _ (w .whole .ensures) (s .shape-of .ensures) .arity-is, tree .facts .bounds .arity-low))
+    omega (arith, shapes-on _ _ _ (w .reborrow .ensures) (s .shape-of .ensures) .arity-is, tree .facts .bounds .arity-low))
     (λ c κs.
     let e = c .before in
-    rw (w e .whole .ensures)
+    rw (w e .reborrow .ensures)
     (c .quotient .ensures ∙ laws.below-is _ _ _ _ _ _ _ (S e .pre .1 .0) (S e .pre .1 .1) (up e) _ (x e .arity-is), (up e), S e .pre .1 .1))
     (λ c κs.
     let q = c .before .before .before in
     let e = q .before in (
-      omega (arith, S e .pre .0, ap levels (w e .whole .ensures), up e),
-      rw (w e .whole .ensures) (
+      omega (arith, S e .pre .0, ap levels (w e .reborrow .ensures), up e),
+      rw (w e .reborrow .ensures) (
         q .quotient .ensures ∙ laws.below-is _ _ _ _ _ _ _ (S e .pre .1 .0) (S e .pre .1 .1) (up e) _ (x e .arity-is),
-        laws.walk-next _ _ _ _ _ _ _ (S e .pre .1 .0) (S e .pre .1 .1) (up e) _ (rw (w e .whole .ensures) at (c .before .before .step .ensures .0)),
+        laws.walk-next _ _ _ _ _ _ _ (S e .pre .1 .0) (S e .pre .1 .1) (up e) _ (rw (w e .reborrow .ensures) at (c .before .before .step .ensures .0)),
       ),
     ))
     (λ c.
@@ -118,16 +118,16 @@ pub +up-to-spec : {M : Type 1} → statement M
     omega (
       arith,
       z .step .ensures .1,
-      laws.rest-small _ _ _ _ _ _ _ (S e .pre .1 .0) (S e .pre .1 .1) (up e) _ (rw (w e .whole .ensures) at (z .step .ensures .0))
-          _ (rw (w e .whole .ensures) at (c .before .up-to .ensures)),
+      laws.rest-small _ _ _ _ _ _ _ (S e .pre .1 .0) (S e .pre .1 .1) (up e) _ (rw (w e .reborrow .ensures) at (z .step .ensures .0))
+          _ (rw (w e .reborrow .ensures) at (c .before .up-to .ensures)),
     ))
     (λ c.
     let z = c .before .before .before .before .before in
     let e = z .before .before in
-    laws.minus-low _ _ _ _ _ _ _ (S e .pre .1 .0) (S e .pre .1 .1) (up e) _ (rw (w e .whole .ensures) at (z .step .ensures .0))
-    _ (rw (w e .whole .ensures) at (c .before .before .up-to .ensures)))
+    laws.minus-low _ _ _ _ _ _ _ (S e .pre .1 .0) (S e .pre .1 .1) (up e) _ (rw (w e .reborrow .ensures) at (z .step .ensures .0))
+    _ (rw (w e .reborrow .ensures) at (c .before .before .up-to .ensures)))
     (λ c.
     let z = c .before .before .before .before .before in
     let e = z .before .before in
-    laws.walk-is _ _ _ _ _ _ _ (S e .pre .1 .0) (S e .pre .1 .1) (up e) _ (rw (w e .whole .ensures) at (z .step .ensures .0))
-    _ (rw (w e .whole .ensures) at (c .before .before .up-to .ensures))))
+    laws.walk-is _ _ _ _ _ _ _ (S e .pre .1 .0) (S e .pre .1 .1) (up e) _ (rw (w e .reborrow .ensures) at (z .step .ensures .0))
+    _ (rw (w e .reborrow .ensures) at (c .before .before .up-to .ensures))))

@@ -16,18 +16,18 @@ step-spec =
     omega (
       arith,
       facts.count-lt (w .args .t .now) (w .args .level + 1) (λ k. p .before .before .shared-slice-known .given k .fits),
-      laws.child-there _ _ _ _ _ _ _ (w .pre .0) (w .pre .1) (w .pre .2) _ (p .before .link .ensures) _ (p .part-of .ensures) .table .block-in,
+      laws.child-there _ _ _ _ _ _ _ (w .pre .0) (w .pre .1) (w .pre .2) _ (p .before .link .ensures) _ (p .div-rem .ensures) .table .block-in,
     ))
     (λ c. search needs)
     (λ c κs. let p = c .before .before in let w = p .before .before .before in facts.before-there _ _ _ _ _
-    (laws.child-there _ _ _ _ _ _ _ (w .pre .0) (w .pre .1) (w .pre .2) _ (p .before .link .ensures) _ (p .part-of .ensures) .table))
+    (laws.child-there _ _ _ _ _ _ _ (w .pre .0) (w .pre .1) (w .pre .2) _ (p .before .link .ensures) _ (p .div-rem .ensures) .table))
     (λ c. search needs)
     (λ c κs. let p = c .before .before .before .before in let w = p .before .before .before in
-    (w .pre .0, laws.child-there _ _ _ _ _ _ _ (w .pre .0) (w .pre .1) (w .pre .2) _ (p .before .link .ensures) _ (p .part-of .ensures)))
+    (w .pre .0, laws.child-there _ _ _ _ _ _ _ (w .pre .0) (w .pre .1) (w .pre .2) _ (p .before .link .ensures) _ (p .div-rem .ensures)))
     (λ c. search needs)
     (λ c. search needs)
     (λ c. let r = c .before .before .before .before in let p = r .before .before .before .before in let w = p .before .before .before in (
-      laws.step-is _ _ _ _ _ _ _ (w .pre .0) (w .pre .1) (w .pre .2) _ (p .before .link .ensures) _ (p .part-of .ensures) _ _
-          (r .before .before2 .ensures) (c .before .before .before .hand-on .ensures .0),
-      omega (arith, r .before .before2 .ok, c .before .before .before .hand-on .ensures .1),
+      laws.step-is _ _ _ _ _ _ _ (w .pre .0) (w .pre .1) (w .pre .2) _ (p .before .link .ensures) _ (p .div-rem .ensures) _ _
+          (r .before .before2 .ensures) (c .before .before .before .prefix-target .ensures .0),
+      omega (arith, r .before .before2 .ok, c .before .before .before .prefix-target .ensures .1),
     )))

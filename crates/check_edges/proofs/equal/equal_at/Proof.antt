@@ -41,4 +41,4 @@ equal-at-spec =
     (λ c. let start = c .before .before .before in omega (arith, start .pre .1, start .good .0 .0))
     (λ c. omega arith)
     (λ c κs. let start = c .before .before .before in (omega (arith, start .pre .0), omega (arith, start .pre .1)))
-    (λ c. c .same-at .ensures ∙ c .before .before .loop .inv .1))
+    (λ c. c .equal-at .ensures ∙ c .before .before .loop .inv .1))

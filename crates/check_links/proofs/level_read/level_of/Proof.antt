@@ -1,7 +1,7 @@
 use borrow.Author.Needs.{needs}
 use mathlib.Core.Path.{refl}
 use native.Mathlib.Omega.{arith}
-use Rattle.layout.specs.HeaderSays as header
+use Rattle.layout.specs.HeaderFields as header
 use Rattle.check_links.proofs.LevelReadLaws as laws
 use Rattle.check_links.proofs.level_read.level_of.Statement.{statement}
 use Rattle.check_links.proofs.level_read.level_of.Tie as tie
@@ -17,7 +17,7 @@ level-of-spec =
     (λ c κs. search needs)
     (λ c. let k = c .before .before .before .before .before .before .pre .0 in (
       record {
-        readable = k .facts;
+        header-read = k .facts;
         level-in = omega (arith, c .before .before .before .before .before .before .pre .1, laws.levels-is _ _ k);
         size-is = laws.size-is _ _ k;
         length-is = laws.length-is _ _ k;

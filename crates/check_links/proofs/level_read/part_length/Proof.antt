@@ -1,5 +1,5 @@
 use borrow.Author.Needs.{needs}
-use Rattle.layout.specs.HeaderSays as header
+use Rattle.layout.specs.HeaderFields as header
 use Rattle.check_links.proofs.LevelReadLaws as laws
 use Rattle.check_links.proofs.level_read.part_length.Statement.{statement}
 use Rattle.check_links.proofs.level_read.part_length.Tie as tie

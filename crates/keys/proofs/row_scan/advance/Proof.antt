@@ -15,7 +15,7 @@ advance-spec =
     (λ c. let w = c .before in
     let n = w .before .before in
     let S = n .before .before .before in
-    laws.turned-past _ _ _ _ _ (S .pre .2) _ (sym (n .none .ensures) ∙ w .before .if1 .taken) (w .past-row .ensures) (c .if2 .taken))
+    laws.turned-past _ _ _ _ _ (S .pre .2) _ (sym (n .is-empty .ensures) ∙ w .before .if1 .taken) (w .past-row .ensures) (c .if2 .taken))
     (λ c. omega (arith, c .before .before .before .before .before .pre .2))
     (λ c κs. let p = c .before .before .before .before .before .pre in (p .0, p .1))
     (λ c. search needs)

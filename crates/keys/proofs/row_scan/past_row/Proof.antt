@@ -20,5 +20,5 @@ past-row-spec =
     (λ c. let e = c .before .before in
     let f = e .before in
     let p = f .before .before .before .pre in
-    laws.one-passed _ _ _ _ (omega (arith, p .0, e .if1 .left)) (f .find .ensures .none) (f .find .ensures .there (e .if1 .left))
+    laws.one-passed _ _ _ _ (omega (arith, p .0, e .if1 .left)) (f .find .ensures .absent) (f .find .ensures .there (e .if1 .left))
     _ (c .before .may-match .ensures) (c .if2 .left)))

@@ -5,7 +5,7 @@ use borrow.Author.Needs.{needs}
 use lib.ListN.{length, drop}
 use Rattle.row_filter.specs.RowAutomaton.{scanBytes}
 use Rattle.row_filter.specs.RowAutomatonLaws.{scan-end}
-use Rattle.keys.specs.Forms.{keyAutomaton}
+use Rattle.keys.specs.KeyStates.{keyAutomaton}
 use Rattle.keys.proofs.RowScanLaws as laws
 use Rattle.keys.proofs.row_scan.scan.Statement.{statement}
 use Rattle.keys.proofs.row_scan.scan.Tie as tie

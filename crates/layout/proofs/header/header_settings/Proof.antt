@@ -1,7 +1,7 @@
 use borrow.Author.Needs.{needs}
 use borrow.Author.Tests.{lt-leb, not-true, not-false}
 use Rattle.format.specs.Layout.{lengthOk, maxText}
-use Rattle.layout.proofs.QuestionSeven as laws
+use Rattle.layout.proofs.HeaderCheck as laws
 use Rattle.layout.proofs.header.header_settings.Statement.{statement}
 use Rattle.layout.proofs.header.header_settings.Tie as tie
 

@@ -19,7 +19,7 @@ count-of-spec =
     tie.close
     (tie.spec Inv-loop μ-loop
     (λ c κs. laws.table-there _ _ _ (c .before .pre))
-    (λ c. (omega arith, omega arith, laws.count-none _))
+    (λ c. (omega arith, omega arith, laws.list-count-none _))
     (λ c κs. laws.kind-there _ _ _ (c .before .before .before .before .pre) _ (omega (arith, c .loop-test .taken, c .before .before .level-count .ensures)))
     (λ c κs. search needs)
     (λ c. omega (arith, c .one-if-same .ensures .1))

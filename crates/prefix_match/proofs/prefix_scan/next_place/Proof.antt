@@ -15,4 +15,4 @@ next-place-spec =
     (λ c κs. search needs)
     (λ c. search needs)
     (λ c. let f = c .find .ensures in
-    (omega arith, omega (arith, f .high), laws.passed-before _ _ _ _ (sym (c .before .before .is-open .ensures) ∙ c .before .if1 .left) (f .none))))
+    (omega arith, omega (arith, f .high), laws.passed-before _ _ _ _ (sym (c .before .before .is-open .ensures) ∙ c .before .if1 .left) (f .absent))))

@@ -2,7 +2,7 @@ use mathlib.Core.Path.{ap}
 use Prim.Native.Nat.{_-_, _≤_}
 use native.Mathlib.Omega.{arith}
 use borrow.Author.Needs.{needs}
-use Rattle.ask_access.specs.ReadByRuns.{ReadsOn}
+use Rattle.query_access.specs.ReadByRuns.{ReadsOn}
 use Rattle.prefix_match.specs.PrefixStates.{prefixAutomaton}
 use Rattle.prefix_match.specs.PrefixScanned.{asPrefixScan}
 use Rattle.query_row_filter.proofs.RowsAfterLaws.{Searching, search-begins, search-broken, search-on, search-found, search-ends}

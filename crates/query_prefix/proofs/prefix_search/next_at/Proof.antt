@@ -3,7 +3,7 @@ use borrow.Author.Needs.{needs}
 use Rattle.row_filter.specs.SelectedRows.{startsWith}
 use Rattle.prefix_match.specs.PrefixStates.{prefixAutomaton}
 use Rattle.prefix_match.proofs.PrefixRecognized.{recognizes}
-use Rattle.ask_rows.proofs.RowEdgesLaws.{settled-sound}
+use Rattle.query_rows.proofs.RowBoundsLaws.{settled-sound}
 use Rattle.query_row_filter.proofs.AllowedAnswerLaws.{answer-found}
 use Rattle.query_prefix.proofs.PrefixSearchLaws.{prefix-short, prefix-long, prefix-good}
 use Rattle.query_prefix.proofs.prefix_search.next_at.Statement.{statement}

@@ -2,8 +2,8 @@ use mathlib.Core.Path.{ap, _∙_}
 use native.Mathlib.Omega.{arith}
 use borrow.Author.Needs.{needs}
 use Rattle.format.specs.Answers.{total}
-use Rattle.ask_totals.proofs.TotalLaws.{is-counted, not-counted}
-use Rattle.ask_rows.proofs.RowEdgesLaws.{settled-sound}
+use Rattle.query_counted.proofs.TotalLaws.{is-counted, not-counted}
+use Rattle.query_rows.proofs.RowBoundsLaws.{settled-sound}
 use Rattle.query_row_filter.proofs.AllowedAnswerLaws as laws
 use Rattle.query_row_filter.proofs.rows_after.begin.Statement.{statement}
 use Rattle.query_row_filter.proofs.rows_after.begin.Tie as tie

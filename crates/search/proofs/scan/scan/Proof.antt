@@ -6,7 +6,7 @@ use borrow.Author.Needs.{needs}
 use Rattle.text.specs.Text.{stretch, leftmost}
 use Rattle.search.specs.FingerValues.{finger}
 use Rattle.search.proofs.Modulo.{below}
-use Rattle.search.proofs.FingerLaws.{finger-roll, finger-below}
+use Rattle.search.proofs.FingerprintLaws.{finger-roll, finger-below}
 use Rattle.search.proofs.ScanLaws.{ahead, ahead-start, ahead-hit, ahead-miss, ahead-end}
 use Rattle.search.proofs.scan.scan.Statement.{statement}
 use Rattle.search.proofs.scan.scan.Tie as tie
@@ -31,7 +31,7 @@ scan-spec =
     let a = c .before .before .before .before .args in
     (omega arith, c .fingerprint-at2 .ensures, ahead-start (a .text .now) (a .at .0) (a .n)))
     (λ c κs. ((omega arith, omega arith), (c .before .before .loop .inv .1, c .before .before .before .before .fingerprint-at .ensures)))
-    (λ c. ahead-hit _ _ _ _ (c .before .before .before .before .loop .inv .2) _ (c .before .stands .ensures) (c .if2 .taken) (omega arith))
+    (λ c. ahead-hit _ _ _ _ (c .before .before .before .before .loop .inv .2) _ (c .before .occurs-at .ensures) (c .if2 .taken) (omega arith))
     (λ c. search needs)
     (λ c. search needs)
     (λ c. search needs)
@@ -52,6 +52,6 @@ scan-spec =
           (a .by .base) (a .by .modulus) (a .text .now) (l .loop .p) (a .n) _ _ _ _ (omega arith)
           (below _ _ _ (omega arith) (l .before .before .before .power .ensures)) (c .before .before .shared-slice-known2 .given (l .loop .p) .fits)
           (l .loop .inv .1) (l .before .before .before .power .ensures) refl refl,
-      ahead-miss _ _ _ _ (l .loop .inv .2) _ (c .before .before .before .before .stands .ensures) (c .before .before .before .if2 .left) (omega arith),
+      ahead-miss _ _ _ _ (l .loop .inv .2) _ (c .before .before .before .before .occurs-at .ensures) (c .before .before .before .if2 .left) (omega arith),
     ))
     (λ c. ahead-end _ _ _ _ (c .before .before .loop .inv .2) (omega arith)))

@@ -11,7 +11,7 @@ use Rattle.walk_short.proofs.gather.+gather.Lts-gather as gather-lts
 use Rattle.walk_short.proofs.gather.last.Reads as last-reads
 use Rattle.walk_short.proofs.gather.over.Reads as over-reads
 use Rattle.walk_short.proofs.gather.settle.Reads as settle-reads
-use Rattle.walk_steps.proofs.fields.whole.Reads as whole-reads
+use Rattle.walk_steps.proofs.fields.reborrow.Reads as whole-reads
 use Rattle.walk_steps.proofs.fields.shape_of.Reads as shape-of-reads
 use Rattle.walk_steps.proofs.quotient.Reads as quotient-reads
 use Rattle.walk_steps.proofs.CycleClaims.{at-measure, below-measure}
@@ -58,14 +58,14 @@ module _ {t : ℕ} (e : gather-lts.Else2 (claims t) (gather-at t) gather.Post) w
   abbrev f : gather-lts.Else1 (claims t) (gather-at t) gather.Post
   f = s .before
 
-  abbrev w : gather-lts.After-whole (claims t) (gather-at t) gather.Post
+  abbrev w : gather-lts.After-reborrow (claims t) (gather-at t) gather.Post
   w = f .before .before .before
 
   abbrev S : gather-lts.Start (claims t) (gather-at t) gather.Post
   S = w .before .before
 
   x : Shapes (S .args .t .now) (s .shape-of .result)
-  x = shapes-on _ _ _ (w .whole .ensures) (s .shape-of .ensures)
+  x = shapes-on _ _ _ (w .reborrow .ensures) (s .shape-of .ensures)
 
   more : S .args .on .level + 1 ≡ levels (S .args .t .now) → ⊥
   more last = e .if2 .left (last ∙ sym (x .levels-is))
@@ -79,22 +79,22 @@ pub +gather-spec : {M : Type 1} → statement M
     (λ c κs. search needs)
     (λ c. omega (arith, laws.sum-few _ _ _ _ 0 _ _ _ (c .before .before .before .pre .1)))
     (λ c κs. let w = c .before .before .before in
-    rw (w .whole .ensures) (laws.over-asks _ _ _ _ 0 _ _ _ (w .before .before .pre .1) (c .if1 .taken)))
+    rw (w .reborrow .ensures) (laws.over-asks _ _ _ _ 0 _ _ _ (w .before .before .pre .1) (c .if1 .taken)))
     (λ c. let w = c .before .before .before .before in
-    laws.over-by _ _ _ _ _ _ _ _ (w .before .before .pre .1) (c .before .if1 .taken) _ (rw (w .whole .ensures) at (c .over .ensures)))
-    (λ c κs. let w = c .before .before .before in rw (w .whole .ensures) (w .before .before .pre .1 .on .facts .long))
+    laws.over-by _ _ _ _ _ _ _ _ (w .before .before .pre .1) (c .before .if1 .taken) _ (rw (w .reborrow .ensures) at (c .over .ensures)))
+    (λ c κs. let w = c .before .before .before in rw (w .reborrow .ensures) (w .before .before .pre .1 .on .facts .long))
     (λ c. let k = c .before .before .before .before .before .before .before .pre .1 .on in
     omega (arith, k .level-in, k .facts .bounds .levels-high))
     (λ c κs. let w = c .before .before .before .before .before .before .before in let S = w .before .before in
-    rw (w .whole .ensures) (S .pre .1 .on, (let z : S .args .entered ≤ 2 * maxLevels = omega (arith, laws.entered-few _ _ _ _ 0 _ _ _ (S .pre .1)) in z)))
+    rw (w .reborrow .ensures) (S .pre .1 .on, (let z : S .args .entered ≤ 2 * maxLevels = omega (arith, laws.entered-few _ _ _ _ 0 _ _ _ (S .pre .1)) in z)))
     (λ c. let s = c .before .before .before .before in let f = s .before in let w = f .before .before .before in let S = w .before .before in
     laws.last-by _ _ _ _ _ _ _ _ (S .pre .1) (f .if1 .left)
-    (c .before .if2 .taken ∙ shapes-on _ _ _ (w .whole .ensures) (s .shape-of .ensures) .levels-is) _ (rw (w .whole .ensures) at (c .last .ensures)))
+    (c .before .if2 .taken ∙ shapes-on _ _ _ (w .reborrow .ensures) (s .shape-of .ensures) .levels-is) _ (rw (w .reborrow .ensures) at (c .last .ensures)))
     (λ c κs. let s = c .before .before .before in let w = s .before .before .before .before in
-    omega (arith, shapes-on _ _ _ (w .whole .ensures) (s .shape-of .ensures) .arity-is, w .before .before .pre .1 .on .facts .bounds .arity-low))
+    omega (arith, shapes-on _ _ _ (w .reborrow .ensures) (s .shape-of .ensures) .arity-is, w .before .before .pre .1 .on .facts .bounds .arity-low))
     (λ c κs.
     let e = c .before in
-    rw (w e .whole .ensures) (
+    rw (w e .reborrow .ensures) (
       S e .pre .1 .on,
       S e .pre .1 .place-in,
       f e .if1 .left,
@@ -106,13 +106,14 @@ pub +gather-spec : {M : Type 1} → statement M
     omega (
       arith,
       laws.entered-few _ _ _ _ 0 _ _ _ (S e .pre .1),
-      laws.down-few _ _ _ _ _ _ _ _ (S e .pre .1) (f e .if1 .left) (more e) _ (rw (w e .whole .ensures) at (z .settle .ensures)) _ _ _ _
+      laws.down-few _ _ _ _ _ _ _ _ (S e .pre .1) (f e .if1 .left) (more e) _ (rw (w e .reborrow .ensures) at (z .settle .ensures)) _ _ _ _
           (c .before .land .given .1),
     ))
     (λ c κs.
     let z = c .before .before .before in let e = z .before .before in (
-      omega (arith, S e .pre .0, ap levels (w e .whole .ensures), S e .pre .1 .on .level-in, e .if2 .left, x e .levels-is),
-      rw (w e .whole .ensures) (laws.down-asks _ _ _ _ _ _ _ _ (S e .pre .1) (f e .if1 .left) (more e) _ (rw (w e .whole .ensures) at (z .settle .ensures))
+      omega (arith, S e .pre .0, ap levels (w e .reborrow .ensures), S e .pre .1 .on .level-in, e .if2 .left, x e .levels-is),
+      rw (w e .reborrow .ensures) (laws.down-asks _ _ _ _ _ _ _ _ (S e .pre .1) (f e .if1 .left) (more e) _
+          (rw (w e .reborrow .ensures) at (z .settle .ensures))
           _ _ _ _ (c .before .land .given .1) _
           (laws.c-is _ _ _ _ 0 _ _ _ (S e .pre .1) (f e .if1 .left) (more e) _ _ (z .before .quotient .ensures) (x e .arity-is))),
     ))
@@ -122,17 +123,18 @@ pub +gather-spec : {M : Type 1} → statement M
     omega (arith, laws.entered-few _ _ _ _ 0 _ _ _ (S e .pre .1)))
     (λ c κs.
     let z = c .before .before .before in let e = z .before .before in
-    rw (w e .whole .ensures) (laws.between-asks _ _ _ _ _ _ _ _ (S e .pre .1) (f e .if1 .left) (more e) _ (rw (w e .whole .ensures) at (z .settle .ensures))
+    rw (w e .reborrow .ensures) (laws.between-asks _ _ _ _ _ _ _ _ (S e .pre .1) (f e .if1 .left) (more e) _
+    (rw (w e .reborrow .ensures) at (z .settle .ensures))
     _ _ (c .before .land2 .given .1)))
     (λ c. search needs)
     (λ c.
     let z = c .before .before .before .before in let e = z .before .before in
-    laws.down-by _ _ _ _ _ _ _ _ (S e .pre .1) (f e .if1 .left) (more e) _ (rw (w e .whole .ensures) at (z .settle .ensures))
-    _ _ _ _ (c .before .before .land .given .1) _ (rw (w e .whole .ensures) at (c .gather .ensures)))
+    laws.down-by _ _ _ _ _ _ _ _ (S e .pre .1) (f e .if1 .left) (more e) _ (rw (w e .reborrow .ensures) at (z .settle .ensures))
+    _ _ _ _ (c .before .before .land .given .1) _ (rw (w e .reborrow .ensures) at (c .gather .ensures)))
     (λ c.
     let z = c .before .before .before .before in let e = z .before .before in
-    laws.between-by _ _ _ _ _ _ _ _ (S e .pre .1) (f e .if1 .left) (more e) _ (rw (w e .whole .ensures) at (z .settle .ensures))
-    _ _ (c .before .before .land2 .given .1) _ (rw (w e .whole .ensures) at (c .over2 .ensures)))
+    laws.between-by _ _ _ _ _ _ _ _ (S e .pre .1) (f e .if1 .left) (more e) _ (rw (w e .reborrow .ensures) at (z .settle .ensures))
+    _ _ (c .before .before .land2 .given .1) _ (rw (w e .reborrow .ensures) at (c .over2 .ensures)))
     (λ c.
     let z = c .before .before in let e = z .before .before in
-    laws.off-by _ _ _ _ _ _ _ _ (S e .pre .1) (f e .if1 .left) (more e) _ (rw (w e .whole .ensures) at (z .settle .ensures)) (c .enum-told .given .1)))
+    laws.off-by _ _ _ _ _ _ _ _ (S e .pre .1) (f e .if1 .left) (more e) _ (rw (w e .reborrow .ensures) at (z .settle .ensures)) (c .enum-told .given .1)))

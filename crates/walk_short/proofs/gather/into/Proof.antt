@@ -11,4 +11,4 @@ into-spec =
     (tie.spec
     (λ c κs. let p = c .before .pre in field-in _ (p .0) _ _ _ 2 (p .1) (p .2) (p .3) (omega arith))
     (λ c κs. c .before .before .pre .4)
-    (λ c. laws.down-is _ _ _ _ _ _ _ (c .before .before .link .ensures) _ (c .before .part-of .ensures)))
+    (λ c. laws.down-is _ _ _ _ _ _ _ (c .before .before .link .ensures) _ (c .before .div-rem .ensures)))

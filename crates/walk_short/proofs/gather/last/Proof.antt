@@ -13,11 +13,12 @@ last-spec =
       p .0 .facts,
       p .0 .size-is,
       p .0 .level-in,
-      laws.last-kept _ _ _ _ 0 0 _ (c .before .before .before .look-after .ensures) _ _ (c .before .next .given .1),
+      laws.last-kept _ _ _ _ 0 0 _ (c .before .before .before .classify-next .ensures) _ _ (c .before .next .given .1),
       p .1,
     ))
     (λ c. search needs)
     (λ c. search needs)
-    (λ c. laws.last-by _ _ _ _ _ _ _ (c .before .before .before .before .look-after .ensures) _ _ (c .before .before .next .given .1) _ (c .leaf-part .ensures))
-    (λ c. laws.last-points _ _ _ _ _ _ _ (c .before .before .look-after .ensures) _ _ (c .enum-told .given .1))
-    (λ c. laws.last-off _ _ _ _ _ _ _ (c .before .before .look-after .ensures) (c .enum-told2 .given .1)))
+    (λ c. laws.last-by _ _ _ _ _ _ _ (c .before .before .before .before .classify-next .ensures) _ _ (c .before .before .next .given .1) _
+    (c .leaf-part .ensures))
+    (λ c. laws.last-points _ _ _ _ _ _ _ (c .before .before .classify-next .ensures) _ _ (c .enum-told .given .1))
+    (λ c. laws.last-off _ _ _ _ _ _ _ (c .before .before .classify-next .ensures) (c .enum-told2 .given .1)))

@@ -1,0 +1,14 @@
+use borrow.Author.Needs.{needs}
+use Rattle.abi.proofs.ExportsLaws as laws
+use Rattle.abi.proofs.bt_size_bound.Statement.{statement}
+use Rattle.abi.proofs.bt_size_bound.Tie as tie
+
+pub bt-size-bound-spec : {M : Type 1} → statement M
+bt-size-bound-spec =
+    tie.close
+    (tie.spec
+    (λ c κs. search needs)
+    (λ c. search needs)
+    (λ c. search needs)
+    (λ c. laws.size-bound-answered _ _ (c .before .before .before .size-bound .ensures .answers) _ (c .before .room .given .1))
+    (λ c. laws.size-bound-refused _ _ (c .before .before .before .size-bound .ensures .answers) _ (c .before .room2 .given .1)))

@@ -1,4 +1,0 @@
-pub mod Holders
-pub mod GuideList
-pub mod EntryWordsLaws
-pub mod Demands

@@ -1,2 +1,0 @@
-pub mod GuidedFindLaws
-pub mod Demands

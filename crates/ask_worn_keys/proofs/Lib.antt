@@ -1,2 +1,0 @@
-pub mod MatchAnswerLaws
-pub mod Demands

@@ -1,3 +1,0 @@
-pub mod Enough
-pub mod BlocksInOrder
-pub mod EnoughHolds

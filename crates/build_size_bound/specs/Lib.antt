@@ -1,0 +1,3 @@
+pub mod SizeBound
+pub mod BlocksInOrder
+pub mod SizeBoundHolds

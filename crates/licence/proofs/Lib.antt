@@ -1,0 +1,5 @@
+pub mod ClosedForms
+pub mod Differences
+pub mod DaysLaws
+pub mod LicenceLaws
+pub mod Theorems

@@ -1,0 +1,2 @@
+pub mod ColumnRowLaws
+pub mod Theorems

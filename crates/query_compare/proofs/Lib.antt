@@ -1,0 +1,3 @@
+pub mod SideBySideLaws
+pub mod FirstLaws
+pub mod Theorems

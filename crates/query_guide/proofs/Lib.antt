@@ -1,0 +1,4 @@
+pub mod Holders
+pub mod GuideList
+pub mod EntryWordsLaws
+pub mod Theorems

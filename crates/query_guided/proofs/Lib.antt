@@ -1,0 +1,2 @@
+pub mod GuidedFindLaws
+pub mod Theorems

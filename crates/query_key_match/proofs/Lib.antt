@@ -1,0 +1,2 @@
+pub mod MatchAnswerLaws
+pub mod Theorems

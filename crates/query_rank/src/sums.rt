@@ -1,0 +1,235 @@
+// The sums along the path of a place, with the added and the subtracted parts apart. The steps of kept and pointing blocks are mutually
+// recursive. Their measure is 2 × (levels left), plus 1 while a pointer can be followed. A step carries no header and returns one word.
+use layout::header::Header;
+use layout::place::BlockNumber;
+use layout::place::BlockPosition;
+use layout::place::LevelAt;
+use layout::place::TextPlace;
+use layout::record;
+use query_counted::CountedByte;
+use walk_steps::BlockAt;
+use walk_steps::BlockKind;
+use walk_steps::fields;
+ghost use mathlib.Core.Path.{_≡_};
+ghost use mathlib.Core.Bool.{cond};
+ghost use Prim.Native.Nat.{_+_, _-_, _*_, _≤_, _<_};
+ghost use lib.Dec.{eqb};
+ghost use Rattle.format.specs.Layout as at;
+ghost use Rattle.format.specs.Layout.{maxLevels};
+ghost use Rattle.format.specs.TreeReading.{pathFrom, pathOf};
+ghost use Rattle.layout.specs.HeaderFields.{HeaderOf};
+ghost use Rattle.walk_steps.specs.Steps.{OnLevel};
+ghost use Rattle.walk_path.specs.Walk.{KeptAt, MayPoint};
+ghost use Rattle.query_rank.specs.Sums.{Carried, Across, rank-onward, summed, startSum, wholeSum, settled, answerIn};
+
+// What is carried down a path: the number of blocks entered, the sum of what is added, and the sum of what is subtracted.
+pub struct Sum {
+    pub entered: u32,
+    pub plus: u64,
+    pub minus: u64,
+}
+
+pub enum Summed {
+    At(Sum),
+    Broken,
+}
+
+impl Sum {
+    // After one more block, with more added and subtracted.
+    fn enter(self, plus: u32, minus: u32) -> Sum
+        requires { ⌜ (self .entered ≤ 2 * maxLevels) × (self .plus ≤ 1099511627776) × (self .minus ≤ 1099511627776) ⌝ }
+        ensures { λ r. ⌜ r ≡ rank-onward self plus minus ⌝ }
+    {
+        Sum {
+            entered: self.entered + 1,
+            plus: self.plus + plus as u64,
+            minus: self.minus + minus as u64,
+        }
+    }
+
+    // The result in one word: the count + 2^48 × the blocks entered. A count is never negative.
+    fn packed(self) -> u64
+        requires { ⌜ (self .entered ≤ 2 * maxLevels + 1) × (self .plus ≤ 1099511627776) ⌝ }
+        ensures { λ r. ⌜ answerIn r ≡ settled (Summed.At self) ⌝ }
+    {
+        if self.plus < self.minus {
+            return BROKEN;
+        }
+        (self.plus - self.minus) + 281474976710656 * self.entered as u64
+    }
+}
+
+// The word of a path that breaks, or of a negative count.
+pub const BROKEN: u64 = 18446744073709551615;
+
+// Adds the leaf bytes of a kept block of the last level, up to a place.
+fn leaf(t: &[u8], size: u32, wanted: CountedByte, on: LevelAt, spot: BlockPosition, sum: Sum) -> u64
+    requires { ⌜ (KeptAt (now t) size (on .level) (on .b) (spot .block .0) (spot .place .0) (sum .entered)) × (Carried (now t) (wanted .number) sum) ⌝ }
+    ensures { λ r. ⌜ answerIn r ≡ settled (summed (now (t .entry)) (wanted .byte) (wanted .number) sum
+        (pathFrom (now (t .entry)) 0 (on .level) (spot .block .0) (spot .place .0))) ⌝ }
+{
+    let link = record::link(t, size, on.level, spot.block);
+    let number = link.0 as u64 + spot.place.0 as u64;
+    let shape = fields::shape_of(t);
+    if number < shape.leaf_count as u64 {
+        let from = shape.leaf_offset as usize + link.0 as usize;
+        let here = byte_slices::count_in(t, from, spot.place.0 + 1, wanted.byte);
+        let all = sum.enter(here, 0);
+        return all.packed();
+    }
+    BROKEN
+}
+
+// A pointing block, and the target that a place of it refers to.
+struct Pointer {
+    block: BlockNumber,
+    target: BlockNumber,
+}
+
+// From a pointing block to its target: subtracts the block's skip, and adds the count inside of the first target if the second is entered.
+fn across(t: &[u8], size: u32, wanted: CountedByte, level: u32, hop: Pointer, sum: Sum) -> Sum
+    requires { ⌜ (Across (now t) size level (hop .block .0) (hop .target .0)) × (sum .entered ≤ 2 * maxLevels) × (Carried (now t) (wanted .number) sum) ⌝ }
+    ensures { λ r. ⌜ r ≡ rank-onward sum
+        (cond (eqb (hop .target .0) (at.link (now (t .entry)) level (hop .block .0))) 0
+        (at.inside (now (t .entry)) level (at.link (now (t .entry)) level (hop .block .0)) (wanted .number)))
+        (at.skip (now (t .entry)) level (hop .block .0) (wanted .number)) ⌝ }
+    ensures { λ r. ⌜ Carried (now (t .entry)) (wanted .number) r ⌝ }
+{
+    let link = record::link(t, size, level, hop.block);
+    let skip = record::skip(t, size, level, hop.block, wanted.number);
+    if hop.target.0 == link.0 {
+        return sum.enter(0, skip);
+    }
+    let inside = record::inside(t, size, level, BlockNumber(link.0), wanted.number);
+    sum.enter(inside, skip)
+}
+
+// To a child: adds its count before.
+fn down(t: &[u8], size: u32, wanted: CountedByte, level: u32, block: BlockNumber, sum: Sum) -> Sum
+    requires { ⌜ (OnLevel (now t) size level (at.fullLength (now t) level))
+        × (block .0 < at.levelCount (now t) level) × (sum .entered ≤ 2 * maxLevels) × (Carried (now t) (wanted .number) sum) ⌝ }
+    ensures { λ r. ⌜ r ≡ rank-onward sum (at.before (now (t .entry)) level (block .0) (wanted .number)) 0 ⌝ }
+    ensures { λ r. ⌜ Carried (now (t .entry)) (wanted .number) r ⌝ }
+{
+    let before = record::before(t, size, level, block, wanted.number);
+    sum.enter(before, 0)
+}
+
+// From a kept block to the child that contains the place.
+fn kept_step(
+    t: &[u8],
+    size: u32,
+    wanted: CountedByte,
+    on: LevelAt,
+    spot: BlockPosition,
+    sum: Sum,
+) -> u64
+    requires { ⌜ (KeptAt (now t) size (on .level) (on .b) (spot .block .0) (spot .place .0) (sum .entered)) × (Carried (now t) (wanted .number) sum) ⌝ }
+    ensures { λ r. ⌜ answerIn r ≡ settled (summed (now (t .entry)) (wanted .byte) (wanted .number) sum
+        (pathFrom (now (t .entry)) (at.settings (now (t .entry)) .levels - 1 - on .level) (on .level) (spot .block .0) (spot .place .0))) ⌝ }
+{
+    let tree = fields::reborrow(t);
+    let shape = fields::shape_of(tree);
+    let under = on.level + 1;
+    if under == shape.levels {
+        return leaf(tree, size, wanted, on, spot, sum);
+    }
+    let below = walk_steps::quotient(on.b, shape.arity);
+    let child = walk_steps::child(tree, size, on.level, below, spot.block, spot.place);
+    let BlockAt::At(i, p) = child else {
+        return BROKEN;
+    };
+    let further = down(tree, size, wanted, under, i, sum);
+    pointing_step(
+        tree,
+        size,
+        wanted,
+        LevelAt {
+            level: under,
+            b: below,
+        },
+        BlockPosition { block: i, place: p },
+        further,
+    )
+}
+
+// From a block at which a pointer may still be followed: from a pointing block to a kept block of its level; on the last level no block points.
+fn pointing_step(
+    t: &[u8],
+    size: u32,
+    wanted: CountedByte,
+    on: LevelAt,
+    spot: BlockPosition,
+    sum: Sum,
+) -> u64
+    requires { ⌜ (MayPoint (now t) size (on .level) (on .b) (spot .block .0) (spot .place .0) (sum .entered)) × (Carried (now t) (wanted .number) sum) ⌝ }
+    ensures { λ r. ⌜ answerIn r ≡ settled (summed (now (t .entry)) (wanted .byte) (wanted .number) sum
+        (pathFrom (now (t .entry)) (at.settings (now (t .entry)) .levels - 1 - on .level) (on .level) (spot .block .0) (spot .place .0))) ⌝ }
+{
+    let tree = fields::reborrow(t);
+    let here = walk_steps::classify_block(tree, size, on.level, on.b, spot.block, spot.place);
+    match here {
+        BlockKind::Kept(_, _) => kept_step(tree, size, wanted, on, spot, sum),
+        BlockKind::Points(_, _) => {
+            let there = walk_steps::resolve_target(
+                tree,
+                size,
+                on.level,
+                on.b,
+                spot.block,
+                spot.place,
+            );
+            let BlockAt::At(i, p) = there else {
+                return BROKEN;
+            };
+            let from = spot.block;
+            let hop = Pointer {
+                block: from,
+                target: i,
+            };
+            let further = across(tree, size, wanted, on.level, hop, sum);
+            kept_step(
+                tree,
+                size,
+                wanted,
+                on,
+                BlockPosition { block: i, place: p },
+                further,
+            )
+        }
+        BlockKind::Off => BROKEN,
+    }
+}
+
+// The sum at the first block of a path: its count before.
+fn start(t: &[u8], h: Header, wanted: CountedByte, block: BlockNumber) -> Sum
+    requires { ⌜ (HeaderOf (now t) h) × (block .0 < at.levelCount (now t) 0) × (wanted .number < at.countedCount (now t)) ⌝ }
+    ensures { λ r. ⌜ r ≡ startSum (now (t .entry)) (wanted .number) (block .0) ⌝ }
+    ensures { λ r. ⌜ Carried (now (t .entry)) (wanted .number) r ⌝ }
+{
+    Sum {
+        entered: 0,
+        plus: record::before(t, h.record_size, 0, block, wanted.number) as u64,
+        minus: 0,
+    }
+}
+
+// The result along the whole path of a place of the text, in one word.
+pub fn walk(t: &[u8], h: Header, wanted: CountedByte, place: TextPlace) -> u64
+    requires { ⌜ (HeaderOf (now t) h) × (place .0 < h .«text_length») × (wanted .number < at.countedCount (now t)) ⌝ }
+    ensures { λ r. ⌜ answerIn r ≡ settled (wholeSum (now (t .entry)) (wanted .byte) (wanted .number) (pathOf (now (t .entry)) (place .0))) ⌝ }
+{
+    let spot = walk_steps::top_spot(place, h.top_length);
+    let sum = start(t, h, wanted, spot.block);
+    pointing_step(
+        t,
+        h.record_size,
+        wanted,
+        LevelAt {
+            level: 0,
+            b: h.top_length,
+        },
+        spot,
+        sum,
+    )
+}

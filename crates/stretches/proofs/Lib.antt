@@ -1,2 +1,0 @@
-pub mod StretchLaws
-pub mod SameLaws

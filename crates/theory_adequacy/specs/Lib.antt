@@ -1,0 +1,2 @@
+pub mod TotalCorrectness
+pub mod Preconditions
