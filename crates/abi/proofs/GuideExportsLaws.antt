@@ -50,6 +50,6 @@ guided-above t bytes byte high guide j r e = record {
     accepted = λ z a. absurd (omega (arith, refuses-above t bytes byte high j));
     free = λ z a. absurd (omega (arith, refuses-above t bytes byte high j));
   };
-  none = λ h. refl;
+  absent = λ h. refl;
   counted = λ z a. absurd (omega (arith, refuses-above t bytes byte high j));
 }

@@ -135,7 +135,7 @@ module _ (T cs : List ℕ) (level : Level) (out two : List ℕ) (total : ℕ) (r
       follows = add-one l;
       room = omega (arith, end-next);
       body = body-two;
-      done = record { starts = λ x a b. absurd (let z : ⊥ = omega arith in z) };
+      finished = record { starts = λ x a b. absurd (let z : ⊥ = omega arith in z) };
     }
 
     ready-next : (new : List ℕ) → WritesOnlyTree D two new → RecordsUpTo S T new (suc l) 0 → LevelReady S T new next

@@ -15,6 +15,6 @@ siblings t h c from n r hc l e = record {
   size-is = r .size-is;
   level-in = omega (arith, r .facts .bounds .levels-low);
   number-in = hc;
-  some = omega arith;
+  present = omega arith;
   end-in = omega arith;
 }
