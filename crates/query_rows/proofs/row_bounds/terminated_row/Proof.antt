@@ -22,8 +22,8 @@ returns-2 c =
     laws.edges-no-end _ _ (laws.settled-sound _ _ _) _ _ (f .row-start .ensures) _ (c .before .before .before .before .found .given .1)
     _ (c .before .before .next-newline .ensures) (c .enum-told2 .given .1)
 
-sub-without-cr : tie.Need-sub-without-cr
-sub-without-cr c =
+sub-strip-cr : tie.Need-sub-strip-cr
+sub-strip-cr c =
     let e = c .before .before .before .before .before in
     let f = e .before .before .before .before in
     omega (
@@ -52,6 +52,6 @@ terminated-row-spec =
     (λ c. search needs)
     (λ c. search needs)
     returns-2
-    sub-without-cr
+    sub-strip-cr
     (λ c κs. search needs)
     returns-3)
