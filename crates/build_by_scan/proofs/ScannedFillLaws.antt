@@ -67,7 +67,7 @@ module _ (seed : ℕ) (T out cs : List ℕ) (level : Level)
 
     pub placed : Placed T out it
     placed = record {
-      record-few = omega (arith, limits .text-high);
+      few = omega (arith, limits .text-high);
       items-few = omega (arith, items-fit, pieces-few (length T) (level .settings .leaf), limits .leaf-high, limits .text-high);
       size-few = omega (arith, small .size-few);
       starts = λ x xl. start-fits S T out level 0 on (x / 2) (half-in x xl);

@@ -34,10 +34,10 @@ module _ (l : Lengths) (size n : ℕ) where
     noted-cut a d e = rw (ne-eqb n 0 some, le-ltb n size a, ne-eqb n size d, ne-eqb n (size + size) e)
 
 module _ (T out : List ℕ) (it : Items) (o : Ordered T out it) (h : Placed T out it) where
-  abbrev none : Lengths
-  absent = record { block = 0; pair = 0; last = 0; ending = 0 }
+  abbrev no-lengths : Lengths
+  no-lengths = record { block = 0; pair = 0; last = 0; ending = 0 }
 
-  pub noted-first : LengthNoted T out it 0 none
+  pub noted-first : LengthNoted T out it 0 no-lengths
   noted-first = record {
     covers = λ x l p. absurd (let z : ⊥ = omega arith in z);
     block-is = inl refl;

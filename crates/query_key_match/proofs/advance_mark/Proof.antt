@@ -53,9 +53,9 @@ use Rattle.query_row_filter.proofs.NextRowAnswer as S
 use Rattle.query_row_filter.proofs.NextRowAnswer.Laws as S′
 use Rattle.query_key_match.proofs.next_match as next-match
 use Rattle.query_key_match.proofs.next_match.Symbol as next-match-def
-use Rattle.query_key_match.proofs.next_match.Symbol.{name as #worn_keys·next-match}
-use Rattle.query_key_match.proofs.after.Symbol.{name as #worn_keys·after}
-use Rattle.query_key_match.proofs.advance_mark.Key.{name as #worn_keys·show}
+use Rattle.query_key_match.proofs.next_match.Symbol.{name as #key_match·next-match}
+use Rattle.query_key_match.proofs.after.Symbol.{name as #key_match·after}
+use Rattle.query_key_match.proofs.advance_mark.Key.{name as #key_match·advance-mark}
 use Rattle.query_key_match.proofs.next_match.Met as next-match-thm
 use Rattle.query_key_match.proofs.after as after
 use Rattle.query_key_match.proofs.after.Symbol as after-def
@@ -167,8 +167,8 @@ module _ {M : Type 1} (𝓤 : URA M) (H : Heap 𝓤) (A : Atoms 𝓤) (W : Given
       move ! (1 ∷ []) $ split ! $ nothing ! $ move ! (2 ∷ 0 ∷ []) $ fjoin ! $ move ! (1 ∷ 0 ∷ []) $ fjoin ! $ move ! (1 ∷ 0 ∷ []) $ fjoin ! $
       owned ! S.the-row (Is S.the-row) (EL.makes S.the-type S′.the-plain 𝓤 H A) f _ is $ move ! (1 ∷ 0 ∷ []) $ frame ! $ done !
 
-  module _ (C : Calls 𝓤 H) (Λ : Loops 𝓤 H) (fm : FmC 𝓤 H (W .laws) C) (known : Triple 𝓤 (C #worn_keys·next-match) (NextMatch 𝓤 H A at-mem run))
-      (known-after : Triple 𝓤 (C #worn_keys·after) (After 𝓤 H A at-mem run)) where
+  module _ (C : Calls 𝓤 H) (Λ : Loops 𝓤 H) (fm : FmC 𝓤 H (W .laws) C) (known : Triple 𝓤 (C #key_match·next-match) (NextMatch 𝓤 H A at-mem run))
+      (known-after : Triple 𝓤 (C #key_match·after) (After 𝓤 H A at-mem run)) where
     walk : Is (ShrSlice (named 1) κ′ u8) t (s ∷ []) → Is (ShrSlice (named 2) κ″ u8) g (z ∷ [])
         → ent 𝓤 (onEntry 𝓤 H A show.signature (κ, (κ′, (κ″, tt))) (q, (q′, (q″, tt))) a vals) (WpFn 𝓤 H C Λ code.function (vptr b o ∷ s ∷ z ∷ []) Post)
     walk p p₂ =
@@ -222,8 +222,8 @@ module _ {M : Type 1} (𝓤 : URA M) (H : Heap 𝓤) (A : Atoms 𝓤) (W : Given
         keep ! (0 ∷ 1 ∷ 2 ∷ 3 ∷ 4 ∷ []) $ by ! (exits f u r is e e′))))))))))))))))))
 
 module _ {M : Type 1} (𝓤 : URA M) (H : Heap 𝓤) (A : Atoms 𝓤) (W : Given 𝓤 H A) (mem : Memory → SProp 𝓤) (run : Routine → Fun 𝓤) where
-  show-walks : (C : Calls 𝓤 H) (Λ : Loops 𝓤 H) → FmC 𝓤 H (W .laws) C → Triple 𝓤 (C #worn_keys·next-match) (NextMatch 𝓤 H A mem run)
-      → Triple 𝓤 (C #worn_keys·after) (After 𝓤 H A mem run) → Walks 𝓤 H A show.ended stayed (WpFn 𝓤 H C Λ code.function) (show.clauses 𝓤 H A mem run)
+  show-walks : (C : Calls 𝓤 H) (Λ : Loops 𝓤 H) → FmC 𝓤 H (W .laws) C → Triple 𝓤 (C #key_match·next-match) (NextMatch 𝓤 H A mem run)
+      → Triple 𝓤 (C #key_match·after) (After 𝓤 H A mem run) → Walks 𝓤 H A show.ended stayed (WpFn 𝓤 H C Λ code.function) (show.clauses 𝓤 H A mem run)
   show-walks C Λ fm known known-after = walked 𝓤 H A show.ended stayed (show.clauses 𝓤 H A mem run) (WpFn 𝓤 H C Λ code.function)
       (λ κs. (ptr-vals, (slice-vals, (slice-vals, tt))))
       (λ κs. (mut-tells (named 0) (κs .0) (T.the-row), (shr-slice-tells (named 1) (κs .1 .0) u8, (shr-slice-tells (named 2) (κs .1 .1 .0) u8, tt))))
@@ -231,7 +231,7 @@ module _ {M : Type 1} (𝓤 : URA M) (H : Heap 𝓤) (A : Atoms 𝓤) (W : Given
       bounds (a .0 .ptr .0) (a .0 .ptr .1) (a .0 .name) (a .0 .now) (a .1 .0) (a .1 .1 .0) C Λ fm known known-after (are .1 .0) (are .1 .1 .0)))
 
 show-meets : {M : Type 1} (𝓤 : URA M) (H : Heap 𝓤) (A : Atoms 𝓤) → Given 𝓤 H A → (mem : Memory → SProp 𝓤) (run : Routine → Fun 𝓤) (𝓣 : Tables 𝓤 H)
-    → Triple 𝓤 (𝓣 .C #worn_keys·next-match) (NextMatch 𝓤 H A mem run) → Triple 𝓤 (𝓣 .C #worn_keys·after) (After 𝓤 H A mem run)
+    → Triple 𝓤 (𝓣 .C #key_match·next-match) (NextMatch 𝓤 H A mem run) → Triple 𝓤 (𝓣 .C #key_match·after) (After 𝓤 H A mem run)
     → Meets 𝓤 H A show.signature (WpFn 𝓤 H (𝓣 .C) (𝓣 .Λ) code.function) (show.spec 𝓤 H A mem run)
 show-meets 𝓤 H A W mem run 𝓣 known known-after =
     walk-meets 𝓤 H A show.ended stayed W (
@@ -245,8 +245,8 @@ pub advance-mark-spec : {M : Type 1} → stated.statement M
 unfolding code.routine tablesOf
 advance-mark-spec 𝓤 H 𝓜 𝓖 𝓡 =
     entered 𝓤 H (tripleOf 𝓤 H (𝓖 .A) show.signature (show.spec 𝓤 H (𝓖 .A) (𝓜 .mem) (𝓡 .run)))
-    (tables 𝓤 H 𝓜 𝓡 code.env .C) (tables 𝓤 H 𝓜 𝓡 code.env .Λ) #worn_keys·show code.function (code.unfolded 𝓤 H 𝓜 𝓡)
+    (tables 𝓤 H 𝓜 𝓡 code.env .C) (tables 𝓤 H 𝓜 𝓡 code.env .Λ) #key_match·advance-mark code.function (code.unfolded 𝓤 H 𝓜 𝓡)
     (show-meets 𝓤 H (𝓖 .A) (givenOf 𝓤 H 𝓜 𝓖) (𝓜 .mem) (𝓡 .run) (tablesOf 𝓤 H 𝓜 (tables 𝓤 H 𝓜 𝓡 code.env))
     (cited 𝓤 H (NextMatch 𝓤 H (𝓖 .A) (𝓜 .mem) (𝓡 .run))
-    𝓜 𝓡 code.env #worn_keys·next-match next-match-def.routine code.calls-ask-worn-keys·next-match (next-match-thm.met 𝓤 H 𝓜 𝓖 𝓡))
-    (cited 𝓤 H (After 𝓤 H (𝓖 .A) (𝓜 .mem) (𝓡 .run)) 𝓜 𝓡 code.env #worn_keys·after after-def.routine code.calls-ask-worn-keys·after (after-thm.met 𝓤 H 𝓜 𝓖 𝓡)))
+    𝓜 𝓡 code.env #key_match·next-match next-match-def.routine code.calls-query-key-match·next-match (next-match-thm.met 𝓤 H 𝓜 𝓖 𝓡))
+    (cited 𝓤 H (After 𝓤 H (𝓖 .A) (𝓜 .mem) (𝓡 .run)) 𝓜 𝓡 code.env #key_match·after after-def.routine code.calls-query-key-match·after (after-thm.met 𝓤 H 𝓜 𝓖 𝓡)))
