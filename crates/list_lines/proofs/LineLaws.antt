@@ -19,7 +19,7 @@ use Rattle.layout.specs.HeaderFields.{HeaderOf, header-refused}
 use Rattle.layout.specs.declared.header.Header.{Header}
 use Rattle.layout.specs.declared.header.HeaderAnswer.{HeaderAnswer}
 use Rattle.layout.specs.declared.header.HeaderAnswer.the-variants as header
-use Rattle.list_lines.specs.ListedLines.{ListPut, figure, line, levelLine, linesBelow, refusedLine, linesOf, maxInput, listRefusal, printed, maxFigure}
+use Rattle.list_lines.specs.ListedLines.{ListPut, figure, line, levelLine, linesBelow, refusedLine, linesOf, maxInput, inputRefusal, printed, maxFigure}
 use Rattle.list_lines.specs.LevelTable.{hasKind, maxRefused, Level}
 use Rattle.list_lines.specs.ListedLines.{maxLine, maxLines}
 use Rattle.list_lines.proofs.WrittenLaws.{then-put, put-nothing, put-within}
@@ -100,17 +100,17 @@ module _ (t : List ℕ) where
     lines-done l a b p = let q : l ≡ at.settings t .levels = omega (arith, k .levels-is) in put-within maxLines (omega (arith, levels-few)) (rw q at p)
 
   -- Question 15 first, then the check's.
-  pub input-long : maxInput < length t → 15 ≡ listRefusal t
-  unfolding listRefusal
+  pub input-long : maxInput < length t → 15 ≡ inputRefusal t
+  unfolding inputRefusal
   input-long h = rw (lt-leb (length t) maxInput h)
 
-  pub input-short : length t ≤ maxInput → checkResult t ≡ listRefusal t
-  unfolding listRefusal
+  pub input-short : length t ≤ maxInput → checkResult t ≡ inputRefusal t
+  unfolding inputRefusal
   input-short h = rw (le-leb (length t) maxInput h)
 
   -- The number decides what is printed.
   pub print-refused : {d e : List ℕ} {end : ℕ} (n : ℕ)
-      → n ≡ listRefusal t → (n ≡ 0 → ⊥) → ListPut d e 0 end (refusedLine n) maxRefused → ListPut d e 0 end (printed t) maxLines
+      → n ≡ inputRefusal t → (n ≡ 0 → ⊥) → ListPut d e 0 end (refusedLine n) maxRefused → ListPut d e 0 end (printed t) maxLines
   unfolding printed
   print-refused n is m p = put-within maxLines (omega arith) (rw (lines-of n m ∙ ap (λ (x : ℕ). linesOf x t) is) at p)
     where
@@ -118,7 +118,7 @@ module _ (t : List ℕ) where
       lines-of zero m = absurd (m refl)
       lines-of (suc x) m = refl
 
-  module _ (passed : listRefusal t ≡ 0) where
+  module _ (passed : inputRefusal t ≡ 0) where
     pub print-lines : {d e : List ℕ} {end : ℕ} → ListPut d e 0 end (linesBelow t (at.settings t .levels)) maxLines → ListPut d e 0 end (printed t) maxLines
     unfolding printed
     print-lines p = rw (ap (λ (x : ℕ). linesOf x t) (sym passed)) at p
@@ -128,7 +128,7 @@ module _ (t : List ℕ) where
     passes false v e = absurd (let z : ⊥ = omega arith in z)
 
     accepted : checkResult t ≡ 0
-    unfolding listRefusal
+    unfolding inputRefusal
     accepted = passes (leb (length t) maxInput) (checkResult t) passed
 
     -- The header of an accepted tree is not refused.

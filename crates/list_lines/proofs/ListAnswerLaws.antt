@@ -9,7 +9,7 @@ use lib.ListN.{length, take, drop}
 use lib.Seq.{take-at}
 use Rattle.list_lines.specs.declared.ListAnswer.{ListAnswer}
 use Rattle.list_lines.specs.declared.ListAnswer.the-variants.{Bytes, Refused}
-use Rattle.list_lines.specs.ListedLines.{listRefusal, printed, maxLines, list-written, ListPut, listRefusal, listAnswer, IsListAnswer, listBuffer}
+use Rattle.list_lines.specs.ListedLines.{inputRefusal, printed, maxLines, list-written, ListPut, listRefusal, listAnswer, IsListAnswer, listBuffer}
 
 module _ (t out : List ℕ) where
   -- A refusal, which leaves the buffer.
@@ -18,11 +18,11 @@ module _ (t out : List ℕ) where
   left zero is low = absurd (let z : ⊥ = omega arith in z)
   left (suc q) is low = (record { answers = rw is; numbered = low }, rw (is, ne-eqb (suc q) 0 (λ e. omega arith)))
 
-  pub list-refused : (n : ℕ) → n ≡ listRefusal t → (n ≡ 0 → ⊥) → IsListAnswer t (length out) (Refused n) × (out ≡ listBuffer t out)
+  pub list-refused : (n : ℕ) → n ≡ inputRefusal t → (n ≡ 0 → ⊥) → IsListAnswer t (length out) (Refused n) × (out ≡ listBuffer t out)
   unfolding listRefusal
   list-refused n is m = left n (rw (← is, ne-eqb n 0 m)) (omega (arith, m))
 
-  module _ (passed : listRefusal t ≡ 0) (size : ℕ) (d e : List ℕ) (put : ListPut d e 0 size (printed t) maxLines) where
+  module _ (passed : inputRefusal t ≡ 0) (size : ℕ) (d e : List ℕ) (put : ListPut d e 0 size (printed t) maxLines) where
     size-is : size ≡ length (printed t)
     size-is = put .after ∙ zero-add (length (printed t))
 

@@ -17,7 +17,7 @@ use Rattle.format.specs.TreeReading.{checkResult}
 use Rattle.theory_accepted.specs.QuestionNumbers.{OneOf, asks-one, then-one, not-zero, checked-one, answers-refused, answers-answer}
 use Rattle.theory_adequacy.specs.TotalCorrectness.{TotallyCorrect}
 use Rattle.theory_adequacy.specs.Preconditions.{NoPrecondition, Call, callOf, Each, each-ends, each-asks-nothing}
-use Rattle.list_lines.specs.ListedLines.{listRefusal, printed, maxInput, listRefusal, listAnswer, listBuffer}
+use Rattle.list_lines.specs.ListedLines.{inputRefusal, printed, maxInput, listRefusal, listAnswer, listBuffer}
 use Rattle.list_lines.specs.declared.ListAnswer.{ListAnswer}
 use Rattle.list_lines.specs.declared.ListAnswer.the-variants.{Bytes, Refused}
 use Rattle.list_lines.proofs.list as list-of
@@ -46,7 +46,7 @@ Lists κs t out after r = list-reads.Post κs (t, (out, tt)) r (t, (after, tt))
 
 -- The numbers that its questions can give.
 list-one : (t : List ℕ) (room : ℕ) → OneOf (15 ∷ 5 ∷ 6 ∷ 7 ∷ 8 ∷ 9 ∷ 13 ∷ 0 ∷ []) (listRefusal t room)
-unfolding listRefusal listRefusal
+unfolding listRefusal inputRefusal
 list-one t room =
     then-one (15 ∷ 5 ∷ 6 ∷ 7 ∷ 8 ∷ 9 ∷ []) (13 ∷ 0 ∷ []) _ _ (input (leb (length t) maxInput)) (asks-one ((13, leb (length (printed t)) room) ∷ []))
   where

@@ -13,7 +13,7 @@ use Rattle.format.specs.TreeReading.{pathOf, pathFrom, targetPlace, targetBlock
 use Rattle.format.specs.TreeReading.{linksOk, textOf, countsTrue, edgesTrue, blockEdgesTrue, lastLevel, widthAt, keptRight, pointingRight, blockRight}
 use Rattle.format.specs.FittingText.{fits, blockFits}
 use Rattle.format.specs.TreeReading.{countBelowRight, blockCountsTrue, checkResult, headerResult}
-use Rattle.list_lines.specs.ListedLines.{digitsWithin, decimal, figure, line, levelLine, linesBelow, refusedLine, listRefusal, printed}
+use Rattle.list_lines.specs.ListedLines.{digitsWithin, decimal, figure, line, levelLine, linesBelow, refusedLine, inputRefusal, printed}
 
 list-book : List ℕ
 list-book = 81 ∷ 65 ∷ 66 ∷ 67 ∷ 68 ∷ 65 ∷ 66 ∷ 67 ∷ 68 ∷ 69 ∷ 70 ∷ 71 ∷ 65 ∷ 66 ∷ 67 ∷ 68 ∷ 65 ∷ 66 ∷ 67 ∷ 68 ∷ []
@@ -36,7 +36,7 @@ unfolding list-book list-two tabulate concat sumBelow countBelow allBelow sameLi
     filledOut levelBytes recordIn recordOf target occurrence width isKept startsAt cut keptByPairs firstPairAt pairAt lengthOf startOf pathOf pathFrom
     targetPlace targetBlock pointingBlock keptBlock lands landBlock landPlace landVisits linksOk textOf fits countsTrue edgesTrue blockEdgesTrue
     lastLevel widthAt keptRight pointingRight blockRight countBelowRight blockFits blockCountsTrue checkResult headerResult at.leafByte at.blockLengthAt
-    at.levelCount at.levelOffset digitsWithin decimal figure line levelLine linesBelow refusedLine listRefusal printed at.layout at.textLength
+    at.levelCount at.levelOffset digitsWithin decimal figure line levelLine linesBelow refusedLine inputRefusal printed at.layout at.textLength
     at.countedCount at.settings at.leafOffset at.leafCount at.recordSize at.field at.start at.kind at.link at.gap at.before at.inside at.skip
     at.edgesAt at.fullLength at.isKept at.isPointing at.hasEdges at.holdsHeader at.layoutOk at.headerOk
 list-shown = record { book-lines = refl; short-tree = refl; short-header = refl; no-text = refl; three-digits = refl }

@@ -79,8 +79,8 @@ abbrev pub maxLines : ℕ
 maxLines = maxLevels * maxLine
 
 -- Question 15, then the check's.
-unfoldable pub listRefusal : List ℕ → ℕ
-listRefusal input = cond (leb (length input) maxInput) (checkResult input) 15
+unfoldable pub inputRefusal : List ℕ → ℕ
+inputRefusal input = cond (leb (length input) maxInput) (checkResult input) 15
 
 -- The lines of all levels, or the line of a refused tree if the number is not 0.
 abbrev pub linesOf : ℕ → List ℕ → List ℕ
@@ -89,14 +89,14 @@ linesOf (suc q) t = refusedLine (suc q)
 
 -- What the list program prints for any input.
 unfoldable pub printed : List ℕ → List ℕ
-printed input = linesOf (listRefusal input) input
+printed input = linesOf (inputRefusal input) input
 
 -- What list returns, and what the caller's buffer contains afterwards.
 -- docs/FORMAT.md: "The list program".
 
 -- The refusal: questions 15 and 5 to 9, then 13 if the buffer is too short for the lines.
 unfoldable pub listRefusal : List ℕ → ℕ → ℕ
-listRefusal t room = orNext (listRefusal t) (asks ((13, leb (length (printed t)) room) ∷ []))
+listRefusal t room = orNext (inputRefusal t) (asks ((13, leb (length (printed t)) room) ∷ []))
 
 -- The length of the lines, or the refusal.
 unfoldable pub listAnswer : List ℕ → ℕ → Answer

@@ -12,7 +12,7 @@ ghost use Prim.Native.Nat.{_+_, _≤_};
 ghost use lib.ListN.{length};
 ghost use Rattle.format.specs.Layout as at;
 ghost use Rattle.layout.specs.HeaderFields.{HeaderOf};
-ghost use Rattle.list_lines.specs.ListedLines.{ListPut, line, levelLine, linesBelow, refusedLine, listRefusal, printed, maxLine, maxLines};
+ghost use Rattle.list_lines.specs.ListedLines.{ListPut, line, levelLine, linesBelow, refusedLine, inputRefusal, printed, maxLine, maxLines};
 ghost use Rattle.list_lines.specs.LevelTable.{maxRefused, Level};
 ghost use Rattle.list_lines.specs.ListedLines.{IsListAnswer, listBuffer};
 
@@ -62,7 +62,7 @@ pub fn print(input: &[u8], out: &mut [u8; MAX_LINES]) -> usize
 
 // Question 15, then those of the check.
 fn input_number(input: &[u8]) -> u32
-    ensures { λ r. ⌜ r ≡ listRefusal (now (input .entry)) ⌝ }
+    ensures { λ r. ⌜ r ≡ inputRefusal (now (input .entry)) ⌝ }
 {
     if MAX_INPUT < input.len() {
         return 15;
@@ -81,7 +81,7 @@ fn refused(number: u32, out: &mut [u8]) -> usize
 
 // Writes the lines of the levels of an accepted tree.
 fn level_lines(t: &[u8], out: &mut [u8]) -> usize
-    requires { ⌜ (listRefusal (now t) ≡ 0) × (maxLines ≤ length (now out)) ⌝ }
+    requires { ⌜ (inputRefusal (now t) ≡ 0) × (maxLines ≤ length (now out)) ⌝ }
     ensures { λ r. ⌜ ListPut (now (out .entry)) (now (out .exit)) 0 r (printed (now (t .entry))) maxLines ⌝ }
 {
     let read = header::read_header(t);
