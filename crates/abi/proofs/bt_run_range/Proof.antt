@@ -5,8 +5,8 @@ use Rattle.abi.proofs.ExportsLaws as laws
 use Rattle.abi.proofs.bt_run_range.Statement.{statement}
 use Rattle.abi.proofs.bt_run_range.Tie as tie
 
-pub bt-run-range-range-spec : {M : Type 1} → statement M
-bt-run-range-range-spec =
+pub bt-run-range-spec : {M : Type 1} → statement M
+bt-run-range-spec =
     tie.close
     (tie.spec
     (λ c κs. search needs)
