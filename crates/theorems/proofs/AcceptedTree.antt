@@ -17,7 +17,7 @@ use Rattle.format.specs.LayoutLaws.{header-facts}
 use Rattle.theory_paths.specs.Theorems as paths
 use Rattle.theory_counts.specs.CountsLocal.{byteOf}
 use Rattle.theory_counts.specs.Ranks as ranks
-use Rattle.theorems.specs.Promises.{CallAmong, LengthOfPath}
+use Rattle.theorems.specs.Promises.{CountedIn, LengthOfPath}
 use Rattle.theorems.proofs.BlocksEntered.{length-of-path}
 
 -- A byte that is one of a list has an index in it.
@@ -31,7 +31,7 @@ among-index c (x ∷ xs) (suc i) h e = go (eqb c x) (among-index c xs i (omega a
     go true l = omega arith
     go false l = omega arith
 
-pub among-counted : (t : List ℕ) (byte : ℕ) → CallAmong byte (at.settings t .counted) → isCounted t byte ≡ true
+pub among-counted : (t : List ℕ) (byte : ℕ) → CountedIn byte (at.settings t .counted) → isCounted t byte ≡ true
 unfolding isCounted
 among-counted t byte a = lt-ltb _ _ (among-index byte (at.settings t .counted) (a .0) (a .1) (a .2))
 
@@ -51,7 +51,7 @@ module _ (t : List ℕ) (v : checkResult t ≡ 0) where
       rw (w .1) (length-of-path t pass p (w .0) (w .1))
 
   -- A byte that is not among the counted ones.
-  pub not-counted : (byte : ℕ) → (CallAmong byte (at.settings t .counted) → ⊥) → isCounted t byte ≡ false
+  pub not-counted : (byte : ℕ) → (CountedIn byte (at.settings t .counted) → ⊥) → isCounted t byte ≡ false
   unfolding byteOf
   not-counted byte other = go (bool-cases (isCounted t byte))
     where

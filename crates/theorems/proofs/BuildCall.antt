@@ -34,7 +34,7 @@ use Rattle.theorems.specs.Promises.{Answers, CompleteBuilder, Refuses}
 use Rattle.theorems.specs.PublicFunctions.{build-function}
 use Rattle.theorems.proofs.CheckCall.{Check}
 use Rattle.theorems.proofs.SizeBoundCall.{SizeBound, size-bound-answer}
-use Rattle.theorems.proofs.PublicCall.{Call, Lent, call}
+use Rattle.theorems.proofs.PublicCall.{Call, Borrowed, call}
 use Rattle.theorems.proofs.RefusalNumbers.{OneOf, asks-one, not-zero}
 use Rattle.build_by_search.proofs.build.Met as build-met
 use Rattle.theorems.proofs.TreeAnswers.{accepted-answers, accepted-refuses}
@@ -60,7 +60,7 @@ build-fits S T out h =
     ∷ (4, leb (length (treeOf S T)) (length out)) ∷ [] in
     leb-true _ _ (asks-pass questions refl h .1 .1 .1 .0)
 
-module _ (κs : Lfts 3) (text : Lent) (leaf arity levels : ℕ) (counted out after : Lent) where
+module _ (κs : Lfts 3) (text : Borrowed) (leaf arity levels : ℕ) (counted out after : Borrowed) where
   abbrev S : Settings
   S = given leaf arity levels (now counted)
 
@@ -130,7 +130,7 @@ module _ (κs : Lfts 3) (text : Lent) (leaf arity levels : ℕ) (counted out aft
     build-writes = tree.build-writes κs text leaf arity levels counted out after (built.Size size) a refl
 
     -- The tree, as an argument of another call.
-    module _ (t : Lent) (is : now t ≡ take size (now after)) where
+    module _ (t : Borrowed) (is : now t ≡ take size (now after)) where
       -- No question refused.
       passed : buildRefusal S T (now out) ≡ 0
       passed = sym (a .0)

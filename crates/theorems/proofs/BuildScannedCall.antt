@@ -32,7 +32,7 @@ use Rattle.theorems.specs.PublicFunctions.{build-scanned-function, scan-
 use Rattle.theorems.proofs.BuildCall.{Build, build-numbers, build-zeros, build-answer, build-writes}
 use Rattle.theorems.proofs.BuildCall.{build-answers, build-refuses, build-accepted, build-one-text}
 use Rattle.theorems.proofs.CheckCall.{Check}
-use Rattle.theorems.proofs.PublicCall.{Call, Lent, call}
+use Rattle.theorems.proofs.PublicCall.{Call, Borrowed, call}
 use Rattle.theorems.proofs.RefusalNumbers.{OneOf, asks-one}
 use Rattle.build_by_scan.proofs.build_scanned.Met as build-scanned-met
 use Rattle.build_by_scan.proofs.scan_words.Met as scan-words-met
@@ -49,7 +49,7 @@ abbrev pub scan-words-call : Call
 scan-words-call = call scan-words-function scan-words-met.met (λ 𝓤 H A mem run κs a. (tt, refl))
 
 -- A call of build_scanned, which leaves the table `words` as `table` and the buffer `out` as `after`.
-module _ (κs : Lfts 4) (text : Lent) (leaf arity levels : ℕ) (counted words table out after : Lent) where
+module _ (κs : Lfts 4) (text : Borrowed) (leaf arity levels : ℕ) (counted words table out after : Borrowed) where
   abbrev S : Settings
   S = given leaf arity levels (now counted)
 
@@ -144,7 +144,7 @@ module _ (κs : Lfts 4) (text : Lent) (leaf arity levels : ℕ) (counted words t
 
     -- Request 106: with the same text, settings and buffer, build_scanned and build return the same number and size and leave the same bytes, unless
     -- build_scanned is refused with 18.
-    pub same-as-build : (κ : Lfts 3) (lent left : Lent) (b : BuildAnswer) → now lent ≡ now out → Build κ text leaf arity levels counted lent left b
+    pub same-as-build : (κ : Lfts 3) (lent left : Borrowed) (b : BuildAnswer) → now lent ≡ now out → Build κ text leaf arity levels counted lent left b
         → (replied (buildScannedReply r) .number ≡ 18 → ⊥)
         → (replied (buildScannedReply r) .number ≡ replied (buildReply b) .number) × (replied (buildScannedReply r) .value ≡ replied (buildReply b) .value)
         × (now after ≡ now left)
@@ -170,7 +170,7 @@ module _ (κs : Lfts 4) (text : Lent) (leaf arity levels : ℕ) (counted words t
     pub scanned-writes : take size (now after) ≡ treeOf S T
     scanned-writes = build-writes κ text leaf arity levels counted out after size (as-size size windows a)
 
-    module _ (t : Lent) (is : now t ≡ take size (now after)) where
+    module _ (t : Borrowed) (is : now t ≡ take size (now after)) where
       -- Demand 2, second part: all calls on the written tree return what the text has.
       pub scanned-answers : Answers t S T
       scanned-answers = build-answers κ text leaf arity levels counted out after size (as-size size windows a) t is

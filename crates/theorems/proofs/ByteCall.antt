@@ -28,8 +28,8 @@ use Rattle.theorems.specs.Promises.{ByteAnswers, ByteRefuses, LengthOfPa
 use Rattle.theorems.specs.PublicFunctions.{byte-function}
 use Rattle.theorems.proofs.AcceptedTree.{below, path-length, text-size}
 use Rattle.theorems.proofs.BlocksEntered.{length-of-path}
-use Rattle.theorems.proofs.PublicCall.{Call, Lent, call}
-use Rattle.theorems.proofs.RefusalNumbers.{OneOf, asks-one, not-zero, readable-one, unless-one}
+use Rattle.theorems.proofs.PublicCall.{Call, Borrowed, call}
+use Rattle.theorems.proofs.RefusalNumbers.{OneOf, asks-one, not-zero, header-one, unless-one}
 use Rattle.query_access.proofs.byte.Met as byte-met
 -- r is an answer that the contract of `byte` allows to a call with these arguments: `Byte κs tree place r`
 pub use Rattle.theorems.specs.CallContracts.{Byte}
@@ -65,10 +65,10 @@ pub byte-one : (t : List ℕ) (p : ℕ) → OneOf (5 ∷ 6 ∷ 7 ∷ 10 ∷ 14 �
 unfolding byteAnswer
 byte-one t p =
     let ten = ask 10 (ltb p (at.textLength t)) 0 in
-    unless-one (5 ∷ 6 ∷ 7 ∷ []) (10 ∷ 14 ∷ 0 ∷ []) (headerResult t) (unless ten (byteOf t (pathOf t p))) (readable-one t)
+    unless-one (5 ∷ 6 ∷ 7 ∷ []) (10 ∷ 14 ∷ 0 ∷ []) (headerResult t) (unless ten (byteOf t (pathOf t p))) (header-one t)
     (unless-one (10 ∷ []) (14 ∷ 0 ∷ []) ten (byteOf t (pathOf t p)) (asks-one ((10, ltb p (at.textLength t)) ∷ [])) (byteOf-one t (pathOf t p)))
 
-module _ (κs : Lfts 1) (t : Lent) (p : TextPlace) where
+module _ (κs : Lfts 1) (t : Borrowed) (p : TextPlace) where
   -- On any tree, the result is the byte at the end of the place's path, with that path's length.
   pub byte-answer : (v e : ℕ) → Byte κs t p (answer.Byte v e)
       → (q : Path) × (pathOf (now t) (p .0) ≡ some q) × (v ≡ at.leafByte (now t) (q .leaf)) × LengthOfPath (now t) (at.settings (now t) .levels) (p .0) e
@@ -103,7 +103,7 @@ byte-no (answer.Byte v e) n s = absurd (let z : _≡_ {A = ℕ} 0 (suc n) = ap (
 byte-no (answer.Refused m) n s = ap (λ (x : Answer). answer.Refused (x .number)) s
 
 -- Any tree that the check accepts, and the one text that fits it.
-module _ (t : Lent) (v : checkResult (now t) ≡ 0) where
+module _ (t : Borrowed) (v : checkResult (now t) ≡ 0) where
   pub accepted-answers : ByteAnswers t (at.settings (now t)) (textOf (now t))
   accepted-answers = record {
     byte-of = λ κs p r a h.

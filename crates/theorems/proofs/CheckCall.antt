@@ -14,8 +14,8 @@ use Rattle.theory_accepted.specs.AcceptedTrees.{Represents, one-text}
 use Rattle.tree.proofs.Theorems as tree
 use Rattle.theorems.specs.Promises.{Answers, ExactCheck, Refuses}
 use Rattle.theorems.specs.PublicFunctions.{check-function}
-use Rattle.theorems.proofs.PublicCall.{Call, Lent, call}
-use Rattle.theorems.proofs.RefusalNumbers.{OneOf, verdict-one}
+use Rattle.theorems.proofs.PublicCall.{Call, Borrowed, call}
+use Rattle.theorems.proofs.RefusalNumbers.{OneOf, checked-one}
 use Rattle.tree.proofs.check.Met as check-met
 use Rattle.theorems.proofs.TreeAnswers.{accepted-answers, accepted-refuses}
 -- What the contract allows: `Check κs tree r`.
@@ -25,15 +25,15 @@ abbrev pub check-call : Call
 check-call = call check-function check-met.met (λ 𝓤 H A mem run κs a. (tt, refl))
 
 -- Check returns 0, or 5 to 9.
-pub check-numbers : (κs : Lfts 1) (t : Lent) (r : ℕ) → Check κs t r → OneOf (5 ∷ 6 ∷ 7 ∷ 8 ∷ 9 ∷ 0 ∷ []) r
-check-numbers κs t r a = rw a (verdict-one (now t))
+pub check-numbers : (κs : Lfts 1) (t : Borrowed) (r : ℕ) → Check κs t r → OneOf (5 ∷ 6 ∷ 7 ∷ 8 ∷ 9 ∷ 0 ∷ []) r
+check-numbers κs t r a = rw a (checked-one (now t))
 
 -- The check returns 0 if and only if questions 5 to 8 pass and some text fits whose counts, and in layout 2 edges, are those of the tree.
 pub check-accepts : ExactCheck
 check-accepts = tree.check-accepts
 
 -- A call of check, on any bytes, whoever made them.
-module _ (κs : Lfts 1) (t : Lent) where
+module _ (κs : Lfts 1) (t : Borrowed) where
   -- In layout 1 there are no edges, and the condition on edges holds of every text.
   pub layout1-no-edges : at.layout (now t) ≡ 1 → (T : List ℕ) → edgesTrue T (now t) ≡ true
   layout1-no-edges one T = no-edges T (now t) one

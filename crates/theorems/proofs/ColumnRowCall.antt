@@ -24,8 +24,8 @@ use Rattle.query_columns.specs.ColumnRows.{cell, cellsHold, rowByColumnsRefusal
 use Rattle.theorems.specs.Promises.{ColumnAnswers, ColumnRefuses}
 use Rattle.theorems.specs.PublicFunctions.{row-by-columns-function}
 use Rattle.theorems.proofs.AcceptedTree.{text-size}
-use Rattle.theorems.proofs.PublicCall.{Call, Lent, call}
-use Rattle.theorems.proofs.RefusalNumbers.{OneOf, asks-one, not-zero, readable-one, says-answer, says-refused, then-one}
+use Rattle.theorems.proofs.PublicCall.{Call, Borrowed, call}
+use Rattle.theorems.proofs.RefusalNumbers.{OneOf, asks-one, not-zero, header-one, answers-answer, answers-refused, then-one}
 use Rattle.query_columns.proofs.row_by_columns.Met as row-by-columns-met
 -- What the contract allows, where the buffer is left as `after`: `ByColumns κs tree width a buffer after r`.
 pub use Rattle.theorems.specs.CallContracts.{ByColumns}
@@ -39,7 +39,7 @@ row-by-columns-call = call row-by-columns-function row-by-columns-met.met (λ �
 column-one : (t : List ℕ) (w a room : ℕ) → OneOf (5 ∷ 6 ∷ 7 ∷ 20 ∷ 10 ∷ 13 ∷ 14 ∷ 0 ∷ []) (rowByColumnsRefusal t w a room)
 unfolding rowByColumnsRefusal
 column-one t w a room =
-    then-one (5 ∷ 6 ∷ 7 ∷ []) (20 ∷ 10 ∷ 13 ∷ 14 ∷ 0 ∷ []) (headerResult t) _ (readable-one t)
+    then-one (5 ∷ 6 ∷ 7 ∷ []) (20 ∷ 10 ∷ 13 ∷ 14 ∷ 0 ∷ []) (headerResult t) _ (header-one t)
     (asks-one ((20, widthOk w (at.textLength t)) ∷ (10, ltb a (at.textLength t / w)) ∷ (13, leb w room) ∷ (14, cellsHold t w a) ∷ []))
 
 -- Where no question refuses, the row fits.
@@ -50,13 +50,13 @@ column-fits t w a room h =
     let questions : List (ℕ × Bool) = (20, widthOk w n) ∷ (10, ltb a (n / w)) ∷ (13, leb w room) ∷ (14, cellsHold t w a) ∷ [] in
     leb-true w room (asks-pass questions refl (next-passes (headerResult t) (asks questions) h .1) .1 .1 .0)
 
-module _ (κs : Lfts 2) (t : Lent) (w a : ℕ) (buffer after : Lent) where
+module _ (κs : Lfts 2) (t : Borrowed) (w a : ℕ) (buffer after : Borrowed) where
   -- A result is w bytes, which fit, and the bytes after them are unchanged.
   pub column-answer : (m e : ℕ) → ByColumns κs t w a buffer after (copied.Bytes m e)
       → (m ≡ w) × (e ≡ 0) × (w ≤ length (now buffer)) × (drop w (now after) ≡ drop w (now buffer))
   unfolding rowByColumnsAnswer rowByColumnsBuffer
   column-answer m e c =
-      let s = says-answer m e _ w 0 (c .0 .answers) in
+      let s = answers-answer m e _ w 0 (c .0 .answers) in
       let row = tabulate w (λ b. byteAnswer (now t) (cell (now t) w a b) .value) in
       let left : now after ≡ row ++ drop w (now buffer) = rw (eq-eqb (rowByColumnsRefusal (now t) w a (length (now buffer))) 0 (s .0)) at (c .1) in (
         s .1,
@@ -69,7 +69,7 @@ module _ (κs : Lfts 2) (t : Lent) (w a : ℕ) (buffer after : Lent) where
     -- The number is the definition's.
     column-answers : n ≡ rowByColumnsRefusal (now t) w a (length (now buffer))
     unfolding rowByColumnsAnswer
-    column-answers = says-refused n _ w 0 (c .0 .numbered) (c .0 .answers)
+    column-answers = answers-refused n _ w 0 (c .0 .numbered) (c .0 .answers)
 
     -- A refusal is 5, 6, 7, 20, 10, 13 or 14.
     pub column-numbers : OneOf (5 ∷ 6 ∷ 7 ∷ 20 ∷ 10 ∷ 13 ∷ 14 ∷ []) n
@@ -90,7 +90,7 @@ module _ (κs : Lfts 2) (t : Lent) (w a : ℕ) (buffer after : Lent) where
     column-unchanged e = column-left ∙ rw (ne-eqb n 14 e)
 
 -- Any tree that the check accepts, and the one text that fits it.
-module _ (t : Lent) (v : checkResult (now t) ≡ 0) where
+module _ (t : Borrowed) (v : checkResult (now t) ≡ 0) where
   pass : headerResult (now t) ≡ 0
   pass = accepted-header (now t) v
 

@@ -10,7 +10,7 @@ use lib.ListN.{length}
 use lib.Dec.{leb}
 use Rattle.columns.specs.Columns.{widthOk, refusalOf, columnsRefusal}
 use Rattle.theorems.specs.PublicFunctions.{from-columns-function, to-columns-function}
-use Rattle.theorems.proofs.PublicCall.{Call, Lent, call}
+use Rattle.theorems.proofs.PublicCall.{Call, Borrowed, call}
 use Rattle.theorems.proofs.RefusalNumbers.{OneOf}
 use Rattle.columns.proofs.to_columns.Met as to-columns-met
 use Rattle.columns.proofs.from_columns.Met as from-columns-met
@@ -33,7 +33,7 @@ refusal-one w n room = go (widthOk w n) (leb n room)
     go true false = inr (inl refl)
     go false b = inl refl
 
-module _ (κs : Lfts 2) (text : Lent) (w : ℕ) (out after : Lent) (r : ℕ) where
+module _ (κs : Lfts 2) (text : Borrowed) (w : ℕ) (out after : Borrowed) (r : ℕ) where
   pub to-columns-numbers : ToColumns κs text w out after r → OneOf (20 ∷ 21 ∷ 0 ∷ []) r
   unfolding columnsRefusal
   to-columns-numbers a = rw (a .0) (refusal-one w (length (now text)) (length (now out)))

@@ -18,19 +18,19 @@ use Rattle.query_rank.specs.declared.CountAnswer.{CountAnswer}
 use Rattle.query_rank.specs.declared.CountAnswer.the-variants as counted
 use Rattle.query_select.specs.declared.FindAnswer.{FindAnswer}
 use Rattle.query_select.specs.declared.FindAnswer.the-variants as found
-use Rattle.theorems.specs.Promises.{CallAmong}
+use Rattle.theorems.specs.Promises.{CountedIn}
 use Rattle.theorems.proofs.CheckCall.{Check, check-answers, check-refuses}
 use Rattle.theorems.proofs.CountCall.{Count}
 use Rattle.theorems.proofs.FindCall.{Find}
 use Rattle.theorems.proofs.OneByte.{OneByte, one-byte-back, count-before, count-near, place-same}
-use Rattle.theorems.proofs.PublicCall.{Lent}
+use Rattle.theorems.proofs.PublicCall.{Borrowed}
 
 -- An accepted tree, of any origin, settings and layout, that represents the text and counts the byte.
-pub record CountingTree (T : List ℕ) (byte : ℕ) (t : Lent) : Type 0 where
+pub record CountingTree (T : List ℕ) (byte : ℕ) (t : Borrowed) : Type 0 where
   pub lifetime : Lfts 1
   pub accepted : Check lifetime t 0
   pub fitting : fits T (now t) ≡ true
-  pub counting : CallAmong byte (at.settings (now t) .counted)
+  pub counting : CountedIn byte (at.settings (now t) .counted)
 
 -- Two results of count, where the texts differ at place d: neither is refused.
 pub record CountsNear (d i : ℕ) (r s : CountAnswer) : Type 0 where
@@ -50,7 +50,7 @@ pub record CountsNear (d i : ℕ) (r s : CountAnswer) : Type 0 where
 abbrev pub FoundAt : FindAnswer → TextPlace → Type 0
 FoundAt r p = (e : ℕ) × (r ≡ found.At p e)
 
-module _ (T : List ℕ) (byte : ℕ) (t : Lent) (k : CountingTree T byte t) where
+module _ (T : List ℕ) (byte : ℕ) (t : Borrowed) (k : CountingTree T byte t) where
   -- What count answers for any number of bytes of the text.
   count-of : (κs : Lfts 1) (i : ℕ) (r : CountAnswer) → Count κs t byte i r → i ≤ length T → (e : ℕ) × (r ≡ counted.Times (countIn byte (take i T)) e)
   unfolding countIn
@@ -82,7 +82,7 @@ module _ (T : List ℕ) (byte : ℕ) (t : Lent) (k : CountingTree T byte t) wher
 
 -- The place that the first tree answers, before the difference, is the second tree's too.
 place-kept :
-    (T U : List ℕ) (d : ℕ) → OneByte T U d → (byte : ℕ) (t u : Lent) → CountingTree T byte t → CountingTree U byte u
+    (T U : List ℕ) (d : ℕ) → OneByte T U d → (byte : ℕ) (t u : Borrowed) → CountingTree T byte t → CountingTree U byte u
     → (κs κ : Lfts 1) (j : ℕ) (r s : FindAnswer) → Find κs t byte j r → Find κ u byte j s → (p : TextPlace) → p .0 < d → FoundAt r p → FoundAt s p
 place-kept T U d k byte t u kt ku κs κ j r s a b p before is =
     let z = find-low T byte t kt κs j r a p is in
@@ -99,7 +99,7 @@ place-kept T U d k byte t u kt ku κs κ j r s a b p before is =
     same p x y f s p-is y-is s-is = rw (p-is, ← y-is) s-is
 
 -- Request 111: T and U differ at place d only; t and u are accepted trees of these texts, and both count the byte.
-module _ (T U : List ℕ) (d : ℕ) (k : OneByte T U d) (byte : ℕ) (t u : Lent) (kt : CountingTree T byte t) (ku : CountingTree U byte u) where
+module _ (T U : List ℕ) (d : ℕ) (k : OneByte T U d) (byte : ℕ) (t u : Borrowed) (kt : CountingTree T byte t) (ku : CountingTree U byte u) where
   -- The counts in the first i bytes are at most 1 apart, and equal for i up to d.
   pub counts-near : (κs κ : Lfts 1) (i : ℕ) (r s : CountAnswer) → Count κs t byte i r → Count κ u byte i s → i ≤ length T → CountsNear d i r s
   counts-near κs κ i r s a b h =

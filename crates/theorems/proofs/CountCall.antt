@@ -24,19 +24,19 @@ use Rattle.theory_counts.specs.Theorems as tallies
 use Rattle.query_rank.specs.declared.CountAnswer.{CountAnswer}
 use Rattle.query_rank.specs.declared.CountAnswer.the-variants as counted
 use Rattle.query_rank.specs.Counts.{countReply, uncountedRefusal}
-use Rattle.theorems.specs.Promises.{CallAmong, CountAnswers, CountRefuses, LengthOfPath}
+use Rattle.theorems.specs.Promises.{CountedIn, CountAnswers, CountRefuses, LengthOfPath}
 pub use Rattle.theorems.specs.CallContracts.{Count}
 use Rattle.theorems.specs.PublicFunctions.{count-function, uncounted-function}
 use Rattle.theorems.proofs.AcceptedTree.{among-counted, not-counted, path-length, text-size}
 use Rattle.theorems.proofs.BlocksEntered.{length-of-path}
-use Rattle.theorems.proofs.PublicCall.{Call, Lent, call}
-use Rattle.theorems.proofs.RefusalNumbers.{OneOf, asks-one, not-zero, readable-one, then-one, unless-one}
+use Rattle.theorems.proofs.PublicCall.{Call, Borrowed, call}
+use Rattle.theorems.proofs.RefusalNumbers.{OneOf, asks-one, not-zero, header-one, then-one, unless-one}
 use Rattle.query_rank.proofs.count.Met as count-met
 use Rattle.query_rank.proofs.uncounted.uncounted.Met as uncounted-met
 use Rattle.query_rank.proofs.uncounted.uncounted.Reads as uncounted-reads
 
 -- What the contract of `uncounted` allows.
-abbrev pub Uncounted : (κs : Lfts 1) → Lent → (i : ℕ) → ℕ → Type 0
+abbrev pub Uncounted : (κs : Lfts 1) → Borrowed → (i : ℕ) → ℕ → Type 0
 Uncounted κs t i r = uncounted-reads.Post κs (t, (i, tt)) r (t, (i, tt))
 
 abbrev pub count-call : Call
@@ -83,7 +83,7 @@ count-summed t byte i h =
         inr (some-path r q minus plus (leb minus plus) e k)
 
 -- On any tree, blocks entered is the length of the path of place i - 1, and for i = 0 the count is 0 with no blocks entered.
-pub count-answer : (κs : Lfts 1) (t : Lent) (byte i c e : ℕ) → Count κs t byte i (counted.Times c e)
+pub count-answer : (κs : Lfts 1) (t : Borrowed) (byte i c e : ℕ) → Count κs t byte i (counted.Times c e)
     → ((i ≡ 0) × (c ≡ 0) × (e ≡ 0)) ⊎ LengthOfPath (now t) (at.settings (now t) .levels) (i - 1) e
 count-answer κs t byte i c e a = go (count-summed (now t) byte i (sym (ap (λ (s : Answer). s .number) (a .answers))))
   where
@@ -116,21 +116,21 @@ module _ (t : List ℕ) where
   count-one : (byte i : ℕ) → OneOf (5 ∷ 6 ∷ 7 ∷ 10 ∷ 11 ∷ 14 ∷ 0 ∷ []) (countAnswer t byte i .number)
   unfolding countAnswer
   count-one byte i =
-      unless-one (5 ∷ 6 ∷ 7 ∷ []) (10 ∷ 11 ∷ 14 ∷ 0 ∷ []) (headerResult t) _ (readable-one t)
+      unless-one (5 ∷ 6 ∷ 7 ∷ []) (10 ∷ 11 ∷ 14 ∷ 0 ∷ []) (headerResult t) _ (header-one t)
       (unless-one (10 ∷ 11 ∷ []) (14 ∷ 0 ∷ []) _ _ (asks-one ((10, leb i (at.textLength t)) ∷ (11, isCounted t byte) ∷ []))
       (none-or (eqb i 0) (countOf t byte (numberOfByte t byte) (pathOf t (i - 1))) _ (countOf-one byte (numberOfByte t byte) (pathOf t (i - 1))) refl))
 
 -- A refusal is 5, 6, 7, 10, 11 or 14.
-pub count-numbers : (κs : Lfts 1) (t : Lent) (byte i n : ℕ) → Count κs t byte i (counted.Refused n) → OneOf (5 ∷ 6 ∷ 7 ∷ 10 ∷ 11 ∷ 14 ∷ []) n
+pub count-numbers : (κs : Lfts 1) (t : Borrowed) (byte i n : ℕ) → Count κs t byte i (counted.Refused n) → OneOf (5 ∷ 6 ∷ 7 ∷ 10 ∷ 11 ∷ 14 ∷ []) n
 count-numbers κs t byte i n a =
     let e : n ≡ countAnswer (now t) byte i .number = ap (λ (s : Answer). s .number) (a .answers) in
     not-zero (5 ∷ 6 ∷ 7 ∷ 10 ∷ 11 ∷ 14 ∷ []) n (a .numbered) (rw e (count-one (now t) byte i))
 
 -- A number above 255 is refused on any bytes: `uncounted` returns 5, 6, 7, 10 or 11, never 0.
-pub uncounted-numbers : (κs : Lfts 1) (t : Lent) (i r : ℕ) → Uncounted κs t i r → OneOf (5 ∷ 6 ∷ 7 ∷ 10 ∷ 11 ∷ []) r
+pub uncounted-numbers : (κs : Lfts 1) (t : Borrowed) (i r : ℕ) → Uncounted κs t i r → OneOf (5 ∷ 6 ∷ 7 ∷ 10 ∷ 11 ∷ []) r
 unfolding uncountedRefusal
 uncounted-numbers κs t i r a =
-    rw a (then-one (5 ∷ 6 ∷ 7 ∷ []) (10 ∷ 11 ∷ []) (headerResult (now t)) _ (readable-one (now t)) (last (leb i (at.textLength (now t)))))
+    rw a (then-one (5 ∷ 6 ∷ 7 ∷ []) (10 ∷ 11 ∷ []) (headerResult (now t)) _ (header-one (now t)) (last (leb i (at.textLength (now t)))))
   where
     last : (b : Bool) → OneOf (10 ∷ 11 ∷ []) (ask 10 b 11)
     last true = inr (inl refl)
@@ -150,7 +150,7 @@ count-no (counted.Times v e) n s = absurd (let z : _≡_ {A = ℕ} 0 (suc n) = a
 count-no (counted.Refused m) n s = ap (λ (x : Answer). counted.Refused (x .number)) s
 
 -- Any tree that the check accepts, and the one text that fits it.
-module _ (t : Lent) (v : checkResult (now t) ≡ 0) where
+module _ (t : Borrowed) (v : checkResult (now t) ≡ 0) where
   abbrev T : List ℕ
   T = textOf (now t)
 
@@ -164,7 +164,7 @@ module _ (t : Lent) (v : checkResult (now t) ≡ 0) where
   size = text-size (now t) v
 
   -- What it answers, for any number of bytes.
-  count-answers : (κs : Lfts 1) (byte i : ℕ) (r : CountAnswer) → Count κs t byte i r → CallAmong byte (S .counted) → i ≤ length T
+  count-answers : (κs : Lfts 1) (byte i : ℕ) (r : CountAnswer) → Count κs t byte i r → CountedIn byte (S .counted) → i ≤ length T
       → r ≡ counted.Times (countIn byte (take i T)) (cond (eqb i 0) 0 (pathLength (now t) (pathOf (now t) (i - 1))))
   count-answers κs byte i r a k h =
       count-is r _ _ (a .numbered) (a .answers ∙ tallies.count-of-text (now t) v byte i (among-counted (now t) byte k) (omega (arith, size)))
@@ -184,7 +184,7 @@ module _ (t : Lent) (v : checkResult (now t) ≡ 0) where
   unfolding countAnswer
   count-ten byte i h = rw (pass, lt-leb i (at.textLength (now t)) (omega (arith, size)))
 
-  count-eleven : (byte i : ℕ) → i ≤ length T → (CallAmong byte (S .counted) → ⊥) → countAnswer (now t) byte i ≡ refused 11
+  count-eleven : (byte i : ℕ) → i ≤ length T → (CountedIn byte (S .counted) → ⊥) → countAnswer (now t) byte i ≡ refused 11
   unfolding countAnswer
   count-eleven byte i h other = rw (pass, le-leb i (at.textLength (now t)) (omega (arith, size)), not-counted (now t) v byte other)
 

@@ -20,8 +20,8 @@ use Rattle.query_digest.specs.Digest.{digestRefusal, digestBuffer}
 use Rattle.query_digest.proofs.Theorems as digests
 use Rattle.theorems.specs.Promises.{DigestAnswers, DigestRefuses}
 use Rattle.theorems.specs.PublicFunctions.{digest-function, digest-text-function}
-use Rattle.theorems.proofs.PublicCall.{Call, Lent, call}
-use Rattle.theorems.proofs.RefusalNumbers.{OneOf, asks-one, readable-one, then-one}
+use Rattle.theorems.proofs.PublicCall.{Call, Borrowed, call}
+use Rattle.theorems.proofs.RefusalNumbers.{OneOf, asks-one, header-one, then-one}
 use Rattle.query_digest.proofs.digest.Met as digest-met
 use Rattle.sha256.proofs.digest_text.Met as digest-text-met
 -- What the contracts allow, with the buffer left as `after`: `Digest κs tree out after r`, `DigestText κs text out after r`.
@@ -40,7 +40,7 @@ digest-text-call = call digest-text-function digest-text-met.met (λ 𝓤 H A me
 digest-one : (t : List ℕ) (room : ℕ) → OneOf (5 ∷ 6 ∷ 7 ∷ 13 ∷ 14 ∷ 0 ∷ []) (digestRefusal t room)
 unfolding digestRefusal
 digest-one t room =
-    then-one (5 ∷ 6 ∷ 7 ∷ []) (13 ∷ 14 ∷ 0 ∷ []) (headerResult t) _ (readable-one t)
+    then-one (5 ∷ 6 ∷ 7 ∷ []) (13 ∷ 14 ∷ 0 ∷ []) (headerResult t) _ (header-one t)
     (asks-one ((13, leb 32 room) ∷ (14, pathsHold t 0 (at.textLength t)) ∷ []))
 
 text-one : (room : ℕ) → OneOf (13 ∷ 0 ∷ []) (digestTextRefusal room)
@@ -51,7 +51,7 @@ text-one room = go (leb 32 room)
     go true = inr (inl refl)
     go false = inl refl
 
-module _ (κs : Lfts 2) (t out after : Lent) (r : ℕ) where
+module _ (κs : Lfts 2) (t out after : Borrowed) (r : ℕ) where
   -- digest returns 0, 5, 6, 7, 13 or 14.
   pub digest-numbers : Digest κs t out after r → OneOf (5 ∷ 6 ∷ 7 ∷ 13 ∷ 14 ∷ 0 ∷ []) r
   digest-numbers a = rw (a .0) (digest-one (now t) (length (now out)))
@@ -71,7 +71,7 @@ module _ (κs : Lfts 2) (t out after : Lent) (r : ℕ) where
   digest-text-numbers a = rw (a .0) (text-one (length (now out)))
 
 -- Every tree that the check accepts, with the one text that fits it.
-module _ (t : Lent) (v : checkResult (now t) ≡ 0) where
+module _ (t : Borrowed) (v : checkResult (now t) ≡ 0) where
   pub accepted-answers : DigestAnswers t (at.settings (now t)) (textOf (now t))
   accepted-answers = record {
     digest-of = λ κs out after r a room. digests.digest-accepted κs t out after r a v room (textOf (now t)) (accepted-stands (now t) v .fitting);

@@ -33,57 +33,57 @@ use Rattle.query_select.specs.declared.FindAnswer.{FindAnswer}
 use Rattle.query_select.specs.declared.FindAnswer.the-variants as found
 use Rattle.query_rows.specs.declared.RowAnswer.{RowAnswer}
 use Rattle.query_rows.specs.declared.RowAnswer.the-variants as rows
-use Rattle.theorems.specs.Promises.{CallAmong, Answers, Refuses}
+use Rattle.theorems.specs.Promises.{CountedIn, Answers, Refuses}
 use Rattle.theorems.proofs.ByteCall.{Byte}
 use Rattle.theorems.proofs.CheckCall.{Check, check-answers, check-one-text, check-refuses}
 use Rattle.theorems.proofs.CountCall.{Count}
 use Rattle.theorems.proofs.FindCall.{Find}
-use Rattle.theorems.proofs.PublicCall.{Lent}
+use Rattle.theorems.proofs.PublicCall.{Borrowed}
 use Rattle.theorems.proofs.RowCall.{Row}
 use Rattle.theorems.proofs.RunCall.{Run}
 use Rattle.theorems.proofs.SpanCall.{Span}
 
 -- The answers of a tree of the empty text, whichever road led to it.
-module _ (t : Lent) (S : Settings) (answers : Answers t S []) (refuses : Refuses t S []) where
+module _ (t : Borrowed) (S : Settings) (answers : Answers t S []) (refuses : Refuses t S []) where
   -- Byte is refused with 10, and a run is empty.
   pub empty-byte : (κ : Lfts 1) (p : TextPlace) (r : ByteAnswer) → Byte κ t p r → r ≡ answer.Refused 10
   empty-byte κ p r b = refuses .byte .byte-past κ p r b (omega arith)
 
-  pub empty-run : (κ : Lfts 1) (p : TextPlace) (r : Lent) → Run κ t p r → now r ≡ []
+  pub empty-run : (κ : Lfts 1) (p : TextPlace) (r : Borrowed) → Run κ t p r → now r ≡ []
   empty-run κ p r b = refuses .run .run-past κ p r b (omega arith)
 
   -- A span of 0 bytes at place 0 is empty; any other span is refused with 10.
-  pub empty-span : (κ : Lfts 2) (p : TextPlace) (buffer after : Lent) (r : SpanAnswer) → Span κ t p 0 buffer after r → p .0 ≡ 0
+  pub empty-span : (κ : Lfts 2) (p : TextPlace) (buffer after : Borrowed) (r : SpanAnswer) → Span κ t p 0 buffer after r → p .0 ≡ 0
       → (r ≡ copied.Bytes 0 0) × (now after ≡ now buffer)
   unfolding stretch
   empty-span κ p buffer after r s z =
       let w = answers .span .span-of κ p 0 buffer after r s (omega arith) (omega arith) in
       (w .2 ∙ ap (copied.Bytes 0) (w .1 .other (λ short. omega (arith, short .low))), w .3)
 
-  pub empty-span-past : (κ : Lfts 2) (p : TextPlace) (len : ℕ) (buffer after : Lent) (r : SpanAnswer) → Span κ t p len buffer after r → 1 ≤ p .0 + len
+  pub empty-span-past : (κ : Lfts 2) (p : TextPlace) (len : ℕ) (buffer after : Borrowed) (r : SpanAnswer) → Span κ t p len buffer after r → 1 ≤ p .0 + len
       → (r ≡ copied.Refused 10) × (now after ≡ now buffer)
   empty-span-past κ p len buffer after r s some = refuses .span .span-past κ p len buffer after r s (omega arith)
 
   -- A count in 0 bytes is 0, with no blocks entered; a count in more bytes is refused with 10.
-  pub empty-count : (κ : Lfts 1) (byte : ℕ) (r : CountAnswer) → Count κ t byte 0 r → CallAmong byte (S .counted) → r ≡ counted.Times 0 0
+  pub empty-count : (κ : Lfts 1) (byte : ℕ) (r : CountAnswer) → Count κ t byte 0 r → CountedIn byte (S .counted) → r ≡ counted.Times 0 0
   empty-count = answers .count .count-none
 
   pub empty-count-past : (κ : Lfts 1) (byte i : ℕ) (r : CountAnswer) → Count κ t byte i r → 1 ≤ i → r ≡ counted.Refused 10
   empty-count-past κ byte i r c some = refuses .count .count-past κ byte i r c (omega arith)
 
   -- No byte occurs, so find is refused with 12.
-  pub empty-find : (κ : Lfts 1) (byte j : ℕ) (r : FindAnswer) → Find κ t byte j r → CallAmong byte (S .counted) → r ≡ found.Refused 12
+  pub empty-find : (κ : Lfts 1) (byte j : ℕ) (r : FindAnswer) → Find κ t byte j r → CountedIn byte (S .counted) → r ≡ found.Refused 12
   unfolding countIn
   empty-find κ byte j r f k = refuses .find .find-none κ byte j r f k (λ low high. omega arith)
 
   -- There is no row.
-  pub empty-row : (κ : Lfts 2) (q : ℕ) (buffer after : Lent) (r : RowAnswer) → Row κ t q buffer after r → CallAmong 10 (S .counted)
+  pub empty-row : (κ : Lfts 2) (q : ℕ) (buffer after : Borrowed) (r : RowAnswer) → Row κ t q buffer after r → CountedIn 10 (S .counted)
       → (r ≡ rows.Refused 12) × (now after ≡ now buffer)
   unfolding rowsOf
   empty-row κ q buffer after r w k = refuses .row .row-none κ q buffer after r w k (λ low high. omega arith)
 
 -- A tree with n 0 that the check accepts, whoever made it and whatever its settings.
-module _ (κs : Lfts 1) (t : Lent) (c : Check κs t 0) (none : at.textLength (now t) ≡ 0) where
+module _ (κs : Lfts 1) (t : Borrowed) (c : Check κs t 0) (none : at.textLength (now t) ≡ 0) where
   k : Readable (now t)
   k = header-facts (now t) (accepted-header (now t) (sym c))
 

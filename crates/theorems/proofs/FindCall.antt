@@ -19,17 +19,17 @@ use Rattle.format.specs.Layout as at
 use Rattle.format.specs.TreeReading.{pathOf, textOf, checkResult}
 use Rattle.format.specs.CheckResultLaws.{accepted-header}
 use Rattle.format.specs.Answers.{Answer, refused, NeverZero, replied, numberOfByte, findRefusal, pathLength, total, found as foundFor}
-use Rattle.format.specs.FindAnswerLaws.{FindAnswers}
+use Rattle.format.specs.FindAnswerLaws.{FindAnswers as FindAllowed}
 use Rattle.theory_counts.specs.Theorems as tallies
 use Rattle.query_select.specs.declared.FindAnswer.{FindAnswer}
 use Rattle.query_select.specs.declared.FindAnswer.the-variants as found
 use Rattle.query_select.specs.Found.{findReply}
-use Rattle.theorems.specs.Promises.{CallAmong, FindAnswers, FindRefuses}
-pub use Rattle.theorems.specs.CallContracts.{CallFind}
+use Rattle.theorems.specs.Promises.{CountedIn, FindAnswers, FindRefuses}
+pub use Rattle.theorems.specs.CallContracts.{Find}
 use Rattle.theorems.specs.PublicFunctions.{find-function}
 use Rattle.theorems.proofs.AcceptedTree.{among-counted, not-counted, path-length}
 use Rattle.theorems.proofs.FindOutcomes.{FindOutcome, find-outcome, outcome-below, outcome-numbers, select-through}
-use Rattle.theorems.proofs.PublicCall.{Call, Lent, call}
+use Rattle.theorems.proofs.PublicCall.{Call, Borrowed, call}
 use Rattle.theorems.proofs.RefusalNumbers.{OneOf}
 use Rattle.query_select.proofs.find.Met as find-met
 
@@ -37,16 +37,16 @@ abbrev pub find-call : Call
 find-call = call find-function find-met.met (λ 𝓤 H A mem run κs a. (tt, refl))
 
 -- For any bytes.
-module _ (κs : Lfts 1) (t : Lent) (byte j : ℕ) where
-  outcome-of : (s : Answer) → FindAnswers (now t) byte j s → FindOutcome (now t) byte j s
+module _ (κs : Lfts 1) (t : Borrowed) (byte j : ℕ) where
+  outcome-of : (s : Answer) → FindAllowed (now t) byte j s → FindOutcome (now t) byte j s
   outcome-of s f = find-outcome (now t) byte j (checkResult (now t)) (λ v. v) s f
 
   -- A returned place is a place of the text.
-  pub find-answer : (p : TextPlace) (e : ℕ) → CallFind κs t byte j (found.At p e) → p .0 < at.textLength (now t)
+  pub find-answer : (p : TextPlace) (e : ℕ) → Find κs t byte j (found.At p e) → p .0 < at.textLength (now t)
   find-answer p e a = outcome-below (now t) byte j (record { number = 0; value = p .0; entered = e }) refl (outcome-of _ (a .answers))
 
   -- A refusal is 5, 6, 7, 11, 12 or 14.
-  pub find-numbers : (n : ℕ) → CallFind κs t byte j (found.Refused n) → OneOf (5 ∷ 6 ∷ 7 ∷ 11 ∷ 12 ∷ 14 ∷ []) n
+  pub find-numbers : (n : ℕ) → Find κs t byte j (found.Refused n) → OneOf (5 ∷ 6 ∷ 7 ∷ 11 ∷ 12 ∷ 14 ∷ []) n
   find-numbers n a = outcome-numbers (now t) byte j n (a .numbered) (outcome-of _ (a .answers))
 
 -- The answer in each case.
@@ -63,7 +63,7 @@ find-no (found.At p e) n s = absurd (let z : _≡_ {A = ℕ} 0 (suc n) = ap (λ 
 find-no (found.Refused m) n s = ap (λ (x : Answer). found.Refused (x .number)) s
 
 -- Any tree that the check accepts, and the one text that fits it.
-module _ (t : Lent) (v : checkResult (now t) ≡ 0) where
+module _ (t : Borrowed) (v : checkResult (now t) ≡ 0) where
   abbrev T : List ℕ
   T = textOf (now t)
 
@@ -81,11 +81,11 @@ module _ (t : Lent) (v : checkResult (now t) ≡ 0) where
   }
 
   -- Questions 11 and 12.
-  eleven : (byte j : ℕ) → (CallAmong byte (S .counted) → ⊥) → findRefusal (now t) byte j ≡ 11
+  eleven : (byte j : ℕ) → (CountedIn byte (S .counted) → ⊥) → findRefusal (now t) byte j ≡ 11
   unfolding findRefusal
   eleven byte j other = rw (accepted-header (now t) v, not-counted (now t) v byte other)
 
-  twelve : (byte j : ℕ) → CallAmong byte (S .counted) → (1 ≤ j → j ≤ countIn byte T → ⊥) → findRefusal (now t) byte j ≡ 12
+  twelve : (byte j : ℕ) → CountedIn byte (S .counted) → (1 ≤ j → j ≤ countIn byte T → ⊥) → findRefusal (now t) byte j ≡ 12
   unfolding findRefusal
   twelve byte j k none =
       let c = among-counted (now t) byte k in
@@ -97,7 +97,7 @@ module _ (t : Lent) (v : checkResult (now t) ≡ 0) where
       go all e (inr h) = h
 
   -- Refused before the walk.
-  find-asked : (κs : Lfts 1) (byte j : ℕ) (r : FindAnswer) (n : ℕ) → CallFind κs t byte j r → findRefusal (now t) byte j ≡ suc n → r ≡ found.Refused (suc n)
+  find-asked : (κs : Lfts 1) (byte j : ℕ) (r : FindAnswer) (n : ℕ) → Find κs t byte j r → findRefusal (now t) byte j ≡ suc n → r ≡ found.Refused (suc n)
   find-asked κs byte j r n a e = find-no r n (rw e at (a .answers .asked (rw e (omega arith))))
 
   pub accepted-refuses : FindRefuses t S T

@@ -17,12 +17,12 @@ use Rattle.query_guide.proofs.GuideList.{guide-checked}
 use Rattle.query_guided.specs.declared.FindGuidedAnswer.{FindGuidedAnswer}
 use Rattle.query_guided.specs.declared.FindGuidedAnswer.the-variants as guided
 use Rattle.query_guided.specs.Guided.{stepsTo, findGuidedReply, stepsOf}
-use Rattle.theorems.specs.Promises.{CallAmong, LengthOfPath}
+use Rattle.theorems.specs.Promises.{CountedIn, LengthOfPath}
 use Rattle.theorems.specs.PublicFunctions.{find-guided-function}
 use Rattle.theorems.proofs.AcceptedTree.{path-length}
 use Rattle.theorems.proofs.FindOutcomes.{FindOutcome, find-outcome, outcome-below, outcome-numbers, select-through}
 use Rattle.theorems.proofs.GuideCall.{CheckGuide}
-use Rattle.theorems.proofs.PublicCall.{Call, Lent, call}
+use Rattle.theorems.proofs.PublicCall.{Call, Borrowed, call}
 use Rattle.theorems.proofs.RefusalNumbers.{OneOf}
 use Rattle.query_guided.proofs.find_guided.Met as find-guided-met
 -- What the contract allows: `FindGuided κs tree guide byte j r`.
@@ -32,7 +32,7 @@ abbrev pub find-guided-call : Call
 find-guided-call = call find-guided-function find-guided-met.met (λ 𝓤 H A mem run κs a. (tt, refl))
 
 -- For any bytes: a place is one of the text, whatever the guide, and a refusal is 5, 6, 7, 11, 12 or 14.
-module _ (κs : Lfts 2) (t guide : Lent) (byte j : ℕ) where
+module _ (κs : Lfts 2) (t guide : Borrowed) (byte j : ℕ) where
   outcome-of : (r : FindGuidedAnswer) → FindGuided κs t guide byte j r → FindOutcome (now t) byte j (replied (findGuidedReply r))
   outcome-of r a = find-outcome (now t) byte j (guideRefusal (now t) (now guide)) (guide-checked (now t) (now guide)) (replied (findGuidedReply r))
       (a .answers .finds)
@@ -45,7 +45,7 @@ module _ (κs : Lfts 2) (t guide : Lent) (byte j : ℕ) where
 
 -- If check_guide accepts the tree and the guide, find with the guide returns what the tree's text has, with the length of the place's path and the steps
 -- from entry (j - 1) / 64.
-module _ (κ : Lfts 2) (t guide : Lent) (ok : CheckGuide κ t guide 0) where
+module _ (κ : Lfts 2) (t guide : Borrowed) (ok : CheckGuide κ t guide 0) where
   settled : guideRefusal (now t) (now guide) ≡ 0
   settled = sym ok
 
@@ -53,7 +53,7 @@ module _ (κ : Lfts 2) (t guide : Lent) (ok : CheckGuide κ t guide 0) where
   v = guide-checked (now t) (now guide) settled
 
   pub guided-of-text : (κs : Lfts 2) (byte j : ℕ) (r : FindGuidedAnswer) → FindGuided κs t guide byte j r
-      → CallAmong byte (at.settings (now t) .counted) → 1 ≤ j → j ≤ countIn byte (textOf (now t))
+      → CountedIn byte (at.settings (now t) .counted) → 1 ≤ j → j ≤ countIn byte (textOf (now t))
       → (e : ℕ) × LengthOfPath (now t) (at.settings (now t) .levels) (placeOf byte j (textOf (now t))) e
       × (r ≡ guided.At (record { 0 = placeOf byte j (textOf (now t)) }) e (stepsTo (now t) (numberOfByte (now t) byte) j))
   unfolding found

@@ -14,15 +14,15 @@ use Rattle.format.specs.CheckResultLaws.{accepted-header}
 use Rattle.format.specs.Answers.{Answer, refused, isCounted, numberOfByte, findRefusal, found, total, FindBy}
 use Rattle.format.specs.FindAnswerLaws.{select-lets, select-passes}
 use Rattle.theory_counts.specs.Theorems as tallies
-use Rattle.theorems.specs.Promises.{CallAmong}
+use Rattle.theorems.specs.Promises.{CountedIn}
 use Rattle.theorems.proofs.AcceptedTree.{among-counted}
-use Rattle.theorems.proofs.RefusalNumbers.{OneOf, asks-one, not-zero, of-left, of-right, readable-one, then-one}
+use Rattle.theorems.proofs.RefusalNumbers.{OneOf, asks-one, not-zero, of-left, of-right, header-one, then-one}
 
 -- The numbers that the questions before the walk can give.
 select-one : (t : List ℕ) (byte j : ℕ) → OneOf (5 ∷ 6 ∷ 7 ∷ 11 ∷ 12 ∷ 0 ∷ []) (findRefusal t byte j)
 unfolding findRefusal
 select-one t byte j =
-    then-one (5 ∷ 6 ∷ 7 ∷ []) (11 ∷ 12 ∷ 0 ∷ []) (headerResult t) _ (readable-one t)
+    then-one (5 ∷ 6 ∷ 7 ∷ []) (11 ∷ 12 ∷ 0 ∷ []) (headerResult t) _ (header-one t)
     (asks-one ((11, isCounted t byte) ∷ (12, leb 1 j && leb j (total t (numberOfByte t byte))) ∷ []))
 
 -- A refusal of the questions before the walk is also one of a longer list.
@@ -67,7 +67,7 @@ module _ (t : List ℕ) (byte j : ℕ) where
   outcome-numbers n l (placed z low) = absurd (let y : ⊥ = omega arith in y)
 
 -- On an accepted tree questions 11 and 12 pass if there is a j-th occurrence.
-pub select-through : (t : List ℕ) → checkResult t ≡ 0 → (byte j : ℕ) → CallAmong byte (at.settings t .counted) → 1 ≤ j → j ≤ countIn byte (textOf t)
+pub select-through : (t : List ℕ) → checkResult t ≡ 0 → (byte j : ℕ) → CountedIn byte (at.settings t .counted) → 1 ≤ j → j ≤ countIn byte (textOf t)
     → findRefusal t byte j ≡ 0
 select-through t v byte j k low high =
     let c = among-counted t byte k in

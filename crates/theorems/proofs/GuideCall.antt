@@ -14,8 +14,8 @@ use Rattle.format.specs.AnswerLaws.{unless-number}
 use Rattle.query_guide.specs.declared.GuideWordsAnswer.the-variants as size
 use Rattle.query_guide.specs.Guides.{guideBytes, guideWords, guideRefusal, guideWordsAnswer, makeGuideRefusal, makeGuideAnswer}
 use Rattle.theorems.specs.PublicFunctions.{check-guide-function, guide-words-function, make-guide-function}
-use Rattle.theorems.proofs.PublicCall.{Call, Lent, call}
-use Rattle.theorems.proofs.RefusalNumbers.{OneOf, asks-one, not-zero, readable-one, then-one, verdict-one}
+use Rattle.theorems.proofs.PublicCall.{Call, Borrowed, call}
+use Rattle.theorems.proofs.RefusalNumbers.{OneOf, asks-one, not-zero, header-one, then-one, checked-one}
 use Rattle.query_guide.proofs.guide_words.Met as guide-words-met
 use Rattle.build_guide.proofs.make_guide.Met as make-guide-met
 use Rattle.build_guide.proofs.check_guide.Met as check-guide-met
@@ -33,27 +33,27 @@ abbrev pub check-guide-call : Call
 check-guide-call = call check-guide-function check-guide-met.met (λ 𝓤 H A mem run κs a. (tt, refl))
 
 -- Checking a guide: 0, 5 to 9, or 24.
-pub check-guide-numbers : (κs : Lfts 2) (t guide : Lent) (r : ℕ) → CheckGuide κs t guide r → OneOf (5 ∷ 6 ∷ 7 ∷ 8 ∷ 9 ∷ 24 ∷ 0 ∷ []) r
+pub check-guide-numbers : (κs : Lfts 2) (t guide : Borrowed) (r : ℕ) → CheckGuide κs t guide r → OneOf (5 ∷ 6 ∷ 7 ∷ 8 ∷ 9 ∷ 24 ∷ 0 ∷ []) r
 unfolding guideRefusal
 check-guide-numbers κs t guide r a =
-    rw a (then-one (5 ∷ 6 ∷ 7 ∷ 8 ∷ 9 ∷ []) (24 ∷ 0 ∷ []) (checkResult (now t)) _ (verdict-one (now t))
+    rw a (then-one (5 ∷ 6 ∷ 7 ∷ 8 ∷ 9 ∷ []) (24 ∷ 0 ∷ []) (checkResult (now t)) _ (checked-one (now t))
     (asks-one ((24, sameList (now guide) (guideBytes (now t))) ∷ [])))
 
 -- Making one: a refusal is 5 to 9 or 25.
-pub make-guide-numbers : (κs : Lfts 2) (t table after : Lent) (n : ℕ) → MakeGuide κs t table after (size.Refused n) → OneOf (5 ∷ 6 ∷ 7 ∷ 8 ∷ 9 ∷ 25 ∷ []) n
+pub make-guide-numbers : (κs : Lfts 2) (t table after : Borrowed) (n : ℕ) → MakeGuide κs t table after (size.Refused n) → OneOf (5 ∷ 6 ∷ 7 ∷ 8 ∷ 9 ∷ 25 ∷ []) n
 unfolding makeGuideRefusal makeGuideAnswer
 make-guide-numbers κs t table after n a =
     let made : Answer = record { number = 0; value = guideWords (now t); entered = 0 } in
     let e : n ≡ makeGuideRefusal (now t) (now table) = ap (λ (s : Answer). s .number) (a .0 .0)
     ∙ unless-number (makeGuideRefusal (now t) (now table)) made refl in
     not-zero (5 ∷ 6 ∷ 7 ∷ 8 ∷ 9 ∷ 25 ∷ []) n (a .0 .1)
-    (rw e (then-one (5 ∷ 6 ∷ 7 ∷ 8 ∷ 9 ∷ []) (25 ∷ 0 ∷ []) (checkResult (now t)) _ (verdict-one (now t))
+    (rw e (then-one (5 ∷ 6 ∷ 7 ∷ 8 ∷ 9 ∷ []) (25 ∷ 0 ∷ []) (checkResult (now t)) _ (checked-one (now t))
     (asks-one ((25, leb (length (guideBytes (now t))) (length (now table))) ∷ []))))
 
 -- guide_words: a refusal is 5, 6 or 7.
-pub guide-words-numbers : (κs : Lfts 1) (t : Lent) (n : ℕ) → GuideWords κs t (size.Refused n) → OneOf (5 ∷ 6 ∷ 7 ∷ []) n
+pub guide-words-numbers : (κs : Lfts 1) (t : Borrowed) (n : ℕ) → GuideWords κs t (size.Refused n) → OneOf (5 ∷ 6 ∷ 7 ∷ []) n
 unfolding guideWordsAnswer
 guide-words-numbers κs t n a =
     let told : Answer = record { number = 0; value = guideWords (now t); entered = 0 } in
     let e : n ≡ headerResult (now t) = ap (λ (s : Answer). s .number) (a .0) ∙ unless-number (headerResult (now t)) told refl in
-    not-zero (5 ∷ 6 ∷ 7 ∷ []) n (a .1) (rw e (readable-one (now t)))
+    not-zero (5 ∷ 6 ∷ 7 ∷ []) n (a .1) (rw e (header-one (now t)))

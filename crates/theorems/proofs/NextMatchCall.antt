@@ -16,11 +16,11 @@ use Rattle.query_row_filter.specs.AllowedRows.{queryRefusal, newlineRefusal}
 use Rattle.query_key_match.proofs.Theorems.{refusal-is}
 use Rattle.query_key_match.proofs.Theorems as worn-keys
 use Rattle.query_row_filter.specs.declared.NextRowAnswer.the-variants as shown
-use Rattle.theorems.specs.Promises.{CallAmong, MatchAnswers, MatchRefuses}
+use Rattle.theorems.specs.Promises.{CountedIn, MatchAnswers, MatchRefuses}
 use Rattle.theorems.specs.PublicFunctions.{next-match-function, show-function}
 use Rattle.theorems.proofs.AcceptedTree.{among-counted, not-counted}
-use Rattle.theorems.proofs.PublicCall.{Call, Lent, call}
-use Rattle.theorems.proofs.RefusalNumbers.{OneOf, asks-one, not-zero, of-left, of-right, readable-one, then-one}
+use Rattle.theorems.proofs.PublicCall.{Call, Borrowed, call}
+use Rattle.theorems.proofs.RefusalNumbers.{OneOf, asks-one, not-zero, of-left, of-right, header-one, then-one}
 use Rattle.query_key_match.proofs.next_match.Met as next-match-met
 use Rattle.query_key_match.proofs.advance_mark.Met as show-met
 -- What the contract of `next_match` allows: `NextMatch κs tree ranges mark r`; the contract of `advance_mark` is `Moved`.
@@ -39,11 +39,11 @@ show-call = call show-function show-met.met (λ 𝓤 H A mem run κs a. (tt, ref
 match-one : (t ranges : List ℕ) → OneOf (5 ∷ 6 ∷ 7 ∷ 19 ∷ 11 ∷ 0 ∷ []) (queryRefusal t 19 (rangesOk ranges))
 unfolding queryRefusal newlineRefusal
 match-one t ranges =
-    then-one (5 ∷ 6 ∷ 7 ∷ []) (19 ∷ 11 ∷ 0 ∷ []) (headerResult t) _ (readable-one t)
+    then-one (5 ∷ 6 ∷ 7 ∷ []) (19 ∷ 11 ∷ 0 ∷ []) (headerResult t) _ (header-one t)
     (asks-one ((19, rangesOk ranges) ∷ (11, isCounted t 10) ∷ []))
 
 -- A refusal is 5, 6, 7, 19, 11 or 14.
-pub match-numbers : (κs : Lfts 2) (t ranges : Lent) (mark n : ℕ) → NextMatch κs t ranges mark (shown.Refused n) → OneOf (5 ∷ 6 ∷ 7 ∷ 19 ∷ 11 ∷ 14 ∷ []) n
+pub match-numbers : (κs : Lfts 2) (t ranges : Borrowed) (mark n : ℕ) → NextMatch κs t ranges mark (shown.Refused n) → OneOf (5 ∷ 6 ∷ 7 ∷ 19 ∷ 11 ∷ 14 ∷ []) n
 match-numbers κs t ranges mark n a = go (refusal-is (now t) (now ranges) mark n a)
   where
     go : (n ≡ queryRefusal (now t) 19 (rangesOk (now ranges))) ⊎ ((n ≡ 14) × (checkResult (now t) ≡ 0 → ⊥)) → OneOf (5 ∷ 6 ∷ 7 ∷ 19 ∷ 11 ∷ 14 ∷ []) n
@@ -51,12 +51,12 @@ match-numbers κs t ranges mark n a = go (refusal-is (now t) (now ranges) mark n
     go (inr h) = of-right (5 ∷ 6 ∷ 7 ∷ 19 ∷ 11 ∷ []) (14 ∷ []) n (inl (h .0))
 
 -- Any tree that the check accepts, and the one text that fits it.
-module _ (t : Lent) (v : checkResult (now t) ≡ 0) where
+module _ (t : Borrowed) (v : checkResult (now t) ≡ 0) where
   pass : headerResult (now t) ≡ 0
   pass = accepted-header (now t) v
 
   -- Questions 19 and 11 let the search for a match through.
-  match-through : (ranges : List ℕ) → rangesOk ranges ≡ true → CallAmong 10 (at.settings (now t) .counted) → queryRefusal (now t) 19 (rangesOk ranges) ≡ 0
+  match-through : (ranges : List ℕ) → rangesOk ranges ≡ true → CountedIn 10 (at.settings (now t) .counted) → queryRefusal (now t) 19 (rangesOk ranges) ≡ 0
   match-through ranges ok k = worn-keys.match-through (now t) ranges pass ok (among-counted (now t) 10 k)
 
   pub accepted-answers : MatchAnswers t (at.settings (now t)) (textOf (now t))

@@ -28,8 +28,8 @@ use Rattle.query_compare.specs.OrderLaws.{clash, flip, Upto, shared-itself}
 use Rattle.query_compare.proofs.FirstLaws.{refused-low}
 use Rattle.theorems.specs.PublicFunctions.{compare-function, first-function}
 use Rattle.theorems.proofs.CheckCall.{Check}
-use Rattle.theorems.proofs.PublicCall.{Call, Lent, call}
-use Rattle.theorems.proofs.RefusalNumbers.{OneOf, not-zero, of-left, of-right, readable-one}
+use Rattle.theorems.proofs.PublicCall.{Call, Borrowed, call}
+use Rattle.theorems.proofs.RefusalNumbers.{OneOf, not-zero, of-left, of-right, header-one}
 use Rattle.query_compare.proofs.compare.Met as compare-met
 use Rattle.query_compare.proofs.first.Met as first-met
 -- What the contracts allow: `Compare κs one other r`, and `CompareFirst`.
@@ -86,12 +86,12 @@ module _ (t u : List ℕ) where
 
       go : (n m : ℕ) → headerResult t ≡ n → headerResult u ≡ m
           → OneOf (5 ∷ 6 ∷ 7 ∷ 14 ∷ 0 ∷ []) (unless n (unless m (comparedFrom t u (min (at.textLength t) (at.textLength u)) 0)) .number)
-      go (suc n) m e f = first (suc n) (omega arith) (rw e at (readable-one t))
-      go zero (suc m) e f = first (suc m) (omega arith) (rw f at (readable-one u))
+      go (suc n) m e f = first (suc n) (omega arith) (rw e at (header-one t))
+      go zero (suc m) e f = first (suc m) (omega arith) (rw f at (header-one u))
       go zero zero e f = of-right (5 ∷ 6 ∷ 7 ∷ []) (14 ∷ 0 ∷ []) _ (from-one e f (min (at.textLength t) (at.textLength u)) 0 (omega arith))
 
 -- A refusal is 5, 6, 7 or 14.
-pub order-numbers : (κs : Lfts 2) (t u : Lent) (n : ℕ) → Compare κs t u (compared.Refused n) → OneOf (5 ∷ 6 ∷ 7 ∷ 14 ∷ []) n
+pub order-numbers : (κs : Lfts 2) (t u : Borrowed) (n : ℕ) → Compare κs t u (compared.Refused n) → OneOf (5 ∷ 6 ∷ 7 ∷ 14 ∷ []) n
 order-numbers κs t u n a =
     let e : n ≡ compareAnswer (now t) (now u) .number = ap (λ (s : Answer). s .number) (a .answers) in
     not-zero (5 ∷ 6 ∷ 7 ∷ 14 ∷ []) n (refused-low (now t) (now u) (compared.Refused n) a t u n refl) (rw e (order-one (now t) (now u)))
@@ -99,12 +99,12 @@ order-numbers κs t u n a =
 -- Trees that the check accepts.
 
 -- The check accepts the tree t, and T is the text that fits it.
-pub record CallHolds (t : Lent) (T : List ℕ) : Type 0 where
+pub record CallHolds (t : Borrowed) (T : List ℕ) : Type 0 where
   pub lifetime : Lfts 1
   pub check : Check lifetime t 0
   pub fitting : fits T (now t) ≡ true
 
-module _ (t : Lent) (T : List ℕ) (a : CallHolds t T) where
+module _ (t : Borrowed) (T : List ℕ) (a : CallHolds t T) where
   passes : headerResult (now t) ≡ 0
   passes = accepted-header (now t) (sym (a .check))
 
@@ -118,13 +118,13 @@ module _ (t : Lent) (T : List ℕ) (a : CallHolds t T) where
 abbrev pub figuresIn : RefT ℕ → RefT ℕ → RefT ℕ → Answer
 figuresIn number order length = record { number = now number; value = now order; entered = now length }
 
-module _ (t u : Lent) (T U : List ℕ) (a : CallHolds t T) (b : CallHolds u U) where
+module _ (t u : Borrowed) (T U : List ℕ) (a : CallHolds t T) (b : CallHolds u U) where
   -- The lexicographic order of the texts, and the length of their longest common prefix.
   pub compare-of : (κs : Lfts 2) (r : CompareAnswer) → Compare κs t u r → r ≡ outcome (standing T U) (shared T U)
   compare-of κs r c = rw (text-is t T a, text-is u U b) at (orders.compare-texts t u (passes t T a) (passes u U b) (links t T a) (links u U b) κs r c)
 
   -- `first` returns the reference, pointer and bytes, of the tree whose text comes first (for equal texts the first), with the figures of the comparison
-  pub first-of : (κs : Lfts 4) (number order length number′ order′ length′ : RefT ℕ) (r : Lent)
+  pub first-of : (κs : Lfts 4) (number order length number′ order′ length′ : RefT ℕ) (r : Borrowed)
       → CompareFirst κs t u number order length number′ order′ length′ r
       → (r ≡ firstOf (standing T U) t u)
       × (figuresIn number′ order′ length′ ≡ stands (standing T U) (shared T U))
@@ -133,12 +133,12 @@ module _ (t u : Lent) (T U : List ℕ) (a : CallHolds t T) (b : CallHolds u U) w
       (orders.first-texts t u (passes t T a) (passes u U b) (links t T a) (links u U b) κs number order length number′ order′ length′ r c)
 
 -- The result depends on the texts alone: two other trees of the same two texts, of any settings and layouts, give the same.
-module _ (t u t′ u′ : Lent) (T U : List ℕ) (a : CallHolds t T) (b : CallHolds u U) (a′ : CallHolds t′ T) (b′ : CallHolds u′ U) where
+module _ (t u t′ u′ : Borrowed) (T U : List ℕ) (a : CallHolds t T) (b : CallHolds u U) (a′ : CallHolds t′ T) (b′ : CallHolds u′ U) where
   pub texts-alone : (κs κs′ : Lfts 2) (r r′ : CompareAnswer) → Compare κs t u r → Compare κs′ t′ u′ r′ → r ≡ r′
   texts-alone κs κs′ r r′ c c′ = compare-of t u T U a b κs r c ∙ sym (compare-of t′ u′ T U a′ b′ κs′ r′ c′)
 
   -- The same figures, and the tree of the same side.
-  pub first-alone : (κs κs′ : Lfts 4) (n o l n₁ o₁ l₁ n₂ o₂ l₂ n₃ o₃ l₃ : RefT ℕ) (r r′ : Lent)
+  pub first-alone : (κs κs′ : Lfts 4) (n o l n₁ o₁ l₁ n₂ o₂ l₂ n₃ o₃ l₃ : RefT ℕ) (r r′ : Borrowed)
       → CompareFirst κs t u n o l n₁ o₁ l₁ r → CompareFirst κs′ t′ u′ n₂ o₂ l₂ n₃ o₃ l₃ r′
       → (figuresIn n₁ o₁ l₁ ≡ figuresIn n₃ o₃ l₃)
       × (((r ≡ t) × (r′ ≡ t′)) ⊎ ((r ≡ u) × (r′ ≡ u′)))
@@ -171,7 +171,7 @@ not-after before n h = tt
 not-after same n h = tt
 not-after after n h = h refl
 
-module _ (t u : Lent) (T U : List ℕ) (a : CallHolds t T) (b : CallHolds u U) (κs : Lfts 2) (r : CompareAnswer) (c : Compare κs t u r) where
+module _ (t u : Borrowed) (T U : List ℕ) (a : CallHolds t T) (b : CallHolds u U) (κs : Lfts 2) (r : CompareAnswer) (c : Compare κs t u r) where
   upto-of : AtOrBefore r → Upto T U
   upto-of h = let z : AtOrBefore (outcome (standing T U) (shared T U)) = rw (compare-of t u T U a b κs r c) at h in up-to (standing T U) (shared T U) z
 
@@ -181,14 +181,14 @@ module _ (t u : Lent) (T U : List ℕ) (a : CallHolds t T) (b : CallHolds u U) (
 -- What compare answers of any accepted trees t, u and v with the texts T, U and W.
 pub record TotalOrderOfTrees : Type 0 where
   -- Trees of one text are the same, and only these.
-  pub reflexive : (t u : Lent) (T : List ℕ) → CallHolds t T → CallHolds u T → (κs : Lfts 2) (r : CompareAnswer) → Compare κs t u r → r
+  pub reflexive : (t u : Borrowed) (T : List ℕ) → CallHolds t T → CallHolds u T → (κs : Lfts 2) (r : CompareAnswer) → Compare κs t u r → r
       ≡ compared.Same (length T)
-  pub antisymmetric : (t u : Lent) (T U : List ℕ) → CallHolds t T → CallHolds u U → (κs κs′ : Lfts 2) (r r′ : CompareAnswer) → Compare κs t u r
+  pub antisymmetric : (t u : Borrowed) (T U : List ℕ) → CallHolds t T → CallHolds u U → (κs κs′ : Lfts 2) (r r′ : CompareAnswer) → Compare κs t u r
       → Compare κs′ u t r′
       → AtOrBefore r → AtOrBefore r′ → T ≡ U
-  pub transitive : (t u v : Lent) (T U W : List ℕ) → CallHolds t T → CallHolds u U → CallHolds v W → (κs κs′ κs″ : Lfts 2) (r r′ r″ : CompareAnswer)
+  pub transitive : (t u v : Borrowed) (T U W : List ℕ) → CallHolds t T → CallHolds u U → CallHolds v W → (κs κs′ κs″ : Lfts 2) (r r′ r″ : CompareAnswer)
       → Compare κs t u r → Compare κs′ u v r′ → Compare κs″ t v r″ → AtOrBefore r → AtOrBefore r′ → AtOrBefore r″
-  pub total : (t u : Lent) (T U : List ℕ) → CallHolds t T → CallHolds u U → (κs κs′ : Lfts 2) (r r′ : CompareAnswer) → Compare κs t u r → Compare κs′ u t r′
+  pub total : (t u : Borrowed) (T U : List ℕ) → CallHolds t T → CallHolds u U → (κs κs′ : Lfts 2) (r r′ : CompareAnswer) → Compare κs t u r → Compare κs′ u t r′
       → AtOrBefore r ⊎ AtOrBefore r′
 
 pub tree-order : TotalOrderOfTrees
@@ -203,13 +203,13 @@ tree-order = record {
     itself : (T : List ℕ) → outcome (standing T T) (shared T T) ≡ compared.Same (length T)
     itself T = let e : standing T T ≡ same = standing-refl T in rw (e, shared-itself T)
 
-    either : (t u : Lent) (T U : List ℕ) → CallHolds t T → CallHolds u U → (κs κs′ : Lfts 2) (r r′ : CompareAnswer) → Compare κs t u r → Compare κs′ u t r′
+    either : (t u : Borrowed) (T U : List ℕ) → CallHolds t T → CallHolds u U → (κs κs′ : Lfts 2) (r r′ : CompareAnswer) → Compare κs t u r → Compare κs′ u t r′
         → Upto T U ⊎ Upto U T → AtOrBefore r ⊎ AtOrBefore r′
     either t u T U a b κs κs′ r r′ c c′ (inl h) = inl (of-upto t u T U a b κs r c h)
     either t u T U a b κs κs′ r r′ c c′ (inr h) = inr (of-upto u t U T b a κs′ r′ c′ h)
 
 -- The other way round before becomes after, and the shared beginning stays.
-pub compare-flip : (t u : Lent) (T U : List ℕ) → CallHolds t T → CallHolds u U → (κs κs′ : Lfts 2) (r r′ : CompareAnswer) → Compare κs t u r
+pub compare-flip : (t u : Borrowed) (T U : List ℕ) → CallHolds t T → CallHolds u U → (κs κs′ : Lfts 2) (r r′ : CompareAnswer) → Compare κs t u r
     → Compare κs′ u t r′
     → (r ≡ outcome (standing T U) (shared T U)) × (r′ ≡ outcome (flip (standing T U)) (shared T U))
 compare-flip t u T U a b κs κs′ r r′ c c′ =

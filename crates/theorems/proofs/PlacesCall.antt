@@ -26,8 +26,8 @@ use Rattle.query_places.specs.Places.{maxPattern, placesIn, patternOk, placesOf
 use Rattle.query_places.specs.declared.PlacesAnswer.the-variants as places
 use Rattle.theorems.specs.Promises.{PlacesAnswers, PlacesRefuses}
 use Rattle.theorems.specs.PublicFunctions.{places-function}
-use Rattle.theorems.proofs.PublicCall.{Call, Lent, call}
-use Rattle.theorems.proofs.RefusalNumbers.{OneOf, asks-one, not-zero, readable-one, then-one}
+use Rattle.theorems.proofs.PublicCall.{Call, Borrowed, call}
+use Rattle.theorems.proofs.RefusalNumbers.{OneOf, asks-one, not-zero, header-one, then-one}
 use Rattle.query_places.proofs.places.Met as places-met
 -- What the contract allows, where the table is left as `after`: `Places κs tree pattern table after r`.
 pub use Rattle.theorems.specs.CallContracts.{Places}
@@ -64,10 +64,10 @@ passed t P room h =
 places-one : (t P : List ℕ) (room : ℕ) → OneOf (5 ∷ 6 ∷ 7 ∷ 16 ∷ 14 ∷ 17 ∷ 0 ∷ []) (placesRefusal t P room)
 unfolding placesRefusal
 places-one t P room =
-    then-one (5 ∷ 6 ∷ 7 ∷ []) (16 ∷ 14 ∷ 17 ∷ 0 ∷ []) (headerResult t) _ (readable-one t)
+    then-one (5 ∷ 6 ∷ 7 ∷ []) (16 ∷ 14 ∷ 17 ∷ 0 ∷ []) (headerResult t) _ (header-one t)
     (asks-one ((16, patternOk P) ∷ (14, pathsHold t 0 (at.textLength t)) ∷ (17, leb (length (placesOf t P)) room) ∷ []))
 
-module _ (κs : Lfts 3) (t P table after : Lent) where
+module _ (κs : Lfts 3) (t P table after : Borrowed) where
   -- The result is the number of all places in the bytes that the tree's paths give, none of which breaks. The places fit the table and are at its start, and
   -- the words after them are unchanged.
   pub places-answer : (n : ℕ) → Places κs t P table after (places.Number n)
@@ -108,7 +108,7 @@ module _ (κs : Lfts 3) (t P table after : Lent) where
     places-unchanged = a .1 ∙ rw (← places-answers, ne-eqb n 0 (λ e. omega (arith, a .0 .numbered)))
 
 -- Any tree that the check accepts, and the one text that fits it.
-module _ (t : Lent) (v : checkResult (now t) ≡ 0) where
+module _ (t : Borrowed) (v : checkResult (now t) ≡ 0) where
   pass : headerResult (now t) ≡ 0
   pass = accepted-header (now t) v
 

@@ -13,8 +13,8 @@ use Rattle.format.specs.Answers.{Answer}
 use Rattle.query_places.specs.Places.{maxPattern, wordsFor, placesWordsAnswer}
 use Rattle.query_places.specs.declared.PlacesWordsAnswer.the-variants as places-room
 use Rattle.theorems.specs.PublicFunctions.{places-words-function}
-use Rattle.theorems.proofs.PublicCall.{Call, Lent, call}
-use Rattle.theorems.proofs.RefusalNumbers.{OneOf, asks-one, not-zero, readable-one, unless-one}
+use Rattle.theorems.proofs.PublicCall.{Call, Borrowed, call}
+use Rattle.theorems.proofs.RefusalNumbers.{OneOf, asks-one, not-zero, header-one, unless-one}
 use Rattle.query_places.proofs.places_words.Met as places-words-met
 -- What the contract allows: `PlacesWords κs tree length r`.
 pub use Rattle.query_places.proofs.Theorems.{PlacesWords}
@@ -23,10 +23,10 @@ abbrev pub places-words-call : Call
 places-words-call = call places-words-function places-words-met.met (λ 𝓤 H A mem run κs a. (tt, refl))
 
 -- For any bytes: a refusal is 5, 6, 7 or 16.
-pub room-numbers : (κs : Lfts 1) (t : Lent) (len n : ℕ) → PlacesWords κs t len (places-room.Refused n) → OneOf (5 ∷ 6 ∷ 7 ∷ 16 ∷ []) n
+pub room-numbers : (κs : Lfts 1) (t : Borrowed) (len n : ℕ) → PlacesWords κs t len (places-room.Refused n) → OneOf (5 ∷ 6 ∷ 7 ∷ 16 ∷ []) n
 unfolding placesWordsAnswer wordsFor
 room-numbers κs t len n a =
     let e : n ≡ placesWordsAnswer (now t) len .number = ap (λ (s : Answer). s .number) (a .answers) in
     not-zero (5 ∷ 6 ∷ 7 ∷ 16 ∷ []) n (a .numbered)
-    (rw e (unless-one (5 ∷ 6 ∷ 7 ∷ []) (16 ∷ 0 ∷ []) (headerResult (now t)) (wordsFor (at.textLength (now t)) len) (readable-one (now t))
+    (rw e (unless-one (5 ∷ 6 ∷ 7 ∷ []) (16 ∷ 0 ∷ []) (headerResult (now t)) (wordsFor (at.textLength (now t)) len) (header-one (now t))
     (unless-one (16 ∷ []) (0 ∷ []) _ _ (asks-one ((16, leb 1 len && leb len maxPattern) ∷ [])) (inl refl))))

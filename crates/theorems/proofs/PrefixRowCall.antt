@@ -20,8 +20,8 @@ use Rattle.query_prefix.proofs.Theorems as query-prefix
 use Rattle.theorems.specs.Promises.{PrefixAnswers, PrefixRefuses}
 use Rattle.theorems.specs.PublicFunctions.{next-row-with-prefix-function, next-row-with-prefix-guided-function}
 use Rattle.theorems.proofs.AcceptedTree.{among-counted, not-counted}
-use Rattle.theorems.proofs.PublicCall.{Call, Lent, call}
-use Rattle.theorems.proofs.RefusalNumbers.{OneOf, asks-one, not-zero, of-left, of-right, readable-one, then-one}
+use Rattle.theorems.proofs.PublicCall.{Call, Borrowed, call}
+use Rattle.theorems.proofs.RefusalNumbers.{OneOf, asks-one, not-zero, of-left, of-right, header-one, then-one}
 use Rattle.query_prefix.proofs.next_with_prefix.Met as next-met
 use Rattle.query_prefix.proofs.next_with_prefix_guided.Met as guided-met
 -- What the contracts allow: `NextRowWithPrefix κs tree prefix mark r`, `NextRowWithPrefixGuided κs tree guide prefix mark r`.
@@ -40,7 +40,7 @@ next-row-with-prefix-guided-call = call next-row-with-prefix-guided-function gui
 prefix-one : (t prefix : List ℕ) → OneOf (5 ∷ 6 ∷ 7 ∷ 16 ∷ 11 ∷ 0 ∷ []) (queryRefusal t 16 (patternOk prefix))
 unfolding queryRefusal newlineRefusal
 prefix-one t prefix =
-    then-one (5 ∷ 6 ∷ 7 ∷ []) (16 ∷ 11 ∷ 0 ∷ []) (headerResult t) _ (readable-one t)
+    then-one (5 ∷ 6 ∷ 7 ∷ []) (16 ∷ 11 ∷ 0 ∷ []) (headerResult t) _ (header-one t)
     (asks-one ((16, patternOk prefix) ∷ (11, isCounted t 10) ∷ []))
 
 -- A refusal is one of these, or 14.
@@ -53,17 +53,17 @@ refusal-one t ok sound prefix mark n a = go (query-prefix.prefix-refusal t ok so
     go (inr h) = of-right (5 ∷ 6 ∷ 7 ∷ 16 ∷ 11 ∷ []) (14 ∷ []) n (inl (h .0))
 
 -- A refusal is 5, 6, 7, 16, 11 or 14.
-pub prefix-numbers : (κs : Lfts 2) (t prefix : Lent) (mark n : ℕ)
+pub prefix-numbers : (κs : Lfts 2) (t prefix : Borrowed) (mark n : ℕ)
     → NextRowWithPrefix κs t prefix mark (answer.Refused n) → OneOf (5 ∷ 6 ∷ 7 ∷ 16 ∷ 11 ∷ 14 ∷ []) n
 prefix-numbers κs t prefix mark n a = refusal-one (now t) (checkResult (now t)) (λ v. v) (now prefix) mark n a
 
-pub prefix-guided-numbers : (κs : Lfts 3) (t guide prefix : Lent) (mark n : ℕ)
+pub prefix-guided-numbers : (κs : Lfts 3) (t guide prefix : Borrowed) (mark n : ℕ)
     → NextRowWithPrefixGuided κs t guide prefix mark (answer.Refused n) → OneOf (5 ∷ 6 ∷ 7 ∷ 16 ∷ 11 ∷ 14 ∷ []) n
 prefix-guided-numbers κs t guide prefix mark n a =
     refusal-one (now t) (guideRefusal (now t) (now guide)) (guide-checked (now t) (now guide)) (now prefix) mark n a
 
 -- Any tree that the check accepts, and the one text that fits it.
-module _ (t : Lent) (v : checkResult (now t) ≡ 0) where
+module _ (t : Borrowed) (v : checkResult (now t) ≡ 0) where
   pass : headerResult (now t) ≡ 0
   pass = accepted-header (now t) v
 

@@ -41,7 +41,7 @@ calls =
     ∷ BuildCall.build-call
     ∷ BuildScannedCall.build-scanned-call
     ∷ BuildScannedCall.scan-words-call
-    ∷ EnoughCall.size-bound-call
+    ∷ SizeBoundCall.size-bound-call
     ∷ CheckCall.check-call
     ∷ ByteCall.byte-call
     ∷ RunCall.run-call

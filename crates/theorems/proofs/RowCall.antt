@@ -13,16 +13,16 @@ use Rattle.format.specs.Layout.{Settings}
 use Rattle.format.specs.Layout as at
 use Rattle.format.specs.TreeReading.{textOf, checkResult}
 use Rattle.format.specs.CheckResultLaws.{accepted-header}
-use Rattle.format.specs.RowRefusalLaws.{RowAnswers}
+use Rattle.format.specs.RowRefusalLaws.{RowAnswers as RowAllowed}
 use Rattle.theory_counts.specs.RowsOfText.{row-lets, row-twelve, row-eleven}
 use Rattle.query_rows.specs.declared.RowAnswer.{RowAnswer}
 use Rattle.query_rows.specs.declared.RowAnswer.the-variants as rows
 use Rattle.query_rows.specs.RowAnswers.{rowReply}
 use Rattle.theorems.specs.Promises.{RowAnswers, RowRefuses}
-pub use Rattle.theorems.specs.CallContracts.{CallRow}
+pub use Rattle.theorems.specs.CallContracts.{Row}
 use Rattle.theorems.specs.PublicFunctions.{row-function}
 use Rattle.theorems.proofs.AcceptedTree.{among-counted, not-counted}
-use Rattle.theorems.proofs.PublicCall.{Call, Lent, call}
+use Rattle.theorems.proofs.PublicCall.{Call, Borrowed, call}
 use Rattle.theorems.proofs.RefusalNumbers.{OneOf}
 use Rattle.theorems.proofs.RowOutcomes.{RowOutcome, Zeros, outcome-copied, row-outcome, row-outcome-leaves, row-outcome-numbers}
 use Rattle.theorems.proofs.RowOutcomes.{free-copied, free-short}
@@ -32,25 +32,25 @@ abbrev pub row-call : Call
 row-call = call row-function row-met.met (λ 𝓤 H A mem run κs a. (tt, refl))
 
 -- For any bytes.
-module _ (κs : Lfts 2) (t : Lent) (q : ℕ) (buffer after : Lent) where
-  outcome-of : (n m : ℕ) → RowAnswers (now t) q (now buffer) n m (now after) → RowOutcome (now t) q (now buffer) n m (now after)
+module _ (κs : Lfts 2) (t : Borrowed) (q : ℕ) (buffer after : Borrowed) where
+  outcome-of : (n m : ℕ) → RowAllowed (now t) q (now buffer) n m (now after) → RowOutcome (now t) q (now buffer) n m (now after)
   outcome-of n m s = row-outcome (now t) q (now buffer) (checkResult (now t)) n m (now after) s
 
   -- A row fits, and the bytes after it are unchanged.
-  pub row-answer : (m : ℕ) → CallRow κs t q buffer after (rows.Bytes m) → (m ≤ length (now buffer)) × (drop m (now after) ≡ drop m (now buffer))
+  pub row-answer : (m : ℕ) → Row κs t q buffer after (rows.Bytes m) → (m ≤ length (now buffer)) × (drop m (now after) ≡ drop m (now buffer))
   row-answer m a = outcome-copied (now t) q (now buffer) m (now after) (outcome-of 0 m (a .answers))
 
   -- On a tree that the check refuses, the bytes copied are those that the paths give from some place on, and 13 means that the buffer is shorter than
   -- some such bytes.
-  pub row-free : (checkResult (now t) ≡ 0 → ⊥) → (m : ℕ) → CallRow κs t q buffer after (rows.Bytes m)
+  pub row-free : (checkResult (now t) ≡ 0 → ⊥) → (m : ℕ) → Row κs t q buffer after (rows.Bytes m)
       → (p : ℕ) × (p + m ≤ at.textLength (now t)) × (now after ≡ stretch (textOf (now t)) p m ++ drop m (now buffer))
   row-free refuses m a = free-copied (now t) q (now buffer) (checkResult (now t)) 0 m (now after) (a .answers) refuses refl
 
-  pub row-free-short : (checkResult (now t) ≡ 0 → ⊥) → CallRow κs t q buffer after (rows.Refused 13)
+  pub row-free-short : (checkResult (now t) ≡ 0 → ⊥) → Row κs t q buffer after (rows.Refused 13)
       → (p : ℕ) × (len : ℕ) × (p + len ≤ at.textLength (now t)) × (length (now buffer) < len)
   row-free-short refuses a = free-short (now t) q (now buffer) (checkResult (now t)) 13 0 (now after) (a .answers) refuses refl
 
-  module _ (n : ℕ) (a : CallRow κs t q buffer after (rows.Refused n)) where
+  module _ (n : ℕ) (a : Row κs t q buffer after (rows.Refused n)) where
     -- A refusal is 5, 6, 7, 11, 12, 13 or 14.
     pub row-numbers : OneOf (5 ∷ 6 ∷ 7 ∷ 11 ∷ 12 ∷ 13 ∷ 14 ∷ []) n
     row-numbers = row-outcome-numbers (now t) q (now buffer) n (now after) (a .numbered) (outcome-of n 0 (a .answers))
@@ -69,7 +69,7 @@ row-no (rows.Bytes m) n s = absurd (let z : ⊥ = omega arith in z)
 row-no (rows.Refused m) n s = ap rows.Refused s
 
 -- Any tree that the check accepts, and the one text that fits it.
-module _ (t : Lent) (v : checkResult (now t) ≡ 0) where
+module _ (t : Borrowed) (v : checkResult (now t) ≡ 0) where
   abbrev T : List ℕ
   T = textOf (now t)
 
@@ -84,7 +84,7 @@ module _ (t : Lent) (v : checkResult (now t) ≡ 0) where
   }
 
   -- Refused before the walk.
-  row-asked : (κs : Lfts 2) (q : ℕ) (buffer after : Lent) (r : RowAnswer) (n : ℕ) → CallRow κs t q buffer after r
+  row-asked : (κs : Lfts 2) (q : ℕ) (buffer after : Borrowed) (r : RowAnswer) (n : ℕ) → Row κs t q buffer after r
       → rowRefusal (now t) q ≡ suc n → (r ≡ rows.Refused (suc n)) × (now after ≡ now buffer)
   row-asked κs q buffer after r n a e = let h = a .answers .asked (rw e (omega arith)) in (row-no r n (h .0 ∙ e), h .2)
 

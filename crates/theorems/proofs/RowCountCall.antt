@@ -19,8 +19,8 @@ use Rattle.query_rows.specs.declared.RowCountAnswer.the-variants as row-count
 use Rattle.query_rows.specs.RowAnswers.{rowCountRefusal, lastOpen, rowCountAnswer}
 use Rattle.theorems.specs.PublicFunctions.{row-count-function}
 use Rattle.theorems.proofs.ByteCall.{byteOf-one}
-use Rattle.theorems.proofs.PublicCall.{Call, Lent, call}
-use Rattle.theorems.proofs.RefusalNumbers.{OneOf, not-zero, of-left, of-right, readable-one}
+use Rattle.theorems.proofs.PublicCall.{Call, Borrowed, call}
+use Rattle.theorems.proofs.RefusalNumbers.{OneOf, not-zero, of-left, of-right, header-one}
 use Rattle.query_rows.proofs.row_count.Met as row-count-met
 -- What the contract allows: `CountOf κs tree r`.
 pub use Rattle.query_rows.proofs.Theorems.{CountOf}
@@ -48,7 +48,7 @@ call-rows-one t = go (lt-or-ge 0 (headerResult t))
 
     go : (0 < headerResult t) ⊎ (headerResult t ≤ 0) → OneOf (5 ∷ 6 ∷ 7 ∷ 11 ∷ 14 ∷ 0 ∷ []) (rowCountRefusal t)
     go (inl l) =
-        let one = not-zero (5 ∷ 6 ∷ 7 ∷ []) (headerResult t) (omega arith) (readable-one t) in
+        let one = not-zero (5 ∷ 6 ∷ 7 ∷ []) (headerResult t) (omega arith) (header-one t) in
         rw (ne-eqb (headerResult t) 0 (λ e. omega arith)) (of-left (5 ∷ 6 ∷ 7 ∷ []) (11 ∷ 14 ∷ 0 ∷ []) (headerResult t) one)
     go (inr l) =
         let pass : headerResult t ≡ 0 = omega arith in
@@ -56,7 +56,7 @@ call-rows-one t = go (lt-or-ge 0 (headerResult t))
         let one = asked (isCounted t 10) last (last-one t pass) in
         rw (eq-eqb (headerResult t) 0 pass) (of-right (5 ∷ 6 ∷ 7 ∷ []) (11 ∷ 14 ∷ 0 ∷ []) (ask 11 (isCounted t 10) last) one)
 
-pub row-count-numbers : (κs : Lfts 1) (t : Lent) (n : ℕ) → CountOf κs t (row-count.Refused n) → OneOf (5 ∷ 6 ∷ 7 ∷ 11 ∷ 14 ∷ []) n
+pub row-count-numbers : (κs : Lfts 1) (t : Borrowed) (n : ℕ) → CountOf κs t (row-count.Refused n) → OneOf (5 ∷ 6 ∷ 7 ∷ 11 ∷ 14 ∷ []) n
 unfolding rowCountAnswer
 row-count-numbers κs t n a =
     let rows = total (now t) (numberOfByte (now t) 10) + cond (lastOpen (now t)) 1 0 in

@@ -13,7 +13,7 @@ use Rattle.format.specs.Answers.{rowMost}
 use Rattle.query_guide.specs.Guides.{guideRefusal}
 use Rattle.query_rows.specs.declared.RowAnswer.the-variants as rows
 use Rattle.theorems.specs.PublicFunctions.{row-guided-function}
-use Rattle.theorems.proofs.PublicCall.{Call, Lent, call}
+use Rattle.theorems.proofs.PublicCall.{Call, Borrowed, call}
 use Rattle.theorems.proofs.RefusalNumbers.{OneOf}
 use Rattle.theorems.proofs.RowOutcomes.{RowOutcome, Zeros, outcome-copied, row-outcome, row-outcome-leaves, row-outcome-numbers}
 use Rattle.theorems.proofs.RowOutcomes.{free-copied, free-short}
@@ -25,7 +25,7 @@ abbrev pub row-guided-call : Call
 row-guided-call = call row-guided-function row-guided-met.met (λ 𝓤 H A mem run κs a. (tt, refl))
 
 -- For any bytes: a row fits, and the bytes after it are unchanged.
-module _ (κs : Lfts 3) (t guide : Lent) (q : ℕ) (buffer after : Lent) where
+module _ (κs : Lfts 3) (t guide : Borrowed) (q : ℕ) (buffer after : Borrowed) where
   pub row-guided-answer : (m : ℕ) → RowGuided κs t guide q buffer after (rows.Bytes m) → (m ≤ length (now buffer)) × (drop m (now after) ≡ drop m (now buffer))
   row-guided-answer m a =
       outcome-copied (now t) q (now buffer) m (now after)

@@ -11,7 +11,7 @@ use Rattle.format.specs.TreeReading.{checkResult}
 use Rattle.format.specs.Answers.{rowMost, rowRefusal}
 use Rattle.query_rows.specs.declared.RowLengthAnswer.the-variants as row-length
 use Rattle.theorems.specs.PublicFunctions.{row-length-function}
-use Rattle.theorems.proofs.PublicCall.{Call, Lent, call}
+use Rattle.theorems.proofs.PublicCall.{Call, Borrowed, call}
 use Rattle.theorems.proofs.RefusalNumbers.{OneOf, of-right}
 use Rattle.theorems.proofs.RowOutcomes.{row-before}
 use Rattle.query_rows.proofs.row_length.Met as row-length-met
@@ -22,7 +22,7 @@ abbrev pub row-length-call : Call
 row-length-call = call row-length-function row-length-met.met (λ 𝓤 H A mem run κs a. (tt, refl))
 
 -- For any bytes: a refusal is 5, 6, 7, 11, 12 or 14.
-pub length-numbers : (κs : Lfts 1) (t : Lent) (q n : ℕ) → LengthOf κs t q (row-length.Refused n) → OneOf (5 ∷ 6 ∷ 7 ∷ 11 ∷ 12 ∷ 14 ∷ []) n
+pub length-numbers : (κs : Lfts 1) (t : Borrowed) (q n : ℕ) → LengthOf κs t q (row-length.Refused n) → OneOf (5 ∷ 6 ∷ 7 ∷ 11 ∷ 12 ∷ 14 ∷ []) n
 length-numbers κs t q n a = go (lt-or-ge 0 (rowRefusal (now t) q)) (lt-or-ge 0 (checkResult (now t)))
   where
     free : ((n ≡ 0) × (0 ≤ rowMost (now t) q)) ⊎ ((n ≡ 14) × (_≡_ {A = ℕ} 0 0)) → OneOf (5 ∷ 6 ∷ 7 ∷ 11 ∷ 12 ∷ 14 ∷ []) n

@@ -23,29 +23,29 @@ use Rattle.theorems.proofs.BuildScannedCall.{BuildScanned, scanned-answ
 use Rattle.theorems.proofs.CheckCall.{Check, check-answers}
 use Rattle.theorems.proofs.ColumnRowCall.{ByColumns}
 use Rattle.theorems.proofs.ColumnsCall.{ToColumns}
-use Rattle.theorems.proofs.PublicCall.{Lent}
+use Rattle.theorems.proofs.PublicCall.{Borrowed}
 
 -- What every call on the tree returns: the buffer begins with row a of the original text, end byte included, and its other bytes are unchanged.
-abbrev pub RowsOf : Lent → ℕ → List ℕ → Type 0
+abbrev pub RowsOf : Borrowed → ℕ → List ℕ → Type 0
 RowsOf t w T =
-    (κs : Lfts 2) (a : ℕ) (buffer after : Lent) (r : SpanAnswer) → ByColumns κs t w a buffer after r → a < length T / w → w ≤ length (now buffer)
+    (κs : Lfts 2) (a : ℕ) (buffer after : Borrowed) (r : SpanAnswer) → ByColumns κs t w a buffer after r → a < length T / w → w ≤ length (now buffer)
     → (r ≡ copied.Bytes w 0) × (now after ≡ stretch T (a * w) w ++ drop w (now buffer))
 
 -- Every question is answered from the rearranged text.
-module _ (t : Lent) (S : Settings) (w : ℕ) (T : List ℕ) (ok : widthOk w (length T) ≡ true) where
+module _ (t : Borrowed) (S : Settings) (w : ℕ) (T : List ℕ) (ok : widthOk w (length T) ≡ true) where
   rows-of : Answers t S (columns w T) → RowsOf t w T
   rows-of answers κs a buffer after r c low room =
       let size = columns-length w T ok in
       rw (restored w T ok) at (answers .column-row .column-of κs w a buffer after r c (rw size ok) (rw size low) room)
 
 -- For any tree that the check accepts and that the rearranged text fits.
-pub accepted-rows : (κ : Lfts 1) (t : Lent) → Check κ t 0 → (w : ℕ) (T : List ℕ) → widthOk w (length T) ≡ true → fits (columns w T) (now t) ≡ true
+pub accepted-rows : (κ : Lfts 1) (t : Borrowed) → Check κ t 0 → (w : ℕ) (T : List ℕ) → widthOk w (length T) ≡ true → fits (columns w T) (now t) ≡ true
     → RowsOf t w T
 accepted-rows κ t c w T ok fit = rows-of t (at.settings (now t)) w T ok (check-answers κ t c (columns w T) fit)
 
 -- A text rearranged by a call, whose output is the input of a builder.
-module _ (κ : Lfts 2) (text : Lent) (w : ℕ) (out turned : Lent) (done : ToColumns κ text w out turned 0)
-    (input : Lent) (is : now input ≡ take (length (now text)) (now turned)) where
+module _ (κ : Lfts 2) (text : Borrowed) (w : ℕ) (out turned : Borrowed) (done : ToColumns κ text w out turned 0)
+    (input : Borrowed) (is : now input ≡ take (length (now text)) (now turned)) where
   ok : widthOk w (length (now text)) ≡ true
   ok = rearranging.to-columns κ text w out turned 0 done .passed refl .0
 
@@ -53,16 +53,16 @@ module _ (κ : Lfts 2) (text : Lent) (w : ℕ) (out turned : Lent) (done : ToCol
   input-is = rearranging.to-columns-input κ text w out turned done (now input) is
 
   -- For the tree that build wrote.
-  pub built-rows : (κs : Lfts 3) (leaf arity levels : ℕ) (counted room after : Lent) (size : ℕ)
-      → Build κs input leaf arity levels counted room after (built.Size size) → (t : Lent) → now t ≡ take size (now after) → RowsOf t w (now text)
+  pub built-rows : (κs : Lfts 3) (leaf arity levels : ℕ) (counted room after : Borrowed) (size : ℕ)
+      → Build κs input leaf arity levels counted room after (built.Size size) → (t : Borrowed) → now t ≡ take size (now after) → RowsOf t w (now text)
   built-rows κs leaf arity levels counted room after size a t e =
       rows-of t (given leaf arity levels (now counted)) w (now text) ok
       (rw input-is at (build-answers κs input leaf arity levels counted room after size a t e))
 
   -- For the tree that build_scanned wrote.
-  pub scanned-rows : (κs : Lfts 4) (leaf arity levels : ℕ) (counted words table room after : Lent) (size windows : ℕ)
+  pub scanned-rows : (κs : Lfts 4) (leaf arity levels : ℕ) (counted words table room after : Borrowed) (size windows : ℕ)
       → BuildScanned κs input leaf arity levels counted words table room after (scanned.Size size windows)
-      → (t : Lent) → now t ≡ take size (now after) → RowsOf t w (now text)
+      → (t : Borrowed) → now t ≡ take size (now after) → RowsOf t w (now text)
   scanned-rows κs leaf arity levels counted words table room after size windows a t e =
       rows-of t (given leaf arity levels (now counted)) w (now text) ok
       (rw input-is at (scanned-answers κs input leaf arity levels counted words table room after size windows a t e))

@@ -21,7 +21,7 @@ use Rattle.theorems.specs.Promises.{RunAnswers, RunRefuses}
 use Rattle.theorems.specs.PublicFunctions.{run-function, run-part-function}
 use Rattle.theorems.proofs.AcceptedTree.{below, text-size}
 use Rattle.theorems.proofs.ByteCall.{Byte, byte-not-zero, byte-one, byte-reached, byte-ten}
-use Rattle.theorems.proofs.PublicCall.{Call, Lent, call}
+use Rattle.theorems.proofs.PublicCall.{Call, Borrowed, call}
 use Rattle.theorems.proofs.RefusalNumbers.{OneOf, not-zero}
 use Rattle.query_access.proofs.run.Met as run-met
 use Rattle.query_access.proofs.run_range.Met as run-part-met
@@ -30,7 +30,7 @@ use Rattle.query_access.proofs.run_range.Reads as run-part-reads
 pub use Rattle.theorems.specs.CallContracts.{Run}
 
 -- What the contract of `run_range` allows.
-abbrev pub RunPart : (κs : Lfts 1) → Lent → TextPlace → RunRangeAnswer → Type 0
+abbrev pub RunPart : (κs : Lfts 1) → Borrowed → TextPlace → RunRangeAnswer → Type 0
 RunPart κs t p r = run-part-reads.Post κs (t, (p, tt)) r (t, (p, tt))
 
 abbrev pub run-call : Call
@@ -40,7 +40,7 @@ abbrev pub run-part-call : Call
 run-part-call = call run-part-function run-part-met.met (λ 𝓤 H A mem run κs a. (tt, refl))
 
 -- For any bytes; κ is the lifetime of byte, κs that of run.
-module _ (κ κs : Lfts 1) (t : Lent) (p : TextPlace) (r : Lent) where
+module _ (κ κs : Lfts 1) (t : Borrowed) (p : TextPlace) (r : Borrowed) where
   -- If byte is not refused, run returns a part of the tree, of one byte or more.
   pub run-answer : (v e : ℕ) → Byte κ t p (answer.Byte v e) → Run κs t p r
       → (from : ℕ) × (size : ℕ) × (1 ≤ size) × (from + size ≤ length (now t))
@@ -59,11 +59,11 @@ module _ (κ κs : Lfts 1) (t : Lent) (p : TextPlace) (r : Lent) where
       rw z at (a .0)
 
 -- A refusal of `run_range` is 5, 6, 7, 10 or 14, as byte's is.
-pub run-part-numbers : (κs : Lfts 1) (t : Lent) (p : TextPlace) (n : ℕ) → RunPart κs t p (ran.Refused n) → OneOf (5 ∷ 6 ∷ 7 ∷ 10 ∷ 14 ∷ []) n
+pub run-part-numbers : (κs : Lfts 1) (t : Borrowed) (p : TextPlace) (n : ℕ) → RunPart κs t p (ran.Refused n) → OneOf (5 ∷ 6 ∷ 7 ∷ 10 ∷ 14 ∷ []) n
 run-part-numbers κs t p n a = not-zero (5 ∷ 6 ∷ 7 ∷ 10 ∷ 14 ∷ []) n (a .numbered) (rw (a .number-is) (byte-one (now t) (p .0)))
 
 -- Any tree that the check accepts, and the one text that fits it.
-module _ (t : Lent) (v : checkResult (now t) ≡ 0) where
+module _ (t : Borrowed) (v : checkResult (now t) ≡ 0) where
   pub accepted-answers : RunAnswers t (at.settings (now t)) (textOf (now t))
   accepted-answers = record {
     run-of = λ κs p r a h.
@@ -71,7 +71,7 @@ module _ (t : Lent) (v : checkResult (now t) ≡ 0) where
         (w .from, w .size, w .some-byte, w .in-tree, w .place, w .of-tree, omega (arith, w .in-text, text-size (now t) v), w .of-text);
   }
 
-  past : (κs : Lfts 1) (p : TextPlace) (r : Lent) → Run κs t p r → length (textOf (now t)) ≤ p .0 → now r ≡ []
+  past : (κs : Lfts 1) (p : TextPlace) (r : Borrowed) → Run κs t p r → length (textOf (now t)) ≤ p .0 → now r ≡ []
   unfolding runAnswer
   past κs p r a h = rw (byte-ten (now t) v (p .0) h) at (a .0)
 

@@ -13,7 +13,7 @@ use Rattle.build_size_bound.specs.declared.SizeBoundAnswer.{SizeBoundAnswer}
 use Rattle.build_size_bound.specs.declared.SizeBoundAnswer.the-variants as room
 use Rattle.theorems.specs.PublicFunctions.{size-bound-function}
 use Rattle.theorems.proofs.PublicCall.{Call, call}
-use Rattle.theorems.proofs.RefusalNumbers.{OneOf, asks-one, not-zero, says-refused, says-answer}
+use Rattle.theorems.proofs.RefusalNumbers.{OneOf, asks-one, not-zero, answers-refused, answers-answer}
 use Rattle.build_size_bound.proofs.size_bound.Met as enough-met
 use Rattle.build_size_bound.proofs.size_bound.Reads as enough-reads
 
@@ -29,7 +29,7 @@ size-bound-call = call size-bound-function enough-met.met (λ 𝓤 H A mem run �
 pub size-bound-numbers : (n leaf arity levels k m : ℕ) → SizeBound n leaf arity levels k (room.Refused m) → OneOf (1 ∷ 2 ∷ 3 ∷ []) m
 unfolding sizeBoundAnswer sizeBoundRefusal
 size-bound-numbers n leaf arity levels k m a =
-    let e = says-refused m (sizeBoundRefusal n leaf arity levels k) (sizeBoundFor n leaf arity levels k) 0 (a .numbered) (a .answers) in
+    let e = answers-refused m (sizeBoundRefusal n leaf arity levels k) (sizeBoundFor n leaf arity levels k) 0 (a .numbered) (a .answers) in
     not-zero (1 ∷ 2 ∷ 3 ∷ []) m (a .numbered)
     (rw e (asks-one ((1, lengthOk n) ∷ (2, sizesOk (sizes leaf arity levels)) ∷ (3, leb k maxCounted) ∷ [])))
 
@@ -38,6 +38,6 @@ pub size-bound-answer : (n leaf arity levels k m : ℕ) → SizeBound n leaf ari
     → (lengthOk n ≡ true) × (sizesOk (sizes leaf arity levels) ≡ true) × (m ≡ sizeBoundFor n leaf arity levels k)
 unfolding sizeBoundAnswer sizeBoundRefusal
 size-bound-answer n leaf arity levels k m a =
-    let w = says-answer m 0 (sizeBoundRefusal n leaf arity levels k) (sizeBoundFor n leaf arity levels k) 0 (a .answers) in
+    let w = answers-answer m 0 (sizeBoundRefusal n leaf arity levels k) (sizeBoundFor n leaf arity levels k) 0 (a .answers) in
     let two = ask 2 (sizesOk (sizes leaf arity levels)) (ask 3 (leb k maxCounted) 0) in
     (ask-test 0 (lengthOk n) two (w .0), ask-test 1 (sizesOk (sizes leaf arity levels)) _ (ask-rest 0 (lengthOk n) two (w .0)), w .1)

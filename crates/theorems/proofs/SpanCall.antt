@@ -24,8 +24,8 @@ use Rattle.theorems.specs.Promises.{BlocksOfSpan, SpanAnswers, SpanRefus
 use Rattle.theorems.specs.PublicFunctions.{span-function}
 use Rattle.theorems.proofs.AcceptedTree.{text-size}
 use Rattle.theorems.proofs.BlocksEntered.{blocks-of-span}
-use Rattle.theorems.proofs.PublicCall.{Call, Lent, call}
-use Rattle.theorems.proofs.RefusalNumbers.{OneOf, asks-one, not-zero, readable-one, says-answer, says-refused, then-one}
+use Rattle.theorems.proofs.PublicCall.{Call, Borrowed, call}
+use Rattle.theorems.proofs.RefusalNumbers.{OneOf, asks-one, not-zero, header-one, answers-answer, answers-refused, then-one}
 use Rattle.query_access.proofs.span.Met as span-met
 -- What the contract allows, where the buffer is left as `after`: `Span κs tree place length buffer after r`.
 pub use Rattle.theorems.specs.CallContracts.{Span}
@@ -39,7 +39,7 @@ span-call = call span-function span-met.met (λ 𝓤 H A mem run κs a. (tt, ref
 span-one : (t : List ℕ) (p len room : ℕ) → OneOf (5 ∷ 6 ∷ 7 ∷ 10 ∷ 13 ∷ 14 ∷ 0 ∷ []) (spanRefusal t p len room)
 unfolding spanRefusal spanQuestions
 span-one t p len room =
-    then-one (5 ∷ 6 ∷ 7 ∷ []) (10 ∷ 13 ∷ 14 ∷ 0 ∷ []) (headerResult t) _ (readable-one t)
+    then-one (5 ∷ 6 ∷ 7 ∷ []) (10 ∷ 13 ∷ 14 ∷ 0 ∷ []) (headerResult t) _ (header-one t)
     (asks-one ((10, leb (p + len) (at.textLength t)) ∷ (13, leb len room) ∷ (14, spanReached t p len) ∷ []))
 
 -- Span is not refused only if its bytes fit the buffer and are reached.
@@ -56,14 +56,14 @@ span-passes t p len room h =
     let b = asks-pass questions refl (a .1) in
     record { pass = a .0; fits = leb-true len room (b .1 .0); reached = b .1 .1 .0 }
 
-module _ (κs : Lfts 2) (t : Lent) (p : TextPlace) (len : ℕ) (buffer after : Lent) where
+module _ (κs : Lfts 2) (t : Borrowed) (p : TextPlace) (len : ℕ) (buffer after : Borrowed) where
   -- The result is the given length, which fits, with the blocks entered, and the bytes after it are unchanged.
   pub span-answer : (m e : ℕ) → Span κs t p len buffer after (copied.Bytes m e)
       → (m ≡ len) × BlocksOfSpan (now t) (at.settings (now t) .levels) (p .0) len e × (len ≤ length (now buffer))
       × (drop len (now after) ≡ drop len (now buffer))
   unfolding spanAnswer spanBuffer bufferAfter
   span-answer m e a =
-      let s = says-answer m e _ len _ (a .0 .answers) in
+      let s = answers-answer m e _ len _ (a .0 .answers) in
       let bytes = spanBytes (now t) (p .0) len in
       let number = spanRefusal (now t) (p .0) len (length (now buffer)) in
       let left : now after ≡ bytes ++ drop len (now buffer) = rw (eq-eqb number 0 (s .0)) at (a .1) in
@@ -78,7 +78,7 @@ module _ (κs : Lfts 2) (t : Lent) (p : TextPlace) (len : ℕ) (buffer after : L
     -- The number is the definition's.
     span-answers : n ≡ spanRefusal (now t) (p .0) len (length (now buffer))
     unfolding spanAnswer
-    span-answers = says-refused n _ len _ (a .0 .numbered) (a .0 .answers)
+    span-answers = answers-refused n _ len _ (a .0 .numbered) (a .0 .answers)
 
     -- A refusal is 5, 6, 7, 10, 13 or 14.
     pub span-numbers : OneOf (5 ∷ 6 ∷ 7 ∷ 10 ∷ 13 ∷ 14 ∷ []) n
@@ -99,7 +99,7 @@ module _ (κs : Lfts 2) (t : Lent) (p : TextPlace) (len : ℕ) (buffer after : L
     span-unchanged e = span-left ∙ rw (ne-eqb n 14 e)
 
 -- Any tree that the check accepts, and the one text that fits it.
-module _ (t : Lent) (v : checkResult (now t) ≡ 0) where
+module _ (t : Borrowed) (v : checkResult (now t) ≡ 0) where
   abbrev T : List ℕ
   T = textOf (now t)
 
@@ -118,7 +118,7 @@ module _ (t : Lent) (v : checkResult (now t) ≡ 0) where
   }
 
   -- A refused span answers its number, and leaves the buffer.
-  refuses : (κs : Lfts 2) (p : TextPlace) (len : ℕ) (buffer after : Lent) (r : SpanAnswer) (n : ℕ) → Span κs t p len buffer after r
+  refuses : (κs : Lfts 2) (p : TextPlace) (len : ℕ) (buffer after : Borrowed) (r : SpanAnswer) (n : ℕ) → Span κs t p len buffer after r
       → spanRefusal (now t) (p .0) len (length (now buffer)) ≡ suc n → (suc n ≡ 14 → ⊥) → (r ≡ copied.Refused (suc n)) × (now after ≡ now buffer)
   unfolding spanAnswer spanBuffer bufferAfter
   refuses κs p len buffer after r n a e other =

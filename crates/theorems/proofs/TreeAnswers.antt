@@ -5,7 +5,7 @@ use denote.Ref.{now}
 use Rattle.format.specs.Layout as at
 use Rattle.format.specs.TreeReading.{textOf, checkResult}
 use Rattle.theorems.specs.Promises.{Answers, Refuses}
-use Rattle.theorems.proofs.PublicCall.{Lent}
+use Rattle.theorems.proofs.PublicCall.{Borrowed}
 use Rattle.theorems.proofs.ByteCall
 use Rattle.theorems.proofs.RunCall
 use Rattle.theorems.proofs.SpanCall
@@ -19,7 +19,7 @@ use Rattle.theorems.proofs.ColumnRowCall
 use Rattle.theorems.proofs.DigestCall
 
 -- Any tree that the check accepts, and the one text that fits it.
-module _ (t : Lent) (v : checkResult (now t) ≡ 0) where
+module _ (t : Borrowed) (v : checkResult (now t) ≡ 0) where
   pub accepted-answers : Answers t (at.settings (now t)) (textOf (now t))
   accepted-answers = record {
     byte = ByteCall.accepted-answers t v;

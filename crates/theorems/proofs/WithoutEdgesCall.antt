@@ -19,8 +19,8 @@ use Rattle.build_without_edges.specs.declared.WithoutEdgesAnswer.the-variants.{
 use Rattle.build_without_edges.specs.WithoutEdgesAnswers.{withoutEdgesRefusal, withoutEdgesReply}
 use Rattle.theorems.specs.Promises.{Answers, Refuses}
 use Rattle.theorems.specs.PublicFunctions.{without-edges-function}
-use Rattle.theorems.proofs.PublicCall.{Call, Lent, call}
-use Rattle.theorems.proofs.RefusalNumbers.{OneOf, readable-one}
+use Rattle.theorems.proofs.PublicCall.{Call, Borrowed, call}
+use Rattle.theorems.proofs.RefusalNumbers.{OneOf, header-one}
 use Rattle.theorems.proofs.TreeAnswers.{accepted-answers, accepted-refuses}
 use Rattle.build_without_edges.proofs.without_edges.Met as without-edges-met
 use Rattle.build_without_edges.proofs.Theorems as drops
@@ -33,7 +33,7 @@ without-edges-call = call without-edges-function without-edges-met.met (λ 𝓤 
 -- On any bytes it returns 0, 5, 6, 7 or 13.
 number-one : (t out : List ℕ) → OneOf (5 ∷ 6 ∷ 7 ∷ 13 ∷ 0 ∷ []) (withoutEdgesRefusal t out)
 unfolding withoutEdgesRefusal
-number-one t out = go (headerResult t) (readable-one t) (bool-cases (leb (length (withoutEdges t)) (length out)))
+number-one t out = go (headerResult t) (header-one t) (bool-cases (leb (length (withoutEdges t)) (length out)))
   where
     fits : Type 0
     fits = (leb (length (withoutEdges t)) (length out) ≡ true) ⊎ (leb (length (withoutEdges t)) (length out) ≡ false)
@@ -46,12 +46,12 @@ number-one t out = go (headerResult t) (readable-one t) (bool-cases (leb (length
     go n (inr (inr (inr (inl e)))) (inl f) = rw (e, f) (inr (inr (inr (inr (inl refl)))))
     go n (inr (inr (inr (inl e)))) (inr f) = rw (e, f) (inr (inr (inr (inl refl))))
 
-module _ (κs : Lfts 2) (t out after : Lent) (r : WithoutEdgesAnswer) (a : WithoutEdges κs t out after r) where
+module _ (κs : Lfts 2) (t out after : Borrowed) (r : WithoutEdgesAnswer) (a : WithoutEdges κs t out after r) where
   pub without-edges-numbers : OneOf (5 ∷ 6 ∷ 7 ∷ 13 ∷ 0 ∷ []) (replied (withoutEdgesReply r) .number)
   without-edges-numbers = rw (a .0) (number-one (now t) (now out))
 
   -- If the check accepts the tree, every question about the tree and about the written tree is answered, or refused, by the same text and settings.
-  module _ (n : ℕ) (e : r ≡ Size n) (u : Lent) (is : now u ≡ take n (now after)) (v : checkResult (now t) ≡ 0) where
+  module _ (n : ℕ) (e : r ≡ Size n) (u : Borrowed) (is : now u ≡ take n (now after)) (v : checkResult (now t) ≡ 0) where
     settings-are : at.settings (now u) ≡ at.settings (now t)
     settings-are = drops.written-header κs t out after r a n e u is .2 .settings-are
 

@@ -36,19 +36,19 @@ pub use Rattle.query_columns.proofs.Theorems.{ByColumns}
 pub use Rattle.query_digest.proofs.Theorems.{Digest}
 
 -- Borrowed bytes.
-abbrev pub CallLent : Type 0
-CallLent = RefT (List ℕ)
+abbrev pub Borrowed : Type 0
+Borrowed = RefT (List ℕ)
 
-abbrev pub Count : (κs : Lfts 1) → CallLent → (byte i : ℕ) → CountAnswer → Type 0
+abbrev pub Count : (κs : Lfts 1) → Borrowed → (byte i : ℕ) → CountAnswer → Type 0
 Count κs t byte i r = count-reads.Post κs (t, (byte, (i, tt))) r (t, (byte, (i, tt)))
 
-abbrev pub CallFind : (κs : Lfts 1) → CallLent → (byte j : ℕ) → FindAnswer → Type 0
-CallFind κs t byte j r = find-reads.Post κs (t, (byte, (j, tt))) r (t, (byte, (j, tt)))
+abbrev pub Find : (κs : Lfts 1) → Borrowed → (byte j : ℕ) → FindAnswer → Type 0
+Find κs t byte j r = find-reads.Post κs (t, (byte, (j, tt))) r (t, (byte, (j, tt)))
 
-abbrev pub CallRow : (κs : Lfts 2) → CallLent → (q : ℕ) → (buffer after : CallLent) → RowAnswer → Type 0
-CallRow κs t q buffer after r = row-reads.Post κs (t, (q, (buffer, tt))) r (t, (q, (after, tt)))
+abbrev pub Row : (κs : Lfts 2) → Borrowed → (q : ℕ) → (buffer after : Borrowed) → RowAnswer → Type 0
+Row κs t q buffer after r = row-reads.Post κs (t, (q, (buffer, tt))) r (t, (q, (after, tt)))
 
 -- `table` is the table `words` after the call, `after` is the buffer `out` after the call.
-abbrev pub BuildScanned : (κs : Lfts 4) (text : CallLent) (leaf arity levels : ℕ) (counted words table out after : CallLent) → BuildScannedAnswer → Type 0
+abbrev pub BuildScanned : (κs : Lfts 4) (text : Borrowed) (leaf arity levels : ℕ) (counted words table out after : Borrowed) → BuildScannedAnswer → Type 0
 BuildScanned κs text leaf arity levels counted words table out after r =
     scanned-reads.Post κs (text, (leaf, (arity, (levels, (counted, (words, (out, tt))))))) r (text, (leaf, (arity, (levels, (counted, (table, (after, tt)))))))

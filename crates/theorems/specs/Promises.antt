@@ -44,13 +44,13 @@ use Rattle.abi.proofs.Theorems.{calls as exported}
 use Rattle.list_lines.proofs.Theorems.{calls as listing}
 use Rattle.licence.proofs.Theorems.{calls as licence}
 use Rattle.theorems.specs.PublicFunctions.{functions, Every}
-use Rattle.theorems.specs.CallContracts.{CallLent, TextPlace, Answer, Copied, Counted, Found, RowCopied, PlacesWritten, NextRowAnswer, Built}
-use Rattle.theorems.specs.CallContracts.{Check, Build, BuildScanned, Byte, Run, Span, Count, CallFind, CallRow, Places, Digest, NextMatch}
+use Rattle.theorems.specs.CallContracts.{Borrowed, TextPlace, ByteAnswer, SpanAnswer, CountAnswer, FindAnswer, RowAnswer, PlacesAnswer, NextRowAnswer, BuildAnswer}
+use Rattle.theorems.specs.CallContracts.{Check, Build, BuildScanned, Byte, Run, Span, Count, Find, Row, Places, Digest, NextMatch}
 use Rattle.theorems.specs.CallContracts.{NextRowWithPrefix, ByColumns}
 
 -- docs/FORMAT.md, "Settings": the byte is one of the counted bytes.
-abbrev pub CallAmong : ℕ → List ℕ → Type 0
-CallAmong byte counted = (i : ℕ) × (i < length counted) × (getD counted i 0 ≡ byte)
+abbrev pub CountedIn : ℕ → List ℕ → Type 0
+CountedIn byte counted = (i : ℕ) × (i < length counted) × (getD counted i 0 ≡ byte)
 
 -- docs/FORMAT.md, "The path of a place": e is the length of the path of place p, in a tree of H levels.
 pub record LengthOfPath (t : List ℕ) (H p e : ℕ) : Type 0 where
@@ -75,162 +75,162 @@ pub record BlocksOfSpan (t : List ℕ) (H p len e : ℕ) : Type 0 where
   pub most : e ≤ 2 * H
 
 -- docs/FORMAT.md, "What can be asked": the answers to questions about a tree t with the settings S, given by a text T.
-module _ (t : CallLent) (S : Settings) (T : List ℕ) where
+module _ (t : Borrowed) (S : Settings) (T : List ℕ) where
   -- docs/FORMAT.md, "Byte"
   pub record ByteAnswers : Type 0 where
     -- A place of the text: its byte, with the length of its path.
-    pub byte-of : (κs : Lfts 1) (p : TextPlace) (r : Answer) → Byte κs t p r → p .0 < length T
+    pub byte-of : (κs : Lfts 1) (p : TextPlace) (r : ByteAnswer) → Byte κs t p r → p .0 < length T
         → (e : ℕ) × LengthOfPath (now t) (S .levels) (p .0) e × (r ≡ answer.Byte (getD T (p .0) 0) e)
 
   pub record ByteRefuses : Type 0 where
     -- A place past the end of the text: 10.
-    pub byte-past : (κs : Lfts 1) (p : TextPlace) (r : Answer) → Byte κs t p r → length T ≤ p .0 → r ≡ answer.Refused 10
+    pub byte-past : (κs : Lfts 1) (p : TextPlace) (r : ByteAnswer) → Byte κs t p r → length T ≤ p .0 → r ≡ answer.Refused 10
 
   -- docs/FORMAT.md, "Run"
   pub record RunAnswers : Type 0 where
     -- A place of the text: a part of the tree's own bytes, at least one, which are the bytes of the text from the place on.
-    pub run-of : (κs : Lfts 1) (p : TextPlace) (r : CallLent) → Run κs t p r → p .0 < length T
+    pub run-of : (κs : Lfts 1) (p : TextPlace) (r : Borrowed) → Run κs t p r → p .0 < length T
         → (from : ℕ) × (size : ℕ) × (1 ≤ size) × (from + size ≤ length (now t)) × (r .ptr ≡ (t .ptr .0, t .ptr .1 + from))
         × (now r ≡ take size (drop from (now t))) × (p .0 + size ≤ length T) × (now r ≡ stretch T (p .0) size)
 
   pub record RunRefuses : Type 0 where
     -- A place past the end of the text: no bytes.
-    pub run-past : (κs : Lfts 1) (p : TextPlace) (r : CallLent) → Run κs t p r → length T ≤ p .0 → now r ≡ []
+    pub run-past : (κs : Lfts 1) (p : TextPlace) (r : Borrowed) → Run κs t p r → length T ≤ p .0 → now r ≡ []
 
   -- docs/FORMAT.md, "Span"
   pub record SpanAnswers : Type 0 where
     -- A span inside the text that fits the buffer: its bytes at the start of the buffer, the rest unchanged; with the number of blocks entered.
-    pub span-of : (κs : Lfts 2) (p : TextPlace) (len : ℕ) (buffer after : CallLent) (r : Copied) → Span κs t p len buffer after r
+    pub span-of : (κs : Lfts 2) (p : TextPlace) (len : ℕ) (buffer after : Borrowed) (r : SpanAnswer) → Span κs t p len buffer after r
         → p .0 + len ≤ length T → len ≤ length (now buffer)
         → (e : ℕ) × BlocksOfSpan (now t) (S .levels) (p .0) len e × (r ≡ copied.Bytes len e) × (now after ≡ stretch T (p .0) len ++ drop len (now buffer))
 
   pub record SpanRefuses : Type 0 where
     -- A span past the end of the text: 10, and the buffer is unchanged.
-    pub span-past : (κs : Lfts 2) (p : TextPlace) (len : ℕ) (buffer after : CallLent) (r : Copied) → Span κs t p len buffer after r
+    pub span-past : (κs : Lfts 2) (p : TextPlace) (len : ℕ) (buffer after : Borrowed) (r : SpanAnswer) → Span κs t p len buffer after r
         → length T < p .0 + len → (r ≡ copied.Refused 10) × (now after ≡ now buffer)
     -- A buffer that is too short: 13, and it is unchanged.
-    pub span-short : (κs : Lfts 2) (p : TextPlace) (len : ℕ) (buffer after : CallLent) (r : Copied) → Span κs t p len buffer after r
+    pub span-short : (κs : Lfts 2) (p : TextPlace) (len : ℕ) (buffer after : Borrowed) (r : SpanAnswer) → Span κs t p len buffer after r
         → p .0 + len ≤ length T → length (now buffer) < len → (r ≡ copied.Refused 13) × (now after ≡ now buffer)
 
   -- docs/FORMAT.md, "Count"
   pub record CountAnswers : Type 0 where
     -- A counted byte: how often it occurs in the first i bytes, with the length of the path of place i - 1.
-    pub count-of : (κs : Lfts 1) (byte i : ℕ) (r : Counted) → Count κs t byte i r → CallAmong byte (S .counted) → 1 ≤ i → i ≤ length T
+    pub count-of : (κs : Lfts 1) (byte i : ℕ) (r : CountAnswer) → Count κs t byte i r → CountedIn byte (S .counted) → 1 ≤ i → i ≤ length T
         → (e : ℕ) × LengthOfPath (now t) (S .levels) (i - 1) e × (r ≡ counted.Times (countIn byte (take i T)) e)
     -- In 0 bytes: 0, with no block entered.
-    pub count-none : (κs : Lfts 1) (byte : ℕ) (r : Counted) → Count κs t byte 0 r → CallAmong byte (S .counted) → r ≡ counted.Times 0 0
+    pub count-none : (κs : Lfts 1) (byte : ℕ) (r : CountAnswer) → Count κs t byte 0 r → CountedIn byte (S .counted) → r ≡ counted.Times 0 0
 
   pub record CountRefuses : Type 0 where
     -- More bytes than the text has: 10.
-    pub count-past : (κs : Lfts 1) (byte i : ℕ) (r : Counted) → Count κs t byte i r → length T < i → r ≡ counted.Refused 10
+    pub count-past : (κs : Lfts 1) (byte i : ℕ) (r : CountAnswer) → Count κs t byte i r → length T < i → r ≡ counted.Refused 10
     -- A byte that is not counted: 11.
-    pub count-other : (κs : Lfts 1) (byte i : ℕ) (r : Counted) → Count κs t byte i r → i ≤ length T → (CallAmong byte (S .counted) → ⊥)
+    pub count-other : (κs : Lfts 1) (byte i : ℕ) (r : CountAnswer) → Count κs t byte i r → i ≤ length T → (CountedIn byte (S .counted) → ⊥)
         → r ≡ counted.Refused 11
 
   -- docs/FORMAT.md, "Find"
   pub record FindAnswers : Type 0 where
     -- A counted byte that occurs j times or more: the place of its j-th occurrence, with the length of that place's path.
-    pub find-of : (κs : Lfts 1) (byte j : ℕ) (r : Found) → CallFind κs t byte j r → CallAmong byte (S .counted) → 1 ≤ j → j ≤ countIn byte T
+    pub find-of : (κs : Lfts 1) (byte j : ℕ) (r : FindAnswer) → Find κs t byte j r → CountedIn byte (S .counted) → 1 ≤ j → j ≤ countIn byte T
         → (e : ℕ) × LengthOfPath (now t) (S .levels) (placeOf byte j T) e × (r ≡ found.At (record { 0 = placeOf byte j T }) e)
 
   pub record FindRefuses : Type 0 where
     -- A byte that is not counted: 11.
-    pub find-other : (κs : Lfts 1) (byte j : ℕ) (r : Found) → CallFind κs t byte j r → (CallAmong byte (S .counted) → ⊥) → r ≡ found.Refused 11
+    pub find-other : (κs : Lfts 1) (byte j : ℕ) (r : FindAnswer) → Find κs t byte j r → (CountedIn byte (S .counted) → ⊥) → r ≡ found.Refused 11
     -- No j-th occurrence: 12.
-    pub find-none : (κs : Lfts 1) (byte j : ℕ) (r : Found) → CallFind κs t byte j r → CallAmong byte (S .counted) → (1 ≤ j → j ≤ countIn byte T → ⊥)
+    pub find-none : (κs : Lfts 1) (byte j : ℕ) (r : FindAnswer) → Find κs t byte j r → CountedIn byte (S .counted) → (1 ≤ j → j ≤ countIn byte T → ⊥)
         → r ≡ found.Refused 12
 
   -- docs/FORMAT.md, "Row"
   pub record RowAnswers : Type 0 where
     -- A row of the text, which fits the buffer: its bytes at the buffer's start, the rest of the buffer unchanged.
-    pub row-of : (κs : Lfts 2) (q : ℕ) (buffer after : CallLent) (r : RowCopied) → CallRow κs t q buffer after r
-        → CallAmong 10 (S .counted) → 1 ≤ q → q ≤ length (rowsOf T) → length (rowOf T q) ≤ length (now buffer)
+    pub row-of : (κs : Lfts 2) (q : ℕ) (buffer after : Borrowed) (r : RowAnswer) → Row κs t q buffer after r
+        → CountedIn 10 (S .counted) → 1 ≤ q → q ≤ length (rowsOf T) → length (rowOf T q) ≤ length (now buffer)
         → (r ≡ rows.Bytes (length (rowOf T q))) × (now after ≡ rowOf T q ++ drop (length (rowOf T q)) (now buffer))
 
   pub record RowRefuses : Type 0 where
     -- Byte 10 is not counted: 11, and the buffer is unchanged.
-    pub row-other : (κs : Lfts 2) (q : ℕ) (buffer after : CallLent) (r : RowCopied) → CallRow κs t q buffer after r
-        → (CallAmong 10 (S .counted) → ⊥) → (r ≡ rows.Refused 11) × (now after ≡ now buffer)
+    pub row-other : (κs : Lfts 2) (q : ℕ) (buffer after : Borrowed) (r : RowAnswer) → Row κs t q buffer after r
+        → (CountedIn 10 (S .counted) → ⊥) → (r ≡ rows.Refused 11) × (now after ≡ now buffer)
     -- No row of this number: 12, and the buffer is unchanged.
-    pub row-none : (κs : Lfts 2) (q : ℕ) (buffer after : CallLent) (r : RowCopied) → CallRow κs t q buffer after r
-        → CallAmong 10 (S .counted) → (1 ≤ q → q ≤ length (rowsOf T) → ⊥) → (r ≡ rows.Refused 12) × (now after ≡ now buffer)
+    pub row-none : (κs : Lfts 2) (q : ℕ) (buffer after : Borrowed) (r : RowAnswer) → Row κs t q buffer after r
+        → CountedIn 10 (S .counted) → (1 ≤ q → q ≤ length (rowsOf T) → ⊥) → (r ≡ rows.Refused 12) × (now after ≡ now buffer)
     -- A buffer that is too short: 13, and it is unchanged.
-    pub row-short : (κs : Lfts 2) (q : ℕ) (buffer after : CallLent) (r : RowCopied) → CallRow κs t q buffer after r → CallAmong 10 (S .counted)
+    pub row-short : (κs : Lfts 2) (q : ℕ) (buffer after : Borrowed) (r : RowAnswer) → Row κs t q buffer after r → CountedIn 10 (S .counted)
         → 1 ≤ q → q ≤ length (rowsOf T) → length (now buffer) < length (rowOf T q) → (r ≡ rows.Refused 13) × (now after ≡ now buffer)
 
   -- docs/FORMAT.md, "Places"
   pub record PlacesAnswers : Type 0 where
     -- A pattern of 1 to 256 bytes, whose places fit the table: all its places, rising, each once, at the table's start, with their number.
-    pub places-of : (κs : Lfts 3) (P table after : CallLent) (r : PlacesWritten) → Places κs t P table after r
+    pub places-of : (κs : Lfts 3) (P table after : Borrowed) (r : PlacesAnswer) → Places κs t P table after r
         → 1 ≤ length (now P) → length (now P) ≤ maxPattern → (ps : List ℕ) → ps ≡ placesIn (now P) T → length ps ≤ length (now table)
         → AllPlaces (now P) T ps × (r ≡ places.Number (length ps)) × (now after ≡ ps ++ drop (length ps) (now table))
 
   pub record PlacesRefuses : Type 0 where
     -- A pattern of another length: 16, and the table is unchanged.
-    pub places-length : (κs : Lfts 3) (P table after : CallLent) (r : PlacesWritten) → Places κs t P table after r
+    pub places-length : (κs : Lfts 3) (P table after : Borrowed) (r : PlacesAnswer) → Places κs t P table after r
         → (1 ≤ length (now P) → length (now P) ≤ maxPattern → ⊥) → (r ≡ places.Refused 16) × (now after ≡ now table)
     -- A table that is too short: 17, and it is unchanged.
-    pub places-short : (κs : Lfts 3) (P table after : CallLent) (r : PlacesWritten) → Places κs t P table after r → 1 ≤ length (now P)
+    pub places-short : (κs : Lfts 3) (P table after : Borrowed) (r : PlacesAnswer) → Places κs t P table after r → 1 ≤ length (now P)
         → length (now P) ≤ maxPattern → length (now table) < length (placesIn (now P) T) → (r ≡ places.Refused 17) × (now after ≡ now table)
 
   -- docs/FORMAT.md, "Digest"
   pub record DigestAnswers : Type 0 where
     -- The text's SHA-256, in the first 32 bytes of the buffer.
-    pub digest-of : (κs : Lfts 2) (out after : CallLent) (r : ℕ) → Digest κs t out after r → 32 ≤ length (now out)
+    pub digest-of : (κs : Lfts 2) (out after : Borrowed) (r : ℕ) → Digest κs t out after r → 32 ≤ length (now out)
         → (r ≡ 0) × (now after ≡ sha256 T ++ drop 32 (now out))
 
   pub record DigestRefuses : Type 0 where
     -- A buffer that is too short: 13, and it is unchanged.
-    pub digest-short : (κs : Lfts 2) (out after : CallLent) (r : ℕ) → Digest κs t out after r → length (now out) < 32 → (r ≡ 13) × (now after ≡ now out)
+    pub digest-short : (κs : Lfts 2) (out after : Borrowed) (r : ℕ) → Digest κs t out after r → length (now out) < 32 → (r ≡ 13) × (now after ≡ now out)
 
   -- docs/FORMAT.md, "Keys"
   pub record MatchAnswers : Type 0 where
     -- The next row after the mark that matches the ranges; if there is none, the mark goes to the number of rows, or stays if it is above.
-    pub match-of : (κs : Lfts 2) (ranges : CallLent) (mark : ℕ) (r : NextRowAnswer) → NextMatch κs t ranges mark r
-        → rangesOk (now ranges) ≡ true → CallAmong 10 (S .counted)
+    pub match-of : (κs : Lfts 2) (ranges : Borrowed) (mark : ℕ) (r : NextRowAnswer) → NextMatch κs t ranges mark r
+        → rangesOk (now ranges) ≡ true → CountedIn 10 (S .counted)
         → r ≡ cond (eqb (nextMatch (now ranges) T mark) 0) (next.Nothing (shownFor (now ranges) T mark .mark)) (next.Row (nextMatch (now ranges) T mark))
 
   pub record MatchRefuses : Type 0 where
     -- Ranges that are not ranges of 1 to 10 cuts: 19.
-    pub match-ranges : (κs : Lfts 2) (ranges : CallLent) (mark : ℕ) (r : NextRowAnswer) → NextMatch κs t ranges mark r → rangesOk (now ranges) ≡ false
+    pub match-ranges : (κs : Lfts 2) (ranges : Borrowed) (mark : ℕ) (r : NextRowAnswer) → NextMatch κs t ranges mark r → rangesOk (now ranges) ≡ false
         → r ≡ next.Refused 19
     -- Byte 10 is not counted: 11.
-    pub match-other : (κs : Lfts 2) (ranges : CallLent) (mark : ℕ) (r : NextRowAnswer) → NextMatch κs t ranges mark r → rangesOk (now ranges) ≡ true
-        → (CallAmong 10 (S .counted) → ⊥) → r ≡ next.Refused 11
+    pub match-other : (κs : Lfts 2) (ranges : Borrowed) (mark : ℕ) (r : NextRowAnswer) → NextMatch κs t ranges mark r → rangesOk (now ranges) ≡ true
+        → (CountedIn 10 (S .counted) → ⊥) → r ≡ next.Refused 11
 
   -- docs/FORMAT.md, "Rows by their first bytes"
   pub record PrefixAnswers : Type 0 where
     -- The next row after the mark that starts with the prefix; if there is none, the mark goes to the number of rows, or stays if it is above.
-    pub prefix-of : (κs : Lfts 2) (prefix : CallLent) (mark : ℕ) (r : NextRowAnswer) → NextRowWithPrefix κs t prefix mark r
-        → patternOk (now prefix) ≡ true → CallAmong 10 (S .counted)
+    pub prefix-of : (κs : Lfts 2) (prefix : Borrowed) (mark : ℕ) (r : NextRowAnswer) → NextRowWithPrefix κs t prefix mark r
+        → patternOk (now prefix) ≡ true → CountedIn 10 (S .counted)
         → r ≡ cond (eqb (nextWithPrefix (now prefix) (rowsOf T) mark) 0)
         (next.Nothing (outcomeAt (nextWithPrefix (now prefix) (rowsOf T) mark) (length (rowsOf T)) mark .mark))
         (next.Row (nextWithPrefix (now prefix) (rowsOf T) mark))
 
   pub record PrefixRefuses : Type 0 where
     -- A prefix of no bytes or of more than 256: 16.
-    pub prefix-length : (κs : Lfts 2) (prefix : CallLent) (mark : ℕ) (r : NextRowAnswer) → NextRowWithPrefix κs t prefix mark r
+    pub prefix-length : (κs : Lfts 2) (prefix : Borrowed) (mark : ℕ) (r : NextRowAnswer) → NextRowWithPrefix κs t prefix mark r
         → patternOk (now prefix) ≡ false → r ≡ next.Refused 16
     -- Byte 10 is not counted: 11.
-    pub prefix-other : (κs : Lfts 2) (prefix : CallLent) (mark : ℕ) (r : NextRowAnswer) → NextRowWithPrefix κs t prefix mark r → patternOk (now prefix) ≡ true
-        → (CallAmong 10 (S .counted) → ⊥) → r ≡ next.Refused 11
+    pub prefix-other : (κs : Lfts 2) (prefix : Borrowed) (mark : ℕ) (r : NextRowAnswer) → NextRowWithPrefix κs t prefix mark r → patternOk (now prefix) ≡ true
+        → (CountedIn 10 (S .counted) → ⊥) → r ≡ next.Refused 11
 
   -- docs/FORMAT.md, "Columns before rows"
   pub record ColumnAnswers : Type 0 where
     -- T is a text by columns: row a of that text, all w bytes, at the buffer's start, the rest of the buffer unchanged.
-    pub column-of : (κs : Lfts 2) (w a : ℕ) (buffer after : CallLent) (r : Copied) → ByColumns κs t w a buffer after r
+    pub column-of : (κs : Lfts 2) (w a : ℕ) (buffer after : Borrowed) (r : SpanAnswer) → ByColumns κs t w a buffer after r
         → widthOk w (length T) ≡ true → a < length T / w → w ≤ length (now buffer)
         → (r ≡ copied.Bytes w 0) × (now after ≡ stretch (uncolumns w T) (a * w) w ++ drop w (now buffer))
 
   pub record ColumnRefuses : Type 0 where
     -- Width 0, or the length of the text is no multiple of the width: 20, and the buffer is unchanged.
-    pub column-width : (κs : Lfts 2) (w a : ℕ) (buffer after : CallLent) (r : Copied) → ByColumns κs t w a buffer after r
+    pub column-width : (κs : Lfts 2) (w a : ℕ) (buffer after : Borrowed) (r : SpanAnswer) → ByColumns κs t w a buffer after r
         → widthOk w (length T) ≡ false → (r ≡ copied.Refused 20) × (now after ≡ now buffer)
     -- A row past the last: 10, and the buffer is unchanged.
-    pub column-past : (κs : Lfts 2) (w a : ℕ) (buffer after : CallLent) (r : Copied) → ByColumns κs t w a buffer after r
+    pub column-past : (κs : Lfts 2) (w a : ℕ) (buffer after : Borrowed) (r : SpanAnswer) → ByColumns κs t w a buffer after r
         → widthOk w (length T) ≡ true → length T / w ≤ a → (r ≡ copied.Refused 10) × (now after ≡ now buffer)
     -- A buffer that is too short: 13, and it is unchanged.
-    pub column-short : (κs : Lfts 2) (w a : ℕ) (buffer after : CallLent) (r : Copied) → ByColumns κs t w a buffer after r
+    pub column-short : (κs : Lfts 2) (w a : ℕ) (buffer after : Borrowed) (r : SpanAnswer) → ByColumns κs t w a buffer after r
         → widthOk w (length T) ≡ true → a < length T / w → length (now buffer) < w → (r ≡ copied.Refused 13) × (now after ≡ now buffer)
 
   -- All questions together: T gives the answer to each.
@@ -308,16 +308,16 @@ NoPreconditions = OfEveryCall NoPrecondition
 
 -- Demand 3, `check-accepts`: check accepts a tree exactly if it represents a text.
 abbrev pub ExactCheck : Type 0
-ExactCheck = (κs : Lfts 1) (t : CallLent) (r : ℕ) → Check κs t r → (r ≡ 0) ↔ ((T : List ℕ) × Represents (now t) T)
+ExactCheck = (κs : Lfts 1) (t : Borrowed) (r : ℕ) → Check κs t r → (r ≡ 0) ↔ ((T : List ℕ) × Represents (now t) T)
 
 -- Demand 3, `any-tree`: a tree that check accepted, whoever made it, represents exactly one text, which determines the answer to every question.
 abbrev pub AnyTree : Type 0
-AnyTree = (κs : Lfts 1) (t : CallLent) → Check κs t 0 → (T : List ℕ) × OnlyText t (at.settings (now t)) T
+AnyTree = (κs : Lfts 1) (t : Borrowed) → Check κs t 0 → (T : List ℕ) × OnlyText t (at.settings (now t)) T
 
 -- Demand 3, `build-accepts-exact-buffer`: build refuses no text, settings and buffer that pass questions 1 to 4.
 abbrev pub CompleteBuilder : Type 0
 CompleteBuilder =
-    (κs : Lfts 3) (text : CallLent) (leaf arity levels : ℕ) (counted out after : CallLent) (r : Built) → Build κs text leaf arity levels counted out after r
+    (κs : Lfts 3) (text : Borrowed) (leaf arity levels : ℕ) (counted out after : Borrowed) (r : BuildAnswer) → Build κs text leaf arity levels counted out after r
     → lengthOk (length (now text)) ≡ true → sizesOk (given leaf arity levels (now counted)) ≡ true → countedOk (now counted) ≡ true
     → length (treeOf (given leaf arity levels (now counted)) (now text)) ≤ length (now out)
     → r ≡ built.Size (length (treeOf (given leaf arity levels (now counted)) (now text)))
@@ -326,16 +326,16 @@ CompleteBuilder =
 -- to every question.
 abbrev pub BuiltTree : Type 0
 BuiltTree =
-    (κs : Lfts 3) (text : CallLent) (leaf arity levels : ℕ) (counted out after : CallLent) (size : ℕ)
-    → Build κs text leaf arity levels counted out after (built.Size size) → (t : CallLent) → now t ≡ take size (now after)
+    (κs : Lfts 3) (text : Borrowed) (leaf arity levels : ℕ) (counted out after : Borrowed) (size : ℕ)
+    → Build κs text leaf arity levels counted out after (built.Size size) → (t : Borrowed) → now t ≡ take size (now after)
     → (now t ≡ treeOf (given leaf arity levels (now counted)) (now text)) × ((κ : Lfts 1) (r : ℕ) → Check κ t r → r ≡ 0)
     × OnlyText t (given leaf arity levels (now counted)) (now text)
 
 -- Demands 2 and 3, `scanned-tree`: the same for build_scanned, and the number of windows that it returns is that of the text.
 abbrev pub ScannedTree : Type 0
 ScannedTree =
-    (κs : Lfts 4) (text : CallLent) (leaf arity levels : ℕ) (counted words table out after : CallLent) (size windows : ℕ)
-    → BuildScanned κs text leaf arity levels counted words table out after (scanned.Size size windows) → (t : CallLent) → now t ≡ take size (now after)
+    (κs : Lfts 4) (text : Borrowed) (leaf arity levels : ℕ) (counted words table out after : Borrowed) (size windows : ℕ)
+    → BuildScanned κs text leaf arity levels counted words table out after (scanned.Size size windows) → (t : Borrowed) → now t ≡ take size (now after)
     → (windows ≡ windowsOf (given leaf arity levels (now counted)) (now text))
     × (now t ≡ treeOf (given leaf arity levels (now counted)) (now text)) × ((κ : Lfts 1) (r : ℕ) → Check κ t r → r ≡ 0)
     × OnlyText t (given leaf arity levels (now counted)) (now text)
