@@ -44,7 +44,8 @@ use Rattle.abi.proofs.Theorems.{calls as exported}
 use Rattle.list_lines.proofs.Theorems.{calls as listing}
 use Rattle.licence.proofs.Theorems.{calls as licence}
 use Rattle.theorems.specs.PublicFunctions.{functions, Every}
-use Rattle.theorems.specs.CallContracts.{Borrowed, TextPlace, ByteAnswer, SpanAnswer, CountAnswer, FindAnswer, RowAnswer, PlacesAnswer, NextRowAnswer, BuildAnswer}
+use Rattle.theorems.specs.CallContracts.{Borrowed, TextPlace, ByteAnswer, SpanAnswer, CountAnswer}
+use Rattle.theorems.specs.CallContracts.{FindAnswer, RowAnswer, PlacesAnswer, NextRowAnswer, BuildAnswer}
 use Rattle.theorems.specs.CallContracts.{Check, Build, BuildScanned, Byte, Run, Span, Count, Find, Row, Places, Digest, NextMatch}
 use Rattle.theorems.specs.CallContracts.{NextRowWithPrefix, ByColumns}
 
@@ -317,7 +318,8 @@ AnyTree = (κs : Lfts 1) (t : Borrowed) → Check κs t 0 → (T : List ℕ) × 
 -- Demand 3, `build-accepts-exact-buffer`: build refuses no text, settings and buffer that pass questions 1 to 4.
 abbrev pub CompleteBuilder : Type 0
 CompleteBuilder =
-    (κs : Lfts 3) (text : Borrowed) (leaf arity levels : ℕ) (counted out after : Borrowed) (r : BuildAnswer) → Build κs text leaf arity levels counted out after r
+    (κs : Lfts 3) (text : Borrowed) (leaf arity levels : ℕ) (counted out after : Borrowed) (r : BuildAnswer)
+    → Build κs text leaf arity levels counted out after r
     → lengthOk (length (now text)) ≡ true → sizesOk (given leaf arity levels (now counted)) ≡ true → countedOk (now counted) ≡ true
     → length (treeOf (given leaf arity levels (now counted)) (now text)) ≤ length (now out)
     → r ≡ built.Size (length (treeOf (given leaf arity levels (now counted)) (now text)))
