@@ -76,11 +76,26 @@ def unwrapped(printed):
     return printed
 
 
+def ending(printed):
+    """The relation outside all brackets in the end of a proposition that was cut in its middle, if it is the only operator there."""
+    depth, found = 0, []
+    for token in reversed(re.findall(r"[(){}\[\]]|[^\s(){}\[\]]+", printed)):
+        depth += (token in ")}]") - (token in "({[")
+        if depth < 0:
+            break
+        if depth == 0 and token in "≡<≤→×⊎":
+            found.append(token)
+    return found[0] if len(found) == 1 and found[0] in RELATIONS else ""
+
+
 def relation(printed):
     """The relation that a printed proposition is about: of several propositions, those of all. A long text is cut in its middle, and read up to there; that
-    it ends in a negation is seen all the same."""
+    it ends in a negation, or in one side of a relation, is seen all the same."""
     if "…" in printed:
-        return relation(printed.split("…")[0]) + (" → ⊥" if printed.endswith("→ Prim.⊥") else "")
+        first, *_, last = printed.split("…")
+        if printed.endswith("→ Prim.⊥"):
+            return relation(first) + " → ⊥"
+        return ending(last) or relation(first)
     printed = unwrapped(printed.strip())
     for operator in "→×⊎":
         if len(parts(printed, operator)) > 1:
@@ -101,13 +116,14 @@ def known(name):
 def relations(error, contract):
     """The relation that was expected and the one that was found, if an error names two types; `contract` gives that of a function's `ensures`."""
     types = re.search(MISMATCH, error, re.S)
-    names = []
-    for side, printed in zip(("expected", "found"), types.groups() if types else ()):
-        name = relation(printed)
-        if name in ("Post", "Learnt"):
+    printed = types.groups() if types else ()
+    names = [relation(one) for one in printed]
+    for at, side in enumerate(("expected", "found")):
+        if printed and names[at] in ("Post", "Learnt"):
             begins = re.search(rf"the {side} one begins `([^`]*)", error)
-            name = relation(begins[1]) if begins else contract(printed.split()[0])
-        names.append(name)
+            computed, stated, other = relation(begins[1]) if begins else "", contract(printed[at].split()[0]), names[1 - at]
+            # the relation of one of several `ensures` may be an abbreviation of the computed one
+            names[at] = other if other[:1].isupper() and other in stated.split(" × ") else computed or stated
     return names
 
 
@@ -172,9 +188,13 @@ FACT_SAMPLES = [
     "`found-from`: as printed, the two types differ only where one has `textOf t` (expected), right after `q ≡ first (rowsOf (`\n"
     "  and the other has `drop p (textOf t)` (found)",
     "`span-at-spec`: expected type `Rattle.a.proofs.span_at.Reads.Post (c .κs) (..)`\n  but this has type `Rattle.a.specs.SpanAnswer (..) (Refused 13)`",
+    "`span-at-spec`: expected type `Rattle.a.proofs.span_at.Reads.Post (c .κs) (..)`\n  but this has type `Rattle.a.specs.SpanAnswer (..) (Refused 13)`\n"
+    "  computed as far as it goes, the expected one begins `Rattle.b.specs.Answers.Allowed {A = ..} …`",
     "`stands-spec`: expected type `mathlib.Core.Path._≡_ (c .same-at .result) (sameList ..)`\n"
     "  but this has type `Rattle.b.proofs.same_at.Reads.Learnt (c .lifetimes) (..)`\n  computed as far as it goes, the found one begins `Path Bool (c .same-at .result) …`",
     "`fill-spec`: expected type `Prim.Native.Nat._<_ (length (?30 c)) (c .counted)`\n  but this has type `Prim.Native.Nat._≤_ (get 13 (..)) (..)`",
+    "`bounds-spec`: expected type `eqb (c .args .q - 1) (c .total .result) ≡ ?1 c`\n"
+    "  but this has type `eqb (get 9 (T .locals) …[90 bytes]… (c .before))) ≡ mathlib.Core.Bool.true`",
     "`target-spec`: expected type `c .kind ≡ 0 → Prim.⊥`, but this has type `mathlib.Core.Path._≡_ (get 7 …[90 bytes]…) 1 → Prim.⊥`",
 ]
 # .. and those that a right program would get too, or that show nothing
@@ -198,12 +218,15 @@ FORM_SAMPLES = [
     "`total-spec`: expected type `Rattle.a.proofs.total.Reads.Post (c .κs) (..)`\n  but this has type `mathlib.Core.Path._≡_ {A = ℕ} 0 (total ..)`\n"
     "  computed as far as it goes, the expected one begins `Path ℕ 0 (total (c .args .t .now)) × Path …`",
     "`span-at-spec`: expected type `Rattle.a.proofs.span_at.Reads.Post (c .κs) (..)`\n  but this has type `mathlib.Core.Path._≡_ (..) (..)`",
+    "`span-at-spec`: expected type `Rattle.a.proofs.span_at.Reads.Post (c .κs) (..)`\n  but this has type `Rattle.a.specs.CopyAnswer (..) (Refused 13)`\n"
+    "  computed as far as it goes, the expected one begins `Rattle.b.specs.Answers.Allowed {A = ..} …`",
     "`copy-spec`: computed as far as they go, the two types differ only where one has `c .before .loop .i` (expected) and the other has `c .before .before .loop .i` (found)",
     "`quotient-spec`: computed as far as they go, the two types differ only where one has `64 ≡ ?11 c` (expected) and the other has `64 ≤ c .args .b` (found)",
     "`starts-spec`: computed as far as they go, the two types differ only where one has `x ≡ 0 → Prim.⊥` (expected) and the other has `suc y ≤ x` (found)",
     "`rises-spec`: computed as far as they go, the two types differ only where one has `x` (expected) and the other has `suc x` (found)\n"
     "  expected type `x ≤ getD s 1 0`\n  but this has type `Prim.Native.Nat._<_ (get 6 (..)) (..)`",
     "`copy-spec`: expected type `c .before .x …[90 bytes]…`, but this has type `c .before .y …[90 bytes]…`",
+    "`copy-spec`: expected type `c .x ≡ 0`, but this has type `f (get 7 …[90 bytes]…)) (c .x ≡ 1)`",
     "`copy-spec`: expected type `mathlib.Core.Path._≡_ (c .x) 0`, but this has type `mathlib.Core.Path._≡_ (get 7 …[90 bytes]…) 1 → Prim.⊥`",
 ]
 
@@ -211,8 +234,8 @@ FORM_SAMPLES = [
 def self_test():
     """Whether the samples are told apart: those of a fact accepted, those of form not."""
     contract = {"span_at": "SpanAnswer"}
-    wrong = [s for s in FACT_SAMPLES if not false_fact(s, lambda name: contract[name.split(".")[-3]])]
-    wrong += [s for s in FORM_SAMPLES if false_fact(s, lambda name: contract[name.split(".")[-3]])]
+    wrong = [s for s in FACT_SAMPLES if not false_fact(s, lambda name: contract.get(name.split(".")[-3], ""))]
+    wrong += [s for s in FORM_SAMPLES if false_fact(s, lambda name: contract.get(name.split(".")[-3], ""))]
     wrong += [code for code in ("return f(x);", "if a { b }") if shape(code) == shape("return x;")]
     if wrong:
         raise SystemExit("\n".join(f"a sample is judged wrong: {s}" for s in wrong))
