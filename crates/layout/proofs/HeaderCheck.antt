@@ -33,15 +33,15 @@ three-last true true c p = rw p
 three-last true false c p = refl
 three-last false b c p = refl
 
-split : (a b c d e f g h i : Bool) → (a && b && c && d && e && f && g && h && i) ≡ ((a && b && c) && (d && e && f && (g && h) && i))
-split true true true true true true true h i = refl
-split true true true true true true false h i = refl
-split true true true true true false g h i = refl
-split true true true true false f g h i = refl
-split true true true false e f g h i = refl
-split true true false d e f g h i = refl
-split true false c d e f g h i = refl
-split false b c d e f g h i = refl
+start-and-rest : (a b c d e f g h i : Bool) → (a && b && c && d && e && f && g && h && i) ≡ ((a && b && c) && (d && e && f && (g && h) && i))
+start-and-rest true true true true true true true h i = refl
+start-and-rest true true true true true true false h i = refl
+start-and-rest true true true true true false g h i = refl
+start-and-rest true true true true false f g h i = refl
+start-and-rest true true true false e f g h i = refl
+start-and-rest true true false d e f g h i = refl
+start-and-rest true false c d e f g h i = refl
+start-and-rest false b c d e f g h i = refl
 
 module _ (t : List ℕ) where
   abbrev pub counted : Bool
@@ -50,7 +50,7 @@ module _ (t : List ℕ) where
   pub header-both : at.headerOk t ≡ (startRight t && restRight t)
   unfolding at.headerOk startRight restRight tablesMeet spareCounted spareLevels
   header-both =
-      split (at.lengthOk (at.textLength t)) (at.sizesOk (at.settings t)) counted (spareCounted t (at.countedCount t)) (spareLevels t (at.settings t .levels))
+      start-and-rest (at.lengthOk (at.textLength t)) (at.sizesOk (at.settings t)) counted (spareCounted t (at.countedCount t)) (spareLevels t (at.settings t .levels))
       (eqb (at.levelCount t 0) (at.pieces (at.textLength t) (at.fullLength t 0))) (allBelow (at.settings t .levels) (follows t))
       (eqb (at.leafOffset t) (headerLength + sumBelow (at.settings t .levels) (at.levelCount t) * at.recordSize t))
       (eqb (length t) (at.leafOffset t + at.leafCount t))

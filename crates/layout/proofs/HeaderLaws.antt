@@ -10,7 +10,8 @@ use lib.Dec.{eqb}
 use borrow.Author.Tests.{eq-eqb, ne-eqb}
 use Rattle.text.specs.Text.{allBelow, sumBelow}
 use Rattle.text.specs.ListLaws.{and-both, sumBelow-suc}
-use Rattle.format.specs.Layout.{maxText, wordAt, layoutAt, textLengthAt, leafAt, countedCountAt, pairsAt, countAt, offsetAt, leafOffsetAt, leafCountAt, headerLength}
+use Rattle.format.specs.Layout.{maxText, wordAt, layoutAt, textLengthAt, leafAt, countedCountAt, pairsAt}
+use Rattle.format.specs.Layout.{countAt, offsetAt, leafOffsetAt, leafCountAt, headerLength}
 use Rattle.format.specs.Layout as at
 use Rattle.format.specs.SizeLaws.{maxRecord, record-high}
 use Rattle.layout.specs.declared.settings.Settings.{Settings}

@@ -30,25 +30,25 @@ refused-cases : (b : Bool) (q : ℕ) (r : Settings) → settings.Refused q ≡ c
 refused-cases true q r e = absurd (let z : _≡_ {A = ℕ} 0 1 = cc in omega arith)
 refused-cases false q r e = refl
 
-settings-told : (t : List ℕ) (s : Settings) → settings.Fine s ≡ settingsSay t → (startRight t ≡ true) × (s ≡ settingsOf t)
+settings-within : (t : List ℕ) (s : Settings) → settings.Fine s ≡ settingsSay t → (startRight t ≡ true) × (s ≡ settingsOf t)
 unfolding settingsSay
-settings-told t s e = fine-cases (startRight t) s (settingsOf t) e
+settings-within t s e = fine-cases (startRight t) s (settingsOf t) e
 
 settings-refused : (t : List ℕ) (q : ℕ) → settings.Refused q ≡ settingsSay t → headerOk t ≡ false
 unfolding settingsSay
 settings-refused t q e = header-both t ∙ rw (refused-cases (startRight t) q (settingsOf t) e)
 
 -- The settings that were checked are within their bounds.
-three : (a b c : Bool) → (a && b && c) ≡ true → (a ≡ true) × (b ≡ true) × (c ≡ true)
-three true true true e = (refl, refl, refl)
-three true true false e = absurd (let z : _≡_ {A = ℕ} 0 1 = cc in omega arith)
-three true false c e = absurd (let z : _≡_ {A = ℕ} 0 1 = cc in omega arith)
-three false b c e = absurd (let z : _≡_ {A = ℕ} 0 1 = cc in omega arith)
+all-three : (a b c : Bool) → (a && b && c) ≡ true → (a ≡ true) × (b ≡ true) × (c ≡ true)
+all-three true true true e = (refl, refl, refl)
+all-three true true false e = absurd (let z : _≡_ {A = ℕ} 0 1 = cc in omega arith)
+all-three true false c e = absurd (let z : _≡_ {A = ℕ} 0 1 = cc in omega arith)
+all-three false b c e = absurd (let z : _≡_ {A = ℕ} 0 1 = cc in omega arith)
 
-told-settings : (t : List ℕ) → headerLength ≤ length t → startRight t ≡ true → HasSettings t (settingsOf t)
+bounds-hold : (t : List ℕ) → headerLength ≤ length t → startRight t ≡ true → HasSettings t (settingsOf t)
 unfolding startRight lengthOk textLength at.settings countedCount
-told-settings t long e =
-    let z = three (leb (textLength t) maxText) (sizesOk (at.settings t)) (counted t) e in
+bounds-hold t long e =
+    let z = all-three (leb (textLength t) maxText) (sizesOk (at.settings t)) (counted t) e in
     record {
       long = long;
       leaf-is = refl;
@@ -81,11 +81,11 @@ module _ (t : List ℕ) where
       module _ (s : Settings) (e : x ≡ settings.Fine s) where
         pub asked-fields : HasSettings t s
         asked-fields =
-            let z = settings-told t s (sym e ∙ says) in
-            rw (z .1) (told-settings t long (z .0))
+            let z = settings-within t s (sym e ∙ says) in
+            rw (z .1) (bounds-hold t long (z .0))
 
         whole : (r : Bool) → r ≡ restRight t → headerOk t ≡ r
-        whole r is = header-both t ∙ rw (settings-told t s (sym e ∙ says) .0, is)
+        whole r is = header-both t ∙ rw (settings-within t s (sym e ∙ says) .0, is)
 
         pub asked-rest : (r : Bool) → r ≡ restRight t → r ≡ false → Refused 7 ≡ headerAnswer t
         unfolding headerAnswer headerResult holdsHeader

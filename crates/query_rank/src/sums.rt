@@ -124,7 +124,8 @@ fn kept_step(
     spot: BlockPosition,
     sum: Sum,
 ) -> u64
-    requires { ⌜ (KeptAt (now (now t)) size (on .level) (on .b) (spot .block .0) (spot .place .0) (sum .entered)) × (Carried (now (now t)) (wanted .number) sum) ⌝ }
+    requires { ⌜ (KeptAt (now (now t)) size (on .level) (on .b) (spot .block .0) (spot .place .0) (sum .entered))
+        × (Carried (now (now t)) (wanted .number) sum) ⌝ }
     ensures { λ r. ⌜ answerIn r ≡ settled (summed (now (now (t .entry))) (wanted .byte) (wanted .number) sum
         (pathFrom (now (now (t .entry))) (at.settings (now (now (t .entry))) .levels - 1 - on .level) (on .level) (spot .block .0) (spot .place .0))) ⌝ }
 {
@@ -162,7 +163,8 @@ fn pointing_step(
     spot: BlockPosition,
     sum: Sum,
 ) -> u64
-    requires { ⌜ (MayPoint (now (now t)) size (on .level) (on .b) (spot .block .0) (spot .place .0) (sum .entered)) × (Carried (now (now t)) (wanted .number) sum) ⌝ }
+    requires { ⌜ (MayPoint (now (now t)) size (on .level) (on .b) (spot .block .0) (spot .place .0) (sum .entered))
+        × (Carried (now (now t)) (wanted .number) sum) ⌝ }
     ensures { λ r. ⌜ answerIn r ≡ settled (summed (now (now (t .entry))) (wanted .byte) (wanted .number) sum
         (pathFrom (now (now (t .entry))) (at.settings (now (now (t .entry))) .levels - 1 - on .level) (on .level) (spot .block .0) (spot .place .0))) ⌝ }
 {

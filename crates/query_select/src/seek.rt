@@ -362,7 +362,8 @@ fn to_kept(
 
 // From a kept block to the child that holds its j-th byte.
 fn kept_step(t: &&[u8], field: CountField, on: LevelAt, block: BlockNumber, j: u64, way: u64) -> u64
-    requires { ⌜ (KeptIn (now (now t)) (field .size) (on .level) (on .b) (block .0)) × (Seeking (now (now t)) field (on .level) (on .b) j way (2 * on .level + 1)) ⌝ }
+    requires { ⌜ (KeptIn (now (now t)) (field .size) (on .level) (on .b) (block .0))
+        × (Seeking (now (now t)) field (on .level) (on .b) j way (2 * on .level + 1)) ⌝ }
     ensures { λ r. ⌜ FoundIn (now (now (t .entry))) (field .number) (on .level) (block .0) j way r ⌝ }
 {
     let tree = *t;
@@ -393,7 +394,8 @@ fn pointing_step(
     j: u64,
     way: u64,
 ) -> u64
-    requires { ⌜ (InTable (now (now t)) (field .size) (on .level) (on .b) (block .0)) × (Seeking (now (now t)) field (on .level) (on .b) j way (2 * on .level)) ⌝ }
+    requires { ⌜ (InTable (now (now t)) (field .size) (on .level) (on .b) (block .0))
+        × (Seeking (now (now t)) field (on .level) (on .b) j way (2 * on .level)) ⌝ }
     ensures { λ r. ⌜ FoundIn (now (now (t .entry))) (field .number) (on .level) (block .0) j way r ⌝ }
 {
     let tree = *t;
@@ -430,7 +432,8 @@ pub fn text_place(n: u32, word: u64) -> FindAnswer
 
 // The word for the j-th occurrence in the text, from its block of level 0 on.
 pub fn word_in(t: &&[u8], field: CountField, b: u32, block: BlockNumber, j: u32) -> u64
-    requires { ⌜ (OnLevel (now (now t)) (field .size) 0 b) × (field .number < at.countedCount (now (now t))) × (1 ≤ j) × (j ≤ total (now (now t)) (field .number))
+    requires { ⌜ (OnLevel (now (now t)) (field .size) 0 b) × (field .number < at.countedCount (now (now t))) × (1 ≤ j)
+        × (j ≤ total (now (now t)) (field .number))
         × (Stopped (now (now t)) (field .number) j (block .0)) ⌝ }
     ensures { λ r. ⌜ SoughtIn (now (now (t .entry))) (byteOf (now (now (t .entry))) (field .number)) (field .number) j (block .0)
         (placedIn (at.textLength (now (now (t .entry)))) r) ⌝ }

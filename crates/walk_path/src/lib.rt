@@ -117,7 +117,8 @@ fn kept_step(
     place: BlockPlace,
     trail: WalkState,
 ) -> u64
-    requires { ⌜ (KeptAt (now (now t)) size (on .level) (on .b) (block .0) (place .0) (trail .entered)) × (on .level + 1 < at.settings (now (now t)) .levels) ⌝ }
+    requires { ⌜ (KeptAt (now (now t)) size (on .level) (on .b) (block .0) (place .0) (trail .entered))
+        × (on .level + 1 < at.settings (now (now t)) .levels) ⌝ }
     ensures { λ r. ⌜ walkedIn r ≡ walked (now (now (t .entry))) trail
         (aboveFrom (now (now (t .entry))) (at.settings (now (now (t .entry))) .levels - 1 - on .level) (on .level) (block .0) (place .0)) ⌝ }
 {
@@ -150,7 +151,8 @@ fn pointing_step(
     place: BlockPlace,
     trail: WalkState,
 ) -> u64
-    requires { ⌜ (MayPoint (now (now t)) size (on .level) (on .b) (block .0) (place .0) (trail .entered)) × (on .level + 1 < at.settings (now (now t)) .levels) ⌝ }
+    requires { ⌜ (MayPoint (now (now t)) size (on .level) (on .b) (block .0) (place .0) (trail .entered))
+        × (on .level + 1 < at.settings (now (now t)) .levels) ⌝ }
     ensures { λ r. ⌜ walkedIn r ≡ walked (now (now (t .entry))) trail
         (aboveFrom (now (now (t .entry))) (at.settings (now (now (t .entry))) .levels - 1 - on .level) (on .level) (block .0) (place .0)) ⌝ }
 {
