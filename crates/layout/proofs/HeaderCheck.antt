@@ -18,73 +18,64 @@ use Rattle.layout.specs.declared.settings.Settings.{Settings}
 use Rattle.layout.specs.declared.settings.SettingsAnswer.{SettingsAnswer}
 use Rattle.layout.specs.declared.settings.SettingsAnswer.the-variants.{Fine, Refused}
 use Rattle.layout.specs.CheckedSettings as given
-use Rattle.layout.specs.Header.{settingsOf, settingsSay, follows, tablesMeet, restRight, spareCounted, spareLevels, HasSettings}
+use Rattle.layout.specs.Header.{settingsOf, settingsSay, startRight, follows, tablesMeet, restRight, spareCounted, spareLevels, HasSettings}
 
--- Question 7 as a chain of tests.
-abbrev chain : (a b c d e f g h i : Bool) → Bool
-chain a b c d e f g h i = a && b && c && d && e && f && g && h && i
+-- The first conditions of question 7, and the rest of them.
+three-first : (a b c : Bool) → a ≡ false → false ≡ (a && b && c)
+three-first a b c p = rw p
 
-chain-first : (a b c d e f g h i : Bool) → a ≡ false → false ≡ chain a b c d e f g h i
-chain-first a b c d e f g h i p = rw p
+three-second : (a b c : Bool) → b ≡ false → false ≡ (a && b && c)
+three-second true b c p = rw p
+three-second false b c p = refl
 
-chain-sizes : (a b c d e f g h i : Bool) → b ≡ false → false ≡ chain a b c d e f g h i
-chain-sizes true b c d e f g h i p = rw p
-chain-sizes false b c d e f g h i p = refl
+three-last : (a b c : Bool) → c ≡ false → false ≡ (a && b && c)
+three-last true true c p = rw p
+three-last true false c p = refl
+three-last false b c p = refl
 
-chain-counted : (a b c d e f g h i : Bool) → c ≡ false → false ≡ chain a b c d e f g h i
-chain-counted true true c d e f g h i p = rw p
-chain-counted true false c d e f g h i p = refl
-chain-counted false b c d e f g h i p = refl
-
-chain-rest : (a b c d e f g h i r : Bool) → a ≡ true → b ≡ true → c ≡ true → r ≡ (d && e && f && (g && h) && i) → r ≡ chain a b c d e f g h i
-chain-rest a b c true true true g h i r pa pb pc q = rw (pa, pb, pc) q
-chain-rest a b c true true false g h i r pa pb pc q = rw (pa, pb, pc) q
-chain-rest a b c true false f g h i r pa pb pc q = rw (pa, pb, pc) q
-chain-rest a b c false e f g h i r pa pb pc q = rw (pa, pb, pc) q
+start-and-rest : (a b c d e f g h i : Bool) → (a && b && c && d && e && f && g && h && i) ≡ ((a && b && c) && (d && e && f && (g && h) && i))
+start-and-rest true true true true true true true h i = refl
+start-and-rest true true true true true true false h i = refl
+start-and-rest true true true true true false g h i = refl
+start-and-rest true true true true false f g h i = refl
+start-and-rest true true true false e f g h i = refl
+start-and-rest true true false d e f g h i = refl
+start-and-rest true false c d e f g h i = refl
+start-and-rest false b c d e f g h i = refl
 
 module _ (t : List ℕ) where
-  abbrev counted : Bool
+  abbrev pub counted : Bool
   counted = leb (at.countedCount t) maxCounted && at.countedOk (at.settings t .counted)
 
-  abbrev level0 : Bool
-  level0 = eqb (at.levelCount t 0) (at.pieces (at.textLength t) (at.fullLength t 0))
+  pub header-both : at.headerOk t ≡ (startRight t && restRight t)
+  unfolding at.headerOk startRight restRight tablesMeet spareCounted spareLevels
+  header-both =
+      start-and-rest (at.lengthOk (at.textLength t)) (at.sizesOk (at.settings t)) counted (spareCounted t (at.countedCount t)) (spareLevels t (at.settings t .levels))
+      (eqb (at.levelCount t 0) (at.pieces (at.textLength t) (at.fullLength t 0))) (allBelow (at.settings t .levels) (follows t))
+      (eqb (at.leafOffset t) (headerLength + sumBelow (at.settings t .levels) (at.levelCount t) * at.recordSize t))
+      (eqb (length t) (at.leafOffset t + at.leafCount t))
 
-  abbrev leaves : Bool
-  leaves = eqb (at.leafOffset t) (headerLength + sumBelow (at.settings t .levels) (at.levelCount t) * at.recordSize t)
+  seven-length : at.lengthOk (at.textLength t) ≡ false → false ≡ startRight t
+  unfolding startRight
+  seven-length p = three-first (at.lengthOk (at.textLength t)) (at.sizesOk (at.settings t)) counted p
 
-  -- A law of the chain, at the tests of question 7.
-  abbrev at-seven : ((a b c d e f g h i : Bool) → Type 0) → Type 0
-  at-seven P =
-      P (at.lengthOk (at.textLength t))
-      (at.sizesOk (at.settings t)) counted (spareCounted t (at.countedCount t)) (spareLevels t (at.settings t .levels))
-      level0 (allBelow (at.settings t .levels) (follows t)) leaves (eqb (length t) (at.leafOffset t + at.leafCount t))
+  seven-sizes : at.sizesOk (at.settings t) ≡ false → false ≡ startRight t
+  unfolding startRight
+  seven-sizes p = three-second (at.lengthOk (at.textLength t)) (at.sizesOk (at.settings t)) counted p
 
-  apply : (P : (a b c d e f g h i : Bool) → Type 0) → ((a b c d e f g h i : Bool) → P a b c d e f g h i) → at-seven P
-  apply P law = law _ _ _ _ _ _ _ _ _
+  seven-counted : counted ≡ false → false ≡ startRight t
+  unfolding startRight
+  seven-counted p = three-last (at.lengthOk (at.textLength t)) (at.sizesOk (at.settings t)) counted p
 
-  header-is : at-seven (λ a b c d e f g h i. at.headerOk t ≡ chain a b c d e f g h i)
-  unfolding at.headerOk spareCounted spareLevels
-  header-is = refl
+  seven-start : at.lengthOk (at.textLength t) ≡ true → at.sizesOk (at.settings t) ≡ true → counted ≡ true → startRight t ≡ true
+  unfolding startRight
+  seven-start p q r = rw (p, q, r)
 
-  seven-length : at.lengthOk (at.textLength t) ≡ false → false ≡ at.headerOk t
-  seven-length p = apply (λ a b c d e f g h i. a ≡ false → false ≡ chain a b c d e f g h i) chain-first p ∙ sym header-is
+pub settings-are : (t : List ℕ) (s : Settings) → HasSettings t s → s ≡ settingsOf t
+settings-are t s h = λ i. record { leaf = h .leaf-is i; arity = h .arity-is i; levels = h .levels-is i; counted = h .counted-is i }
 
-  seven-sizes : at.sizesOk (at.settings t) ≡ false → false ≡ at.headerOk t
-  seven-sizes p = apply (λ a b c d e f g h i. b ≡ false → false ≡ chain a b c d e f g h i) chain-sizes p ∙ sym header-is
-
-  seven-counted : counted ≡ false → false ≡ at.headerOk t
-  seven-counted p = apply (λ a b c d e f g h i. c ≡ false → false ≡ chain a b c d e f g h i) chain-counted p ∙ sym header-is
-
-  seven-rest : (r : Bool) → at.lengthOk (at.textLength t) ≡ true
-      → at.sizesOk (at.settings t) ≡ true → counted ≡ true → r ≡ restRight t → r ≡ at.headerOk t
-  unfolding restRight tablesMeet
-  seven-rest r p q s e =
-      apply (λ a b c d e f g h i. a ≡ true → b ≡ true → c ≡ true → r ≡ (d && e && f && (g && h) && i) → r ≡ chain a b c d e f g h i)
-      (λ a b c d e f g h i. chain-rest a b c d e f g h i r) p q s e
-      ∙ sym header-is
-
--- A header that is not right has no settings.
-pub wrong : (t : List ℕ) → false ≡ at.headerOk t → Refused 7 ≡ settingsSay t
+-- A header whose first conditions fail has no settings.
+pub wrong : (t : List ℕ) → false ≡ startRight t → Refused 7 ≡ settingsSay t
 unfolding settingsSay
 wrong t e = rw (← e)
 
@@ -93,7 +84,7 @@ module _ (t : List ℕ) (n : ℕ) (n-is : n ≡ wordAt t textLengthAt) where
   unfolding at.textLength
   length-here r p = rw (← n-is) p
 
-  pub header-length : at.lengthOk n ≡ false → false ≡ at.headerOk t
+  pub header-length : at.lengthOk n ≡ false → false ≡ startRight t
   header-length p = seven-length t (length-here false p)
 
 length-fine : (n : ℕ) → n ≤ maxText → at.lengthOk n ≡ true
@@ -128,7 +119,7 @@ refused-is q true true r e = absurd (let z : _≡_ {A = ℕ} 0 1 = cc in omega a
 refused-is q true false r e = inr refl
 refused-is q false b r e = inl refl
 
-pub header-many : (t : List ℕ) (k : ℕ) → k ≡ wordAt t countedCountAt → maxCounted < k → false ≡ at.headerOk t
+pub header-many : (t : List ℕ) (k : ℕ) → k ≡ wordAt t countedCountAt → maxCounted < k → false ≡ startRight t
 unfolding at.countedCount
 header-many t k k-is h = seven-counted t (rw (← k-is, lt-leb k maxCounted h))
 
@@ -160,13 +151,13 @@ module _ (t : List ℕ) (m r H k : ℕ)
     abbrev there : Settings
     there = record { leaf = m; arity = r; levels = H; counted = length part }
 
-    header-sizes : sizes-fit ≡ false → false ≡ at.headerOk t
+    header-sizes : sizes-fit ≡ false → false ≡ startRight t
     header-sizes p = seven-sizes t (sizes-here false p)
 
-    header-counted : at.countedOk part ≡ false → false ≡ at.headerOk t
+    header-counted : at.countedOk part ≡ false → false ≡ startRight t
     header-counted p = seven-counted t (both-here false p)
 
-    pub header-refused : (q : ℕ) (x : SettingsAnswer) → x ≡ given.checked m r H part → x ≡ Refused q → false ≡ at.headerOk t
+    pub header-refused : (q : ℕ) (x : SettingsAnswer) → x ≡ given.checked m r H part → x ≡ Refused q → false ≡ startRight t
     unfolding given.checked
     header-refused q x e f = ⊎-elim header-sizes header-counted (refused-is q sizes-fit (at.countedOk part) there (sym f ∙ e))
 
@@ -179,31 +170,23 @@ module _ (t : List ℕ) (m r H k : ℕ)
       fit : sizes-fit ≡ true
       fit = fine-sizes s sizes-fit (at.countedOk part) there fine
 
-      header-rest : (y : Bool) → y ≡ restRight t → y ≡ at.headerOk t
-      header-rest y e =
-          seven-rest t y (length-here t n n-is true (length-fine n high)) (sizes-here true fit)
-          (both-here true (fine-counted s sizes-fit (at.countedOk part) there fine)) e
+      start-right : startRight t ≡ true
+      start-right =
+          seven-start t (length-here t n n-is true (length-fine n high)) (sizes-here true fit)
+          (both-here true (fine-counted s sizes-fit (at.countedOk part) there fine))
 
-      pub has-settings : headerLength ≤ length t → HasSettings t n s
+      has-settings : headerLength ≤ length t → HasSettings t s
       has-settings long =
           let size : length part ≡ k = simp (length-take, length-drop) (omega arith) in
           rw (fine-is s sizes-fit (at.countedOk part) there fine) (record {
             long = long;
-            n-is = n-is;
             leaf-is = m-is;
             arity-is = r-is;
             levels-is = H-is;
             counted-is = size ∙ k-is;
-            bounds = within-bounds n (length part) (sizes m r H) high fit (rw size few);
+            bounds = rw (← n-is) (within-bounds n (length part) (sizes m r H) high fit (rw size few));
           })
 
-      settings-are : HasSettings t n s → s ≡ settingsOf t
-      settings-are h = λ i. record { leaf = h .leaf-is i; arity = h .arity-is i; levels = h .levels-is i; counted = h .counted-is i }
-
-      -- The rest is not right, and it is.
-      pub rest-wrong : (y : Bool) → y ≡ restRight t → y ≡ false → Refused 7 ≡ settingsSay t
-      rest-wrong y e f = wrong t (sym f ∙ header-rest y e)
-
-      pub rest-fine : headerLength ≤ length t → (y : Bool) → y ≡ restRight t → y ≡ true → Fine s ≡ settingsSay t
+      pub settings-fine : headerLength ≤ length t → Fine s ≡ settingsSay t
       unfolding settingsSay
-      rest-fine long y e f = rw (sym (header-rest y e) ∙ f, settings-are (has-settings long))
+      settings-fine long = rw (start-right, settings-are t s (has-settings long))

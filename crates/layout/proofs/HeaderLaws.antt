@@ -1,7 +1,7 @@
 -- The steps of the loops over the header, and the rest of question 7.
 use mathlib.Core.List.{List}
 use mathlib.Core.Bool.{Bool, true, false}
-use mathlib.Core.Path.{_≡_, sym, ap, _∙_}
+use mathlib.Core.Path.{_≡_, refl, sym, ap, _∙_}
 use Prim.Native.Nat.{ℕ, _+_, _-_, _*_, _^_, _≤_, _<_}
 use native.Mathlib.Omega.{arith}
 use native.Mathlib.Nat.{one-le-pow, mul-le-mul}
@@ -10,8 +10,10 @@ use lib.Dec.{eqb}
 use borrow.Author.Tests.{eq-eqb, ne-eqb}
 use Rattle.text.specs.Text.{allBelow, sumBelow}
 use Rattle.text.specs.ListLaws.{and-both, sumBelow-suc}
-use Rattle.format.specs.Layout.{maxText, wordAt, layoutAt, pairsAt, countAt, offsetAt, leafOffsetAt, leafCountAt, headerLength}
+use Rattle.format.specs.Layout.{maxText, wordAt, layoutAt, textLengthAt, leafAt, countedCountAt, pairsAt}
+use Rattle.format.specs.Layout.{countAt, offsetAt, leafOffsetAt, leafCountAt, headerLength}
 use Rattle.format.specs.Layout as at
+use Rattle.format.specs.SizeLaws.{maxRecord, record-high}
 use Rattle.layout.specs.declared.settings.Settings.{Settings}
 use Rattle.layout.specs.Header.{zeroLevel, follows, tablesMeet, restRight, spareCounted, spareLevels, HasSettings}
 
@@ -64,13 +66,14 @@ module _ (t : List ℕ) where
   level-apart H f = rw (← f)
 
   -- The rest of question 7, of the header's own settings.
-  module _ (n : ℕ) (s : Settings) (h : HasSettings t n s) where
+  module _ (s : Settings) (h : HasSettings t s) where
     pub block-is : (b : ℕ) → b ≡ s .leaf * s .arity ^ (s .levels - 1 - 0) → b ≡ at.fullLength t 0
     unfolding at.fullLength at.settings at.blockLength
     block-is b e = rw (e, h .leaf-is, h .arity-is, h .levels-is)
 
-    pub block-bounds : (b : ℕ) → b ≡ s .leaf * s .arity ^ (s .levels - 1 - 0) → (0 < b) × (b ≤ maxText)
-    block-bounds b e =
+    pub block-bounds : (b : ℕ) → b ≡ at.fullLength t 0 → (0 < b) × (b ≤ maxText)
+    block-bounds b b-is =
+        let e : b ≡ s .leaf * s .arity ^ (s .levels - 1 - 0) = b-is ∙ sym (block-is _ refl) in
         let e′ : s .levels - 1 - 0 ≡ s .levels - 1 = omega arith in
         let low : 1 ≤ s .leaf * s .arity ^ (s .levels - 1) =
         mul-le-mul {n₁ = 1} {m₁ = 1} (h .bounds .leaf-low) (one-le-pow (s .levels - 1) (s .arity) (omega (arith, h .bounds .arity-low))) in
@@ -79,6 +82,12 @@ module _ (t : List ℕ) where
     pub size-is : (v size : ℕ) → v ≡ wordAt t layoutAt → size ≡ at.recordLength v (s .leaf) (s .counted) → size ≡ at.recordSize t
     unfolding at.recordSize at.layout at.settings at.countedCount
     size-is v size v-is e = rw (e, v-is, h .leaf-is, h .counted-is)
+
+    pub size-high : (size : ℕ) → size ≡ at.recordSize t → size ≤ maxRecord
+    unfolding at.recordSize at.layout at.settings at.countedCount
+    size-high size e =
+        rw e (record-high (wordAt t layoutAt) (wordAt t leafAt) (wordAt t countedCountAt) (rw (← h .leaf-is) (h .bounds .leaf-high))
+        (rw (← h .counted-is) (h .bounds .counted-high)))
 
     counted-here : (r : Bool) → r ≡ spareCounted t (s .counted) → r ≡ spareCounted t (at.countedCount t)
     unfolding at.countedCount
@@ -98,10 +107,10 @@ module _ (t : List ℕ) where
       rest-levels f = rw (sym (counted-here _ (sym d)), sym (levels-here _ (spareLevels t) (sym f)))
 
       module _ (e : spareLevels t (s .levels) ≡ true)
-          (count b : ℕ) (count-is : count ≡ wordAt t pairsAt) (b-is : b ≡ s .leaf * s .arity ^ (s .levels - 1 - 0)) where
+          (count n b : ℕ) (count-is : count ≡ wordAt t pairsAt) (n-is : n ≡ wordAt t textLengthAt) (b-is : b ≡ at.fullLength t 0) where
         level0-is : (r : Bool) → eqb count (at.pieces n b) ≡ r → eqb (at.levelCount t 0) (at.pieces (at.textLength t) (at.fullLength t 0)) ≡ r
         unfolding at.levelCount at.textLength
-        level0-is r q = rw (← count-is, ← h .n-is, ← block-is b b-is) q
+        level0-is r q = rw (← count-is, ← n-is, ← b-is) q
 
         pub rest-level0 : (count ≡ at.pieces n b → ⊥) → false ≡ restRight t
         unfolding restRight

@@ -1,21 +1,25 @@
 -- Questions 5 to 7 in order.
 use mathlib.Core.List.{List}
-use mathlib.Core.Bool.{Bool, true, false, cond, _||_}
+use mathlib.Core.Bool.{Bool, true, false, cond, _||_, _&&_}
 use mathlib.Core.Path.{_≡_, refl, sym, _∙_}
 use Prim.Native.Nat.{ℕ, _≤_, _<_}
 use native.Mathlib.Omega.{arith}
 use lib.ListN.{length}
-use borrow.Author.Tests.{le-leb, lt-leb}
-use lib.Dec.{eqb}
-use Rattle.format.specs.Layout.{wordAt, layoutAt, headerLength, layout, holdsHeader, layoutOk, headerOk}
+use borrow.Author.Tests.{le-leb, lt-leb, leb-true}
+use lib.Dec.{eqb, leb}
+use Rattle.text.specs.ListLaws.{and-left}
+use Rattle.format.specs.Layout.{wordAt, layoutAt, headerLength, layout, holdsHeader, layoutOk, headerOk, lengthOk, sizesOk, countedOk}
+use Rattle.format.specs.Layout.{textLength, countedCount, maxText, maxCounted}
+use Rattle.format.specs.Layout as at
+use Rattle.format.specs.SizeLaws.{within-bounds}
 use Rattle.format.specs.TreeReading.{headerResult}
-use Rattle.format.specs.LayoutLaws.{Readable, header-facts}
 use Rattle.layout.specs.declared.header.Header.{Header}
 use Rattle.layout.specs.declared.header.HeaderAnswer.the-variants.{Good, Refused}
 use Rattle.layout.specs.declared.settings.Settings.{Settings}
 use Rattle.layout.specs.declared.settings.SettingsAnswer.{SettingsAnswer}
 use Rattle.layout.specs.declared.settings.SettingsAnswer.the-variants as settings
-use Rattle.layout.specs.Header.{headerAnswer, settingsOf, settingsSay, fieldsOf}
+use Rattle.layout.specs.Header.{headerAnswer, settingsOf, settingsSay, startRight, restRight, HasSettings, fieldsOf}
+use Rattle.layout.proofs.HeaderCheck.{counted, header-both}
 
 -- What the settings of a header tell of question 7.
 fine-cases : (b : Bool) (s r : Settings) → settings.Fine s ≡ cond b (settings.Fine r) (settings.Refused 7) → (b ≡ true) × (s ≡ r)
@@ -26,13 +30,34 @@ refused-cases : (b : Bool) (q : ℕ) (r : Settings) → settings.Refused q ≡ c
 refused-cases true q r e = absurd (let z : _≡_ {A = ℕ} 0 1 = cc in omega arith)
 refused-cases false q r e = refl
 
-settings-fine : (t : List ℕ) (s : Settings) → settings.Fine s ≡ settingsSay t → (headerOk t ≡ true) × (s ≡ settingsOf t)
+settings-within : (t : List ℕ) (s : Settings) → settings.Fine s ≡ settingsSay t → (startRight t ≡ true) × (s ≡ settingsOf t)
 unfolding settingsSay
-settings-fine t s e = fine-cases (headerOk t) s (settingsOf t) e
+settings-within t s e = fine-cases (startRight t) s (settingsOf t) e
 
 settings-refused : (t : List ℕ) (q : ℕ) → settings.Refused q ≡ settingsSay t → headerOk t ≡ false
 unfolding settingsSay
-settings-refused t q e = refused-cases (headerOk t) q (settingsOf t) e
+settings-refused t q e = header-both t ∙ rw (refused-cases (startRight t) q (settingsOf t) e)
+
+-- The settings that were checked are within their bounds.
+all-three : (a b c : Bool) → (a && b && c) ≡ true → (a ≡ true) × (b ≡ true) × (c ≡ true)
+all-three true true true e = (refl, refl, refl)
+all-three true true false e = absurd (let z : _≡_ {A = ℕ} 0 1 = cc in omega arith)
+all-three true false c e = absurd (let z : _≡_ {A = ℕ} 0 1 = cc in omega arith)
+all-three false b c e = absurd (let z : _≡_ {A = ℕ} 0 1 = cc in omega arith)
+
+bounds-hold : (t : List ℕ) → headerLength ≤ length t → startRight t ≡ true → HasSettings t (settingsOf t)
+unfolding startRight lengthOk textLength at.settings countedCount
+bounds-hold t long e =
+    let z = all-three (leb (textLength t) maxText) (sizesOk (at.settings t)) (counted t) e in
+    record {
+      long = long;
+      leaf-is = refl;
+      arity-is = refl;
+      levels-is = refl;
+      counted-is = refl;
+      bounds = within-bounds (textLength t) (countedCount t) (at.settings t) (leb-true _ _ (z .0)) (z .1)
+          (leb-true _ _ (and-left (leb (countedCount t) maxCounted) (countedOk (at.settings t .counted)) (z .2)));
+    }
 
 module _ (t : List ℕ) where
   pub asked-5 : length t < headerLength → Refused 5 ≡ headerAnswer t
@@ -54,12 +79,18 @@ module _ (t : List ℕ) where
       asked-7 q e = rw (le-leb headerLength (length t) long, sym layout-is ∙ l, settings-refused t q (sym e ∙ says))
 
       module _ (s : Settings) (e : x ≡ settings.Fine s) where
-        pub asked-fields : Readable t × (s ≡ settingsOf t)
-        unfolding headerResult holdsHeader
+        pub asked-fields : HasSettings t s
         asked-fields =
-            let z = settings-fine t s (sym e ∙ says) in
-            (header-facts t (rw (le-leb headerLength (length t) long, sym layout-is ∙ l, z .0)), z .1)
+            let z = settings-within t s (sym e ∙ says) in
+            rw (z .1) (bounds-hold t long (z .0))
 
-        pub asked-all : (h : Header) → h ≡ fieldsOf t → Good h ≡ headerAnswer t
+        whole : (r : Bool) → r ≡ restRight t → headerOk t ≡ r
+        whole r is = header-both t ∙ rw (settings-within t s (sym e ∙ says) .0, is)
+
+        pub asked-rest : (r : Bool) → r ≡ restRight t → r ≡ false → Refused 7 ≡ headerAnswer t
         unfolding headerAnswer headerResult holdsHeader
-        asked-all h f = rw (le-leb headerLength (length t) long, sym layout-is ∙ l, settings-fine t s (sym e ∙ says) .0, f)
+        asked-rest r is off = rw (le-leb headerLength (length t) long, sym layout-is ∙ l, whole r is ∙ off)
+
+        pub asked-all : (r : Bool) → r ≡ restRight t → r ≡ true → (h : Header) → h ≡ fieldsOf t → Good h ≡ headerAnswer t
+        unfolding headerAnswer headerResult holdsHeader
+        asked-all r is on h f = rw (le-leb headerLength (length t) long, sym layout-is ∙ l, whole r is ∙ on, f)

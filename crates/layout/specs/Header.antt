@@ -4,7 +4,7 @@ use mathlib.Core.Bool.{Bool, cond, _&&_}
 use mathlib.Core.Path.{_≡_}
 use Prim.Native.Nat.{ℕ, zero, suc, _+_, _-_, _*_, _≤_}
 use lib.ListN.{length, getD}
-use lib.Dec.{eqb}
+use lib.Dec.{eqb, leb}
 use Rattle.text.specs.Text.{allBelow, sumBelow}
 use Rattle.format.specs.Layout.{wordAt, pieces, maxLevels, maxCounted}
 use Rattle.format.specs.Layout.{layoutAt, textLengthAt, leafAt, arityAt, levelsAt, countedCountAt, countedAt, leafOffsetAt, leafCountAt, headerLength}
@@ -23,9 +23,15 @@ use Rattle.layout.specs.declared.header.HeaderAnswer.the-variants.{Good,
 abbrev pub settingsOf : List ℕ → Settings
 settingsOf t = record { leaf = wordAt t leafAt; arity = wordAt t arityAt; levels = wordAt t levelsAt; counted = wordAt t countedCountAt }
 
--- These settings, if question 7 passes.
+-- The first conditions of question 7: the length of the text and the settings are within their bounds.
+unfoldable pub startRight : List ℕ → Bool
+startRight t =
+    at.lengthOk (at.textLength t) && at.sizesOk (at.settings t)
+    && (leb (at.countedCount t) maxCounted && at.countedOk (at.settings t .counted))
+
+-- The settings, if these conditions hold.
 unfoldable pub settingsSay : List ℕ → SettingsAnswer
-settingsSay t = cond (at.headerOk t) (Fine (settingsOf t)) (settings.Refused 7)
+settingsSay t = cond (startRight t) (Fine (settingsOf t)) (settings.Refused 7)
 
 -- The words of the header, and the lengths of a level 0 block and of a record.
 abbrev pub fieldsOf : List ℕ → Header
@@ -76,12 +82,11 @@ module _ (t : List ℕ) where
       && tablesMeet (at.settings t .levels)
       && eqb (length t) (at.leafOffset t + at.leafCount t)
 
-  -- n and the settings are those of the header, and within their bounds.
-  pub record HasSettings (n : ℕ) (s : Settings) : Type 0 where
+  -- The settings are those of the header; they and the length of the text are within their bounds.
+  pub record HasSettings (s : Settings) : Type 0 where
     pub long : headerLength ≤ length t
-    pub n-is : n ≡ wordAt t textLengthAt
     pub leaf-is : s .leaf ≡ wordAt t leafAt
     pub arity-is : s .arity ≡ wordAt t arityAt
     pub levels-is : s .levels ≡ wordAt t levelsAt
     pub counted-is : s .counted ≡ wordAt t countedCountAt
-    pub bounds : Bounds n (s .leaf) (s .arity) (s .levels) (s .counted)
+    pub bounds : Bounds (wordAt t textLengthAt) (s .leaf) (s .arity) (s .levels) (s .counted)

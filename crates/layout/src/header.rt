@@ -10,8 +10,7 @@ ghost use lib.ListN.{length};
 ghost use lib.Dec.{eqb};
 ghost use Rattle.format.specs.Layout.{maxLevels, maxCounted, headerLength, recordSize};
 ghost use Rattle.format.specs.SizeLaws.{maxRecord};
-ghost use Rattle.format.specs.LayoutLaws.{Readable};
-ghost use Rattle.layout.specs.Header.{headerAnswer, restRight, spareCounted, spareLevels, tablesMeet, HasSettings, settingsOf, settingsSay, fieldsOf};
+ghost use Rattle.layout.specs.Header.{headerAnswer, restRight, spareCounted, spareLevels, tablesMeet, HasSettings, settingsSay, fieldsOf};
 
 // Offsets in the header. Six words and the bytes for counted bytes.
 pub const LAYOUT_AT: usize = 0;
@@ -81,7 +80,11 @@ pub fn read_header(t: &[u8]) -> HeaderAnswer
     let SettingsAnswer::Fine(settings) = checked else {
         return HeaderAnswer::Refused(7);
     };
-    HeaderAnswer::Good(fields(t, settings))
+    let h = fields(t, settings);
+    if !rest_right(t, h) {
+        return HeaderAnswer::Refused(7);
+    }
+    HeaderAnswer::Good(h)
 }
 
 // The layouts that are read.
@@ -96,7 +99,7 @@ fn known(layout: u32) -> bool
 
 // The header with the given settings, the block length of level 0 and the size of a record.
 fn fields(t: &[u8], settings: Settings) -> Header
-    requires { ⌜ Readable (now t) × (settings ≡ settingsOf (now t)) ⌝ }
+    requires { ⌜ HasSettings (now t) settings ⌝ }
     ensures { λ r. ⌜ r ≡ fieldsOf (now (t .entry)) ⌝ }
 {
     let layout = word::read(t, LAYOUT_AT);
@@ -111,7 +114,7 @@ fn fields(t: &[u8], settings: Settings) -> Header
     }
 }
 
-// Question 7: the checked settings, if the whole header is right.
+// The first conditions of question 7: the length of the text and the settings, if they are within their bounds.
 fn header_settings(t: &[u8]) -> SettingsAnswer
     requires { ⌜ headerLength ≤ length (now t) ⌝ }
     ensures { λ r. ⌜ r ≡ settingsSay (now (t .entry)) ⌝ }
@@ -134,32 +137,28 @@ fn header_settings(t: &[u8]) -> SettingsAnswer
     let SettingsAnswer::Fine(settings) = checked else {
         return SettingsAnswer::Refused(7);
     };
-    if !rest_right(t, n, settings) {
-        return SettingsAnswer::Refused(7);
-    }
     SettingsAnswer::Fine(settings)
 }
 
 // The other conditions of question 7: unused places, the block count of level 0, offsets, and the length.
-fn rest_right(t: &[u8], n: u32, settings: Settings) -> bool
-    requires { ⌜ HasSettings (now t) n settings ⌝ }
+fn rest_right(t: &[u8], h: Header) -> bool
+    requires { ⌜ (HasSettings (now t) (h .settings)) × (h ≡ fieldsOf (now t)) ⌝ }
     ensures { λ r. ⌜ r ≡ restRight (now (t .entry)) ⌝ }
 {
-    if !spare_counted_zero(t, settings.counted as usize) {
+    if !spare_counted_zero(t, h.settings.counted as usize) {
         return false;
     }
-    if !spare_levels_zero(t, settings.levels as usize) {
+    if !spare_levels_zero(t, h.settings.levels as usize) {
         return false;
     }
     let count = word::read(t, COUNTS_AT);
-    if count != settings::pieces(n, settings.block_length(0)) {
+    if count != settings::pieces(h.text_length, h.top_length) {
         return false;
     }
-    let size = settings.record_size(word::read(t, LAYOUT_AT));
-    if !tables_meet(t, settings.levels as usize, size) {
+    if !tables_meet(t, h.settings.levels as usize, h.record_size) {
         return false;
     }
-    t.len() as u64 == word::read(t, LEAF_OFFSET_AT) as u64 + word::read(t, LEAF_COUNT_AT) as u64
+    t.len() as u64 == h.leaf_offset as u64 + h.leaf_count as u64
 }
 
 // The unused places for counted bytes are zero.

@@ -13,6 +13,8 @@ ghost use Rattle.format.specs.Layout as at;
 ghost use Rattle.format.specs.TreeReading.{keptBlock};
 ghost use Rattle.format.specs.Layout.{maxText};
 ghost use Rattle.layout.specs.HeaderFields.{HeaderOf};
+ghost use Rattle.walk_path.specs.Above.{aboveOf};
+ghost use Rattle.walk_path.specs.Walk.{walked, walkedIn};
 ghost use Rattle.query_access.specs.LeafEnds.{EndsIn, LeafEndOf, Joined};
 
 // The block of the last level in which a path ends, the place in it, the number of its leaf byte, the smallest number of bytes left in a block above the last
@@ -30,12 +32,13 @@ pub enum LeafEndAnswer {
     Broken,
 }
 
-// The end of the path of a place of the text: question 14.
-pub fn end_of(t: &[u8], h: Header, at: TextPlace) -> LeafEndAnswer
-    requires { ⌜ (HeaderOf (now t) h) × (at .0 < h .«text_length») ⌝ }
-    ensures { λ r. ⌜ LeafEndOf (now (t .entry)) (at .0) r ⌝ }
+// The end of the path of a place of the text, from the word of its walk: question 14.
+pub fn end_of(t: &[u8], h: Header, p: TextPlace, word: u64) -> LeafEndAnswer
+    requires { ⌜ (HeaderOf (now t) h) × (p .0 < h .«text_length»)
+        × (walkedIn word ≡ walked (now t) (record { entered = 0; left = h .«text_length» - p .0 }) (aboveOf (now t) (p .0))) ⌝ }
+    ensures { λ r. ⌜ LeafEndOf (now (t .entry)) (p .0) r ⌝ }
 {
-    let walked = walk_path::walk(t, h, at);
+    let walked = walk_path::unpacked(word);
     let WalkAnswer::At(reached) = walked else {
         return LeafEndAnswer::Broken;
     };

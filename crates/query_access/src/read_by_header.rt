@@ -6,6 +6,7 @@ use crate::leaf_end::LeafEndAnswer;
 use layout::header::Header;
 use layout::place::TextPlace;
 use layout::settings::Settings;
+use walk_path::TopLevel;
 use walk_short::gather;
 use walk_short::gather::Gathered;
 ghost use mathlib.Core.Bool.{true, _&&_};
@@ -63,19 +64,31 @@ pub fn byte_at(t: &[u8], h: Header, at: TextPlace) -> ByteAnswer
     if h.text_length <= at.0 {
         return ByteAnswer::Refused(10);
     }
-    let found = leaf_run(t, h, at);
+    let found = leaf_run(&t, h, at);
     let LeafRunAnswer::At(run) = found else {
         return ByteAnswer::Refused(14);
     };
     byte_on(t, run, 0)
 }
 
-// The run of a place of the text, bounded by the number of leaf bytes: question 14.
-fn leaf_run(t: &[u8], h: Header, at: TextPlace) -> LeafRunAnswer
-    requires { ⌜ (HeaderOf (now t) h) × (at .0 < h .«text_length») ⌝ }
-    ensures { λ r. ⌜ LeafRunOf (now (t .entry)) (at .0) r ⌝ }
+// The figures of a header that a walk starts with.
+fn top_level(h: Header) -> TopLevel
+    ensures { λ r. ⌜ r ≡ record { size = h .«record_size»; b = h .«top_length» } ⌝ }
 {
-    let found = leaf_end::end_of(t, h, at);
+    TopLevel {
+        size: h.record_size,
+        b: h.top_length,
+    }
+}
+
+// The run of a place of the text, bounded by the number of leaf bytes: question 14.
+fn leaf_run(t: &&[u8], h: Header, at: TextPlace) -> LeafRunAnswer
+    requires { ⌜ (HeaderOf (now (now t)) h) × (at .0 < h .«text_length») ⌝ }
+    ensures { λ r. ⌜ LeafRunOf (now (now (t .entry))) (at .0) r ⌝ }
+{
+    let tree = *t;
+    let word = walk_path::walk(t, top_level(h), at, h.text_length - at.0);
+    let found = leaf_end::end_of(tree, h, at, word);
     let LeafEndAnswer::At(end) = found else {
         return LeafRunAnswer::Broken;
     };
@@ -89,16 +102,18 @@ fn leaf_run(t: &[u8], h: Header, at: TextPlace) -> LeafRunAnswer
 
 // At most `most` bytes from a place of the text that are contiguous in the tree, found by one walk: its run, and the leaf bytes of the blocks that follow,
 // inside every block above the last level. Question 14.
-pub fn leaf_range(t: &[u8], h: Header, at: TextPlace, most: u32) -> LeafRunAnswer
-    requires { ⌜ (HeaderOf (now t) h) × (at .0 < h .«text_length») × (1 ≤ most) ⌝ }
-    ensures { λ r. ⌜ LeafRangeOf (now (t .entry)) (at .0) most r ⌝ }
+pub fn leaf_range(t: &&[u8], h: Header, at: TextPlace, most: u32) -> LeafRunAnswer
+    requires { ⌜ (HeaderOf (now (now t)) h) × (at .0 < h .«text_length») × (1 ≤ most) ⌝ }
+    ensures { λ r. ⌜ LeafRangeOf (now (now (t .entry))) (at .0) most r ⌝ }
 {
-    let found = leaf_end::end_of(t, h, at);
+    let tree = *t;
+    let word = walk_path::walk(t, top_level(h), at, h.text_length - at.0);
+    let found = leaf_end::end_of(tree, h, at, word);
     let LeafEndAnswer::At(end) = found else {
         return LeafRunAnswer::Broken;
     };
     let within = byte_slices::min(end.left, most);
-    let joined = leaf_end::joined(t, h, end, within);
+    let joined = leaf_end::joined(tree, h, end, within);
     let size = byte_slices::min(within, joined);
     LeafRunAnswer::At(LeafRun {
         from: h.leaf_offset as usize + end.leaf as usize,
@@ -123,7 +138,7 @@ pub fn run_range_at(t: &[u8], h: Header, at: TextPlace) -> RunRangeAnswer
     if h.text_length <= at.0 {
         return RunRangeAnswer::Refused(10);
     }
-    let found = leaf_run(t, h, at);
+    let found = leaf_run(&t, h, at);
     let LeafRunAnswer::At(run) = found else {
         return RunRangeAnswer::Refused(14);
     };
@@ -138,7 +153,7 @@ pub fn range_at(t: &[u8], h: Header, at: TextPlace, most: u32) -> RunRangeAnswer
     requires { ⌜ (HeaderOf (now t) h) × (at .0 < h .«text_length») × (1 ≤ most) ⌝ }
     ensures { λ r. ⌜ IsRangeAnswer (now (t .entry)) (at .0) most r ⌝ }
 {
-    let found = leaf_range(t, h, at, most);
+    let found = leaf_range(&t, h, at, most);
     let LeafRunAnswer::At(run) = found else {
         return RunRangeAnswer::Refused(14);
     };
@@ -228,7 +243,7 @@ fn copy_run(
     requires { ⌜ (HeaderOf (now t) h) × (at .0 < h .«text_length») × (1 ≤ most) × (to + most ≤ length (now buffer)) ⌝ }
     ensures { λ r. ⌜ RunCopied (now (t .entry)) (at .0) most to (now (buffer .entry)) (now (buffer .exit)) r ⌝ }
 {
-    let found = leaf_range(t, h, at, most);
+    let found = leaf_range(&t, h, at, most);
     let LeafRunAnswer::At(run) = found else {
         return SpanAnswer::Refused(14);
     };

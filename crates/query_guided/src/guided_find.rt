@@ -34,26 +34,27 @@ pub fn find_guided_at(t: &[u8], h: Header, guide: &[u8], byte: u8, j: u32) -> Fi
     if all < j as u64 {
         return FindGuidedAnswer::Refused(12);
     }
-    guided(t, h, guide, CountedByte { byte, number }, j)
+    guided(&t, h, guide, CountedByte { byte, number }, j)
 }
 
 // Starts at entry (j - 1) / 64 of the byte. Refused with 14 if the guide has no such entry, or if the entry is not a block of level 0.
-pub fn guided(t: &[u8], h: Header, guide: &[u8], wanted: CountedByte, j: u32) -> FindGuidedAnswer
-    requires { ⌜ (HeaderOf (now t) h) × (wanted .number < at.countedCount (now t))
-        × (wanted .byte ≡ byteOf (now t) (wanted .number)) × (1 ≤ j) × (j ≤ total (now t) (wanted .number)) ⌝ }
-    ensures { λ r. ⌜ (SoughtBy (now (t .entry)) (now (guide .entry)) (wanted .byte) (wanted .number) j (replied (findGuidedReply r)) (stepsOf r))
+pub fn guided(t: &&[u8], h: Header, guide: &[u8], wanted: CountedByte, j: u32) -> FindGuidedAnswer
+    requires { ⌜ (HeaderOf (now (now t)) h) × (wanted .number < at.countedCount (now (now t)))
+        × (wanted .byte ≡ byteOf (now (now t)) (wanted .number)) × (1 ≤ j) × (j ≤ total (now (now t)) (wanted .number)) ⌝ }
+    ensures { λ r. ⌜ (SoughtBy (now (now (t .entry))) (now (guide .entry)) (wanted .byte) (wanted .number) j (replied (findGuidedReply r)) (stepsOf r))
         × (NeverZero (findGuidedReply r)) ⌝ }
 {
-    let place = entry_words::entries_before(t, h, wanted.number)
+    let tree = *t;
+    let place = entry_words::entries_before(tree, h, wanted.number)
         + (j as u64 - 1) / entry_words::LISTED_EVERY;
     if guide.len() as u64 / 4 <= place {
         return FindGuidedAnswer::Refused(14);
     }
     let entry = word::read(guide, 4 * (place as usize));
-    if record::level_count(t, 0) <= entry {
+    if record::level_count(tree, 0) <= entry {
         return FindGuidedAnswer::Refused(14);
     }
-    let along = entry_words::block_from(t, h, wanted.number, BlockNumber(entry), j as u64);
+    let along = entry_words::block_from(tree, h, wanted.number, BlockNumber(entry), j as u64);
     let field = CountField {
         size: h.record_size,
         number: wanted.number,

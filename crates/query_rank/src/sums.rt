@@ -117,18 +117,19 @@ fn down(t: &[u8], size: u32, wanted: CountedByte, level: u32, block: BlockNumber
 
 // From a kept block to the child that contains the place.
 fn kept_step(
-    t: &[u8],
+    t: &&[u8],
     size: u32,
     wanted: CountedByte,
     on: LevelAt,
     spot: BlockPosition,
     sum: Sum,
 ) -> u64
-    requires { ⌜ (KeptAt (now t) size (on .level) (on .b) (spot .block .0) (spot .place .0) (sum .entered)) × (Carried (now t) (wanted .number) sum) ⌝ }
-    ensures { λ r. ⌜ answerIn r ≡ settled (summed (now (t .entry)) (wanted .byte) (wanted .number) sum
-        (pathFrom (now (t .entry)) (at.settings (now (t .entry)) .levels - 1 - on .level) (on .level) (spot .block .0) (spot .place .0))) ⌝ }
+    requires { ⌜ (KeptAt (now (now t)) size (on .level) (on .b) (spot .block .0) (spot .place .0) (sum .entered))
+        × (Carried (now (now t)) (wanted .number) sum) ⌝ }
+    ensures { λ r. ⌜ answerIn r ≡ settled (summed (now (now (t .entry))) (wanted .byte) (wanted .number) sum
+        (pathFrom (now (now (t .entry))) (at.settings (now (now (t .entry))) .levels - 1 - on .level) (on .level) (spot .block .0) (spot .place .0))) ⌝ }
 {
-    let tree = fields::reborrow(t);
+    let tree = *t;
     let shape = fields::shape_of(tree);
     let under = on.level + 1;
     if under == shape.levels {
@@ -141,7 +142,7 @@ fn kept_step(
     };
     let further = down(tree, size, wanted, under, i, sum);
     pointing_step(
-        tree,
+        t,
         size,
         wanted,
         LevelAt {
@@ -155,21 +156,22 @@ fn kept_step(
 
 // From a block at which a pointer may still be followed: from a pointing block to a kept block of its level; on the last level no block points.
 fn pointing_step(
-    t: &[u8],
+    t: &&[u8],
     size: u32,
     wanted: CountedByte,
     on: LevelAt,
     spot: BlockPosition,
     sum: Sum,
 ) -> u64
-    requires { ⌜ (MayPoint (now t) size (on .level) (on .b) (spot .block .0) (spot .place .0) (sum .entered)) × (Carried (now t) (wanted .number) sum) ⌝ }
-    ensures { λ r. ⌜ answerIn r ≡ settled (summed (now (t .entry)) (wanted .byte) (wanted .number) sum
-        (pathFrom (now (t .entry)) (at.settings (now (t .entry)) .levels - 1 - on .level) (on .level) (spot .block .0) (spot .place .0))) ⌝ }
+    requires { ⌜ (MayPoint (now (now t)) size (on .level) (on .b) (spot .block .0) (spot .place .0) (sum .entered))
+        × (Carried (now (now t)) (wanted .number) sum) ⌝ }
+    ensures { λ r. ⌜ answerIn r ≡ settled (summed (now (now (t .entry))) (wanted .byte) (wanted .number) sum
+        (pathFrom (now (now (t .entry))) (at.settings (now (now (t .entry))) .levels - 1 - on .level) (on .level) (spot .block .0) (spot .place .0))) ⌝ }
 {
-    let tree = fields::reborrow(t);
+    let tree = *t;
     let here = walk_steps::classify_block(tree, size, on.level, on.b, spot.block, spot.place);
     match here {
-        BlockKind::Kept(_, _) => kept_step(tree, size, wanted, on, spot, sum),
+        BlockKind::Kept(_, _) => kept_step(t, size, wanted, on, spot, sum),
         BlockKind::Points(_, _) => {
             let there = walk_steps::resolve_target(
                 tree,
@@ -189,7 +191,7 @@ fn pointing_step(
             };
             let further = across(tree, size, wanted, on.level, hop, sum);
             kept_step(
-                tree,
+                t,
                 size,
                 wanted,
                 on,
@@ -222,7 +224,7 @@ pub fn walk(t: &[u8], h: Header, wanted: CountedByte, place: TextPlace) -> u64
     let spot = walk_steps::top_spot(place, h.top_length);
     let sum = start(t, h, wanted, spot.block);
     pointing_step(
-        t,
+        &t,
         h.record_size,
         wanted,
         LevelAt {

@@ -23,10 +23,11 @@ pub enum Newline {
 const MOST: u32 = 32;
 
 // The ranges are read in place; question 14 where one breaks.
-pub fn next_newline(t: &[u8], h: Header, from: TextPlace) -> Newline
-    requires { ⌜ (HeaderOf (now t) h) × (from .0 ≤ h .«text_length») ⌝ }
-    ensures { λ r. ⌜ NewlineIs (now (t .entry)) (from .0) r ⌝ }
+pub fn next_newline(t: &&[u8], h: Header, from: TextPlace) -> Newline
+    requires { ⌜ (HeaderOf (now (now t)) h) × (from .0 ≤ h .«text_length») ⌝ }
+    ensures { λ r. ⌜ NewlineIs (now (now (t .entry))) (from .0) r ⌝ }
 {
+    let tree = *t;
     let mut at: u32 = from.0;
     let mut earlier: u8 = 0;
     let mut first = read_by_header::no_run();
@@ -36,8 +37,8 @@ pub fn next_newline(t: &[u8], h: Header, from: TextPlace) -> Newline
             return Newline::Missing;
         };
         let size = part.length;
-        let i = byte_slices::find_nth(t, part.from, size, 10, 1);
-        let before = byte_before(t, part.from, i, earlier);
+        let i = byte_slices::find_nth(tree, part.from, size, 10, 1);
+        let before = byte_before(tree, part.from, i, earlier);
         first = first_of(first, part);
         if i < size {
             return Newline::At(TextPlace(at + i), before, first);

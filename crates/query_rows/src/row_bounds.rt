@@ -100,7 +100,7 @@ fn terminated_row(t: &[u8], h: Header, guide: &[u8], used: bool, number: u32, q:
     let RowStart::At(start) = found else {
         return RowBounds::Refused(start_number(found));
     };
-    let end = next_newline::next_newline(t, h, start);
+    let end = next_newline::next_newline(&t, h, start);
     let Newline::At(place, before, run) = end else {
         return RowBounds::Refused(14);
     };
@@ -159,7 +159,7 @@ pub fn find_newline(
 {
     let wanted = CountedByte { byte: 10, number };
     if used {
-        return guided_find::without_steps(guided_find::guided(t, h, guide, wanted, j));
+        return guided_find::without_steps(guided_find::guided(&t, h, guide, wanted, j));
     }
     seek::seek(t, h, wanted, j)
 }

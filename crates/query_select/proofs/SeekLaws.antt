@@ -1,10 +1,13 @@
 -- The way to the j-th byte, step by step, on any tree.
 use mathlib.Core.List.{List}
+use mathlib.Core.Bool.{cond}
 use mathlib.Core.Path.{_≡_, refl, _∙_}
 use mathlib.Core.Logic.{_⊎_, inl, inr}
-use Prim.Native.Nat.{ℕ, _+_, _-_, _*_, _/_, _≤_, _<_}
+use Prim.Native.Nat.{ℕ, zero, suc, _+_, _-_, _*_, _/_, _≤_, _<_}
 use native.Mathlib.Omega.{arith}
 use native.Mathlib.Nat.{add-zero, mul-add-div, div-eq-of-lt}
+use lib.Dec.{ltb}
+use borrow.Author.Tests.{lt-ltb, le-ltb}
 use Rattle.text.specs.ListLaws.{lt-or-ge}
 use Rattle.format.specs.Layout.{pieces, skipField}
 use Rattle.format.specs.Layout as at
@@ -86,3 +89,81 @@ module _ (t : List ℕ) (c level first end j : ℕ) where
   pub last-end : (r : ℕ) → first ≤ r
       → r < end → ((k : ℕ) → first < k → k ≤ r → at.before t level k c < j) → end ≤ r + 1 → LastBefore t c level first end j r
   last-end r low high passed stop = record { low = low; high = high; passed = passed; next = λ x. absurd (let z : ⊥ = omega arith in z) }
+
+  -- The steps before block k lead to block i; `going` is 1 if they have not stopped.
+  pub record LastSoFar (k i going : ℕ) : Type 0 where
+    pub low : first ≤ i
+    pub reached : i < k
+    pub high : k ≤ end
+    pub flag : going ≤ 1
+    pub passed : (x : ℕ) → first < x → x ≤ i → at.before t level x c < j
+    pub goes : going ≡ 1 → i + 1 ≡ k
+    pub stopped : going ≡ 0 → j ≤ at.before t level (i + 1) c
+
+  pub so-far-first : first < end → LastSoFar (first + 1) first 1
+  so-far-first some = record {
+    low = omega arith;
+    reached = omega arith;
+    high = omega arith;
+    flag = omega arith;
+    passed = λ x past near. absurd (let z : ⊥ = omega arith in z);
+    goes = λ z. refl;
+    stopped = λ z. absurd (let y : ⊥ = omega arith in y);
+  }
+
+  pub so-far-next : (k i going next r : ℕ) → LastSoFar k i going → k < end → next ≡ at.before t level k c → r ≡ cond (ltb next j) 1 0
+      → LastSoFar (k + 1) (i + going * r) (going * r)
+  so-far-next k i zero next r s more is r-is = record {
+    low = omega (arith, s .low);
+    reached = omega (arith, s .reached);
+    high = omega arith;
+    flag = omega arith;
+    passed = λ x past near. s .passed x past (omega arith);
+    goes = λ z. absurd (let y : ⊥ = omega arith in y);
+    stopped = λ z. let e : i + zero * r + 1 ≡ i + 1 = omega arith in rw e (s .stopped refl);
+  }
+  so-far-next k i (suc zero) next r s more is r-is = go (lt-or-ge next j)
+    where
+      go : (next < j) ⊎ (j ≤ next) → LastSoFar (k + 1) (i + suc zero * r) (suc zero * r)
+      go (inl less) =
+          let o : r ≡ 1 = r-is ∙ rw (lt-ltb next j less) in
+          let e : i + suc zero * r ≡ k = omega (arith, s .goes refl) in
+          rw e (record {
+            low = omega (arith, s .low, s .reached);
+            reached = omega arith;
+            high = omega arith;
+            flag = omega arith;
+            passed = λ x past near. passed-on x past near less;
+            goes = λ z. refl;
+            stopped = λ z. absurd (let y : ⊥ = omega arith in y);
+          })
+        where
+          passed-on : (x : ℕ) → first < x → x ≤ k → next < j → at.before t level x c < j
+          passed-on x past near less = at-most (lt-or-ge i x)
+            where
+              at-most : (i < x) ⊎ (x ≤ i) → at.before t level x c < j
+              at-most (inl new) = let e : x ≡ k = omega (arith, s .goes refl) in rw (e, ← is) less
+              at-most (inr old) = s .passed x past old
+      go (inr more-than) =
+          let o : r ≡ 0 = r-is ∙ rw (le-ltb next j more-than) in
+          let e : i + suc zero * r ≡ i = omega arith in
+          rw e (record {
+            low = s .low;
+            reached = omega (arith, s .reached);
+            high = omega arith;
+            flag = omega arith;
+            passed = s .passed;
+            goes = λ z. absurd (let y : ⊥ = omega arith in y);
+            stopped = λ z. rw (s .goes refl, ← is) more-than;
+          })
+  so-far-next k i (suc (suc g)) next r s more is r-is = absurd (let z : ⊥ = omega (arith, s .flag) in z)
+
+  pub so-far-last : (k i going : ℕ) → LastSoFar k i going → end ≤ k → LastBefore t c level first end j i
+  so-far-last k i zero s done = record { low = s .low; high = omega (arith, s .reached, s .high); passed = s .passed; next = λ x. s .stopped refl }
+  so-far-last k i (suc zero) s done = last-end i (s .low) (omega (arith, s .reached, s .high)) (s .passed) (omega (arith, s .goes refl))
+  so-far-last k i (suc (suc g)) s done = absurd (let z : ⊥ = omega (arith, s .flag) in z)
+
+pub flags : (a b : ℕ) → a ≤ 1 → b ≤ 1 → a * b ≤ 1
+flags zero b p q = omega arith
+flags (suc zero) b p q = omega arith
+flags (suc (suc a)) b p q = absurd (let z : ⊥ = omega arith in z)

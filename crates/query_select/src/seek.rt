@@ -13,8 +13,10 @@ use layout::settings;
 use query_counted::CountedByte;
 use walk_steps::BlockKind;
 use walk_steps::fields;
+ghost use mathlib.Core.Bool.{cond};
 ghost use mathlib.Core.Path.{_≡_};
 ghost use Prim.Native.Nat.{_+_, _-_, _*_, _/_, _≤_, _<_};
+ghost use lib.Dec.{ltb};
 ghost use Rattle.format.specs.Answers.{NeverZero, replied, total};
 ghost use Rattle.format.specs.Layout.{pieces, maxText};
 ghost use Rattle.format.specs.Layout as at;
@@ -154,19 +156,31 @@ pub fn step_along(t: &[u8], field: CountField, level: u32, blocks: Blocks, j: u6
     }
 }
 
-// The same for the few children of a block, without counting steps.
+// 1 if a `before` is below j, else 0.
+fn is_below(before: u64, j: u64) -> u32
+    ensures { λ r. ⌜ (r ≡ cond (ltb before j) 1 0) × (r ≤ 1) ⌝ }
+{
+    if before < j {
+        return 1;
+    }
+    0
+}
+
+// The same for the few children of a block, without counting steps. Each child is looked at, and no branch depends on its `before`: which child it is
+// cannot be predicted. `going` is 1 as long as all `before` are below j.
 fn last_child(t: &[u8], field: CountField, level: u32, blocks: Blocks, j: u64) -> BlockNumber
     requires { ⌜ Siblings (now t) field level (blocks .first .0) (blocks .end .0) ⌝ }
     ensures { λ r. ⌜ LastBefore (now (t .entry)) (field .number) level (blocks .first .0) (blocks .end .0) j (r .0) ⌝ }
 {
     let last = blocks.end.0;
     let mut i: u32 = blocks.first.0;
-    while i + 1 < last {
-        let next = record::before(t, field.size, level, BlockNumber(i + 1), field.number) as u64;
-        if j <= next {
-            return BlockNumber(i);
-        }
-        i += 1;
+    let mut k: u32 = i + 1;
+    let mut going: u32 = 1;
+    while k < last {
+        let next = record::before(t, field.size, level, BlockNumber(k), field.number) as u64;
+        going = going * is_below(next, j);
+        i += going;
+        k += 1;
     }
     BlockNumber(i)
 }
@@ -347,11 +361,12 @@ fn to_kept(
 }
 
 // From a kept block to the child that holds its j-th byte.
-fn kept_step(t: &[u8], field: CountField, on: LevelAt, block: BlockNumber, j: u64, way: u64) -> u64
-    requires { ⌜ (KeptIn (now t) (field .size) (on .level) (on .b) (block .0)) × (Seeking (now t) field (on .level) (on .b) j way (2 * on .level + 1)) ⌝ }
-    ensures { λ r. ⌜ FoundIn (now (t .entry)) (field .number) (on .level) (block .0) j way r ⌝ }
+fn kept_step(t: &&[u8], field: CountField, on: LevelAt, block: BlockNumber, j: u64, way: u64) -> u64
+    requires { ⌜ (KeptIn (now (now t)) (field .size) (on .level) (on .b) (block .0))
+        × (Seeking (now (now t)) field (on .level) (on .b) j way (2 * on .level + 1)) ⌝ }
+    ensures { λ r. ⌜ FoundIn (now (now (t .entry))) (field .number) (on .level) (block .0) j way r ⌝ }
 {
-    let tree = fields::reborrow(t);
+    let tree = *t;
     let shape = fields::shape_of(tree);
     let down = on.level + 1;
     if down == shape.levels {
@@ -367,27 +382,28 @@ fn kept_step(t: &[u8], field: CountField, on: LevelAt, block: BlockNumber, j: u6
         level: down,
         b: below,
     };
-    pointing_step(tree, field, under, i, rest, further)
+    pointing_step(t, field, under, i, rest, further)
 }
 
 // From a pointing block to the target that contains its j-th occurrence; on the last level no block points.
 fn pointing_step(
-    t: &[u8],
+    t: &&[u8],
     field: CountField,
     on: LevelAt,
     block: BlockNumber,
     j: u64,
     way: u64,
 ) -> u64
-    requires { ⌜ (InTable (now t) (field .size) (on .level) (on .b) (block .0)) × (Seeking (now t) field (on .level) (on .b) j way (2 * on .level)) ⌝ }
-    ensures { λ r. ⌜ FoundIn (now (t .entry)) (field .number) (on .level) (block .0) j way r ⌝ }
+    requires { ⌜ (InTable (now (now t)) (field .size) (on .level) (on .b) (block .0))
+        × (Seeking (now (now t)) field (on .level) (on .b) j way (2 * on .level)) ⌝ }
+    ensures { λ r. ⌜ FoundIn (now (now (t .entry))) (field .number) (on .level) (block .0) j way r ⌝ }
 {
-    let tree = fields::reborrow(t);
+    let tree = *t;
     let there = to_kept(tree, field, on, block, j, way);
     let Landing::At(i, rest, further) = there else {
         return BROKEN;
     };
-    kept_step(tree, field, on, i, rest, further)
+    kept_step(t, field, on, i, rest, further)
 }
 
 // The block of level 0 that contains the j-th occurrence in the text.
@@ -415,13 +431,14 @@ pub fn text_place(n: u32, word: u64) -> FindAnswer
 }
 
 // The word for the j-th occurrence in the text, from its block of level 0 on.
-pub fn word_in(t: &[u8], field: CountField, b: u32, block: BlockNumber, j: u32) -> u64
-    requires { ⌜ (OnLevel (now t) (field .size) 0 b) × (field .number < at.countedCount (now t)) × (1 ≤ j) × (j ≤ total (now t) (field .number))
-        × (Stopped (now t) (field .number) j (block .0)) ⌝ }
-    ensures { λ r. ⌜ SoughtIn (now (t .entry)) (byteOf (now (t .entry)) (field .number)) (field .number) j (block .0)
-        (placedIn (at.textLength (now (t .entry))) r) ⌝ }
+pub fn word_in(t: &&[u8], field: CountField, b: u32, block: BlockNumber, j: u32) -> u64
+    requires { ⌜ (OnLevel (now (now t)) (field .size) 0 b) × (field .number < at.countedCount (now (now t))) × (1 ≤ j)
+        × (j ≤ total (now (now t)) (field .number))
+        × (Stopped (now (now t)) (field .number) j (block .0)) ⌝ }
+    ensures { λ r. ⌜ SoughtIn (now (now (t .entry))) (byteOf (now (now (t .entry))) (field .number)) (field .number) j (block .0)
+        (placedIn (at.textLength (now (now (t .entry)))) r) ⌝ }
 {
-    let rest = rest_in(t, field, 0, block, j as u64);
+    let rest = rest_in(*t, field, 0, block, j as u64);
     if rest == 0 {
         return BROKEN;
     }
@@ -440,5 +457,5 @@ pub fn seek(t: &[u8], h: Header, wanted: CountedByte, j: u32) -> FindAnswer
         number: wanted.number,
     };
     let block = first_block(t, field, j as u64);
-    text_place(h.text_length, word_in(t, field, h.top_length, block, j))
+    text_place(h.text_length, word_in(&t, field, h.top_length, block, j))
 }

@@ -1,6 +1,5 @@
 // The walk along the path of a place. The steps of kept and pointing blocks are mutually recursive. Their measure is 2 × (levels left), plus 1
 // while a pointer can be followed. A step carries no header and returns one word.
-use layout::header::Header;
 use layout::place::BlockNumber;
 use layout::place::BlockPlace;
 use layout::place::LevelAt;
@@ -11,7 +10,7 @@ use walk_steps::fields;
 ghost use mathlib.Core.Path.{_≡_};
 ghost use Prim.Native.Nat.{_+_, _-_, _*_, _≤_, _<_};
 ghost use Rattle.format.specs.Layout as at;
-ghost use Rattle.layout.specs.HeaderFields.{HeaderOf};
+ghost use Rattle.walk_steps.specs.Steps.{OnLevel};
 ghost use Rattle.format.specs.Layout.{maxText, maxLevels};
 ghost use Rattle.walk_path.specs.Above.{aboveFrom, aboveOf};
 ghost use Rattle.walk_path.specs.Walk.{KeptAt, MayPoint, walked, walkedIn, onward, landingAt};
@@ -66,7 +65,7 @@ fn packed(block: BlockNumber, place: BlockPlace, trail: WalkState) -> u64
 }
 
 // The walk that such a word represents.
-fn unpacked(word: u64) -> WalkAnswer
+pub fn unpacked(word: u64) -> WalkAnswer
     ensures { λ r. ⌜ r ≡ walkedIn word ⌝ }
 {
     if word == BROKEN {
@@ -111,18 +110,19 @@ fn to_kept(
 
 // From a kept block above the last level to the child that contains the place. The walk ends on the last level, where no block points.
 fn kept_step(
-    t: &[u8],
+    t: &&[u8],
     size: u32,
     on: LevelAt,
     block: BlockNumber,
     place: BlockPlace,
     trail: WalkState,
 ) -> u64
-    requires { ⌜ (KeptAt (now t) size (on .level) (on .b) (block .0) (place .0) (trail .entered)) × (on .level + 1 < at.settings (now t) .levels) ⌝ }
-    ensures { λ r. ⌜ walkedIn r ≡ walked (now (t .entry)) trail
-        (aboveFrom (now (t .entry)) (at.settings (now (t .entry)) .levels - 1 - on .level) (on .level) (block .0) (place .0)) ⌝ }
+    requires { ⌜ (KeptAt (now (now t)) size (on .level) (on .b) (block .0) (place .0) (trail .entered))
+        × (on .level + 1 < at.settings (now (now t)) .levels) ⌝ }
+    ensures { λ r. ⌜ walkedIn r ≡ walked (now (now (t .entry))) trail
+        (aboveFrom (now (now (t .entry))) (at.settings (now (now (t .entry))) .levels - 1 - on .level) (on .level) (block .0) (place .0)) ⌝ }
 {
-    let tree = fields::reborrow(t);
+    let tree = *t;
     let shape = fields::shape_of(tree);
     let below = walk_steps::quotient(on.b, shape.arity);
     let further = trail.enter(on.b, place);
@@ -138,59 +138,51 @@ fn kept_step(
         level: down,
         b: below,
     };
-    pointing_step(tree, size, under, i, p, further)
+    pointing_step(t, size, under, i, p, further)
 }
 
 // From a block above the last level, at which a pointer may still be followed. The one call of the step for a kept block lets the compiler join
 // the two steps.
 fn pointing_step(
-    t: &[u8],
+    t: &&[u8],
     size: u32,
     on: LevelAt,
     block: BlockNumber,
     place: BlockPlace,
     trail: WalkState,
 ) -> u64
-    requires { ⌜ (MayPoint (now t) size (on .level) (on .b) (block .0) (place .0) (trail .entered)) × (on .level + 1 < at.settings (now t) .levels) ⌝ }
-    ensures { λ r. ⌜ walkedIn r ≡ walked (now (t .entry)) trail
-        (aboveFrom (now (t .entry)) (at.settings (now (t .entry)) .levels - 1 - on .level) (on .level) (block .0) (place .0)) ⌝ }
+    requires { ⌜ (MayPoint (now (now t)) size (on .level) (on .b) (block .0) (place .0) (trail .entered))
+        × (on .level + 1 < at.settings (now (now t)) .levels) ⌝ }
+    ensures { λ r. ⌜ walkedIn r ≡ walked (now (now (t .entry))) trail
+        (aboveFrom (now (now (t .entry))) (at.settings (now (now (t .entry))) .levels - 1 - on .level) (on .level) (block .0) (place .0)) ⌝ }
 {
-    let tree = fields::reborrow(t);
+    let tree = *t;
     let there = to_kept(tree, size, on, block, place, trail);
     let Landing::At(i, p, further) = there else {
         return BROKEN;
     };
-    kept_step(tree, size, on, i, p, further)
+    kept_step(t, size, on, i, p, further)
 }
 
-// The path of a place of the text down to the last level. The bytes left at its start are those of the text.
-pub fn walk(t: &[u8], h: Header, at: TextPlace) -> WalkAnswer
-    requires { ⌜ (HeaderOf (now t) h) × (at .0 < h .«text_length») ⌝ }
-    ensures { λ r. ⌜ r ≡ walked (now (t .entry)) (record { entered = 0; left = h .«text_length» - at .0 }) (aboveOf (now (t .entry)) (at .0)) ⌝ }
+// The size of a record, and the block length of level 0.
+pub struct TopLevel {
+    pub size: u32,
+    pub b: u32,
+}
+
+// The path of a place of the text down to the last level, as a word; `left` bytes are left at its start.
+pub fn walk(t: &&[u8], top: TopLevel, p: TextPlace, left: u32) -> u64
+    requires { ⌜ (OnLevel (now (now t)) (top .size) 0 (top .b)) × (p .0 < at.textLength (now (now t))) × (left ≤ maxText) ⌝ }
+    ensures { λ r. ⌜ walkedIn r ≡ walked (now (now (t .entry))) (record { entered = 0; left = left }) (aboveOf (now (now (t .entry))) (p .0)) ⌝ }
 {
-    let trail = WalkState {
-        entered: 0,
-        left: h.text_length - at.0,
-    };
-    let spot = walk_steps::top_spot(at, h.top_length);
+    let trail = WalkState { entered: 0, left };
+    let spot = walk_steps::top_spot(p, top.b);
     let block = spot.block;
     let place = spot.place;
-    if h.settings.levels == 1 {
-        return WalkAnswer::At(PathEnd {
-            block,
-            place,
-            trail,
-        });
+    let shape = fields::shape_of(*t);
+    if shape.levels == 1 {
+        return packed(block, place, trail);
     }
-    unpacked(pointing_step(
-        t,
-        h.record_size,
-        LevelAt {
-            level: 0,
-            b: h.top_length,
-        },
-        block,
-        place,
-        trail,
-    ))
+    let on = LevelAt { level: 0, b: top.b };
+    pointing_step(t, top.size, on, block, place, trail)
 }

@@ -5,9 +5,9 @@ use borrow.Fn.Kind.{PK}
 use borrow.Fn.Kinds.{In}
 use borrow.Fn.PlainCycle.{Measures, is, falls, and}
 
-module _ (ps : List (PK 1)) (μ : Measures 1 ps ℕ) (pre : In 1 ps) (t : ℕ) where
-  abbrev pub at-measure : In 1 ps
-  at-measure = and 1 ps (is 1 ps μ t) pre
+module _ {n : ℕ} (ps : List (PK n)) (μ : Measures n ps ℕ) (pre : In n ps) (t : ℕ) where
+  abbrev pub at-measure : In n ps
+  at-measure = and n ps (is n ps μ t) pre
 
-  abbrev pub below-measure : In 1 ps
-  below-measure = and 1 ps (falls 1 ps _<_ μ t) pre
+  abbrev pub below-measure : In n ps
+  below-measure = and n ps (falls n ps _<_ μ t) pre

@@ -1,5 +1,5 @@
 use mathlib.Core.List.{List}
-use mathlib.Core.Path.{_≡_, sym, ap, _∙_}
+use mathlib.Core.Path.{_≡_, refl, sym, ap, _∙_}
 use Prim.Native.Nat.{ℕ, _+_, _-_, _*_, _/_}
 use native.Mathlib.Omega.{arith}
 use borrow.Author.Needs.{needs}
@@ -13,7 +13,6 @@ use Rattle.walk_path.proofs.pointing_step.Kinds as pointing-step-kinds
 use Rattle.walk_path.proofs.+kept_step+pointing_step.Lts-pointing_step as pointing-step-lts
 use Rattle.walk_steps.proofs.child.Reads as child-reads
 use Rattle.walk_steps.proofs.fields.shape_of.Reads as shape-of-reads
-use Rattle.walk_steps.proofs.fields.reborrow.Reads as whole-reads
 use Rattle.walk_steps.proofs.quotient.Reads as quotient-reads
 use Rattle.walk_path.proofs.WalkState.enter.Reads as enter-reads
 use Rattle.walk_path.proofs.packed.Reads as packed-reads
@@ -25,16 +24,16 @@ use Rattle.walk_path.proofs.WalkLaws as laws
 use Rattle.walk_path.proofs.+kept_step+pointing_step.{statement}
 use Rattle.walk_path.proofs.+kept_step+pointing_step.Tie.{close}
 
-abbrev μ-kept-step : Measures 1 kept-step-kinds.ps ℕ
-μ-kept-step κs a = 2 * (at.settings (a .0 .now) .levels - 1 - a .1 .1 .0 .level)
+abbrev μ-kept-step : Measures 2 kept-step-kinds.ps ℕ
+μ-kept-step κs a = 2 * (at.settings (a .0 .now .now) .levels - 1 - a .1 .1 .0 .level)
 
-abbrev μ-pointing-step : Measures 1 pointing-step-kinds.ps ℕ
-μ-pointing-step κs a = 2 * (at.settings (a .0 .now) .levels - 1 - a .1 .1 .0 .level) + 1
+abbrev μ-pointing-step : Measures 2 pointing-step-kinds.ps ℕ
+μ-pointing-step κs a = 2 * (at.settings (a .0 .now .now) .levels - 1 - a .1 .1 .0 .level) + 1
 
-abbrev kept-step-at : ℕ → In 1 kept-step-kinds.ps
+abbrev kept-step-at : ℕ → In 2 kept-step-kinds.ps
 kept-step-at t = at-measure kept-step-kinds.ps μ-kept-step kept-step.Pre t
 
-abbrev pointing-step-at : ℕ → In 1 pointing-step-kinds.ps
+abbrev pointing-step-at : ℕ → In 2 pointing-step-kinds.ps
 pointing-step-at t = at-measure pointing-step-kinds.ps μ-pointing-step pointing-step.Pre t
 
 abbrev levels : List ℕ → ℕ
@@ -42,8 +41,6 @@ levels t = at.settings t .levels
 
 abbrev kept-claims : ℕ → kept-step-lts.Claims
 kept-claims t = (
-  whole-reads.Asked,
-  whole-reads.Learnt,
   shape-of-reads.Asked,
   shape-of-reads.Learnt,
   quotient-reads.Asked,
@@ -60,8 +57,6 @@ kept-claims t = (
 
 abbrev pointing-claims : ℕ → pointing-step-lts.Claims
 pointing-claims t = (
-  whole-reads.Asked,
-  whole-reads.Learnt,
   to-kept-reads.Asked,
   to-kept-reads.Learnt,
   below-measure kept-step-kinds.ps μ-kept-step kept-step.Pre t,
@@ -70,28 +65,22 @@ pointing-claims t = (
 
 -- After the look at a child: what was read of the tree, and the size of the blocks below.
 module _ {t : ℕ} (m : kept-step-lts.After-child (kept-claims t) (kept-step-at t) kept-step.Post) where
-  abbrev w : kept-step-lts.After-reborrow (kept-claims t) (kept-step-at t) kept-step.Post
-  w = m .before .before .before .before
-
   abbrev S : kept-step-lts.Start (kept-claims t) (kept-step-at t) kept-step.Post
-  S = w .before .before
+  S = m .before .before .before .before .before
 
-  x : Shapes (S .args .t .now) (m .before .before .before .shape-of .result)
-  x = shapes-on _ _ _ (w .reborrow .ensures) (m .before .before .before .shape-of .ensures)
+  x : Shapes (S .args .t .now .now) (m .before .before .before .shape-of .result)
+  x = shapes-on _ _ _ refl (m .before .before .before .shape-of .ensures)
 
-  above : S .args .on .level + 1 ≡ levels (S .args .t .now) → ⊥
+  above : S .args .on .level + 1 ≡ levels (S .args .t .now .now) → ⊥
   above last = omega (arith, S .pre .1 .1)
 
-  below : m .before .before .quotient .result ≡ S .args .on .b / at.settings (S .args .t .now) .arity
+  below : m .before .before .quotient .result ≡ S .args .on .b / at.settings (S .args .t .now .now) .arity
   below = m .before .before .quotient .ensures ∙ ap (λ (y : ℕ). S .args .on .b / y) (x .arity-is)
 
 -- After the look for a kept block.
 module _ {t : ℕ} (m : pointing-step-lts.After-to-kept (pointing-claims t) (pointing-step-at t) pointing-step.Post) where
-  abbrev tree : pointing-step-lts.After-reborrow (pointing-claims t) (pointing-step-at t) pointing-step.Post
-  tree = m .before
-
   abbrev from : pointing-step-lts.Start (pointing-claims t) (pointing-step-at t) pointing-step.Post
-  from = tree .before .before
+  from = m .before .before
 
 pub +kept-step+pointing-step-spec : {M : Type 1} → statement M
 +kept-step+pointing-step-spec =
@@ -99,35 +88,31 @@ pub +kept-step+pointing-step-spec : {M : Type 1} → statement M
     (λ t. kept-step-lts.spec (kept-claims t)
     (kept-step-at t)
     kept-step.Post
-    (λ c κs. search needs)
-    (λ c κs. rw (c .reborrow .ensures) (c .before .before .pre .1 .0 .on .facts .long))
-    (λ c κs.
-    let w = c .before in
-    omega (arith, shapes-on _ _ _ (w .reborrow .ensures) (c .shape-of .ensures) .arity-is, w .before .before .pre .1 .0 .on .facts .bounds .arity-low))
-    (λ c κs. let k = c .before .before .before .before .pre .1 .0 in (laws.entered-fits _ _ _ _ _ _ _ k, k .place-in))
+    (λ c κs. c .before .pre .1 .0 .on .facts .long)
+    (λ c κs. omega (arith, shapes-on _ _ _ refl (c .shape-of .ensures) .arity-is, c .before .before .pre .1 .0 .on .facts .bounds .arity-low))
+    (λ c κs. let k = c .before .before .before .pre .1 .0 in (laws.entered-fits _ _ _ _ _ _ _ k, k .place-in))
     (λ c κs.
     let s = c .before .before in
-    let w = s .before in
-    let S = w .before .before in
-    let x = shapes-on _ _ _ (w .reborrow .ensures) (s .shape-of .ensures) in
-    rw (w .reborrow .ensures) (laws.asks-child _ _ _ _ _ _ _ (S .pre .1 .0) (λ last. omega (arith, S .pre .1 .1))
-    _ (c .before .quotient .ensures ∙ ap (λ (y : ℕ). S .args .on .b / y) (x .arity-is))))
+    let S = s .before .before in
+    let x = shapes-on _ _ _ refl (s .shape-of .ensures) in
+    laws.asks-child _ _ _ _ _ _ _ (S .pre .1 .0) (λ last. omega (arith, S .pre .1 .1))
+    _ (c .before .quotient .ensures ∙ ap (λ (y : ℕ). S .args .on .b / y) (x .arity-is)))
     (λ c. search needs)
     (λ c. search needs)
     (λ c.
     let m = c .before .before in
     sym laws.broken-word ∙ laws.child-none _ _ _ _ _ _ _ (S m .pre .1 .0)
     (above m) _ (below m)
-    _ (m .before .enter .ensures) _ (rw (w m .reborrow .ensures) at (m .child .ensures)) (c .enum-told .given .1))
-    (λ c. let S = c .before .before .before .before .before .before .before .before .before .before in
+    _ (m .before .enter .ensures) _ (m .child .ensures) (c .enum-told .given .1))
+    (λ c. let S = c .before .before .before .before .before .before .before .before .before in
     record { fits = omega (arith, S .pre .1 .1, S .pre .1 .0 .on .facts .bounds .levels-high) })
-    (λ c. let S = c .before .before .before .before .before .before .before .before .before .before in
+    (λ c. let S = c .before .before .before .before .before .before .before .before .before in
     record { fits = omega (arith, S .pre .1 .1, S .pre .1 .0 .on .facts .bounds .levels-high) })
     (λ c κs.
     let m = c .before .before .before .before .before .before in
     let may = laws.child-may _ _ _ _ _ _ _ (S m .pre .1 .0) (above m)
     _ (below m)
-    _ (m .before .enter .ensures) _ (rw (w m .reborrow .ensures) at (m .child .ensures)) _ _ (c .before .before .before .before .child2 .given .1) in
+    _ (m .before .enter .ensures) _ (m .child .ensures) _ _ (c .before .before .before .before .child2 .given .1) in
     let f = laws.last-fits _ _ _ _ _ _ (m .before .enter .result) may (c .if1 .taken ∙ x m .levels-is)
     (rw (x m .offset-is) at (m .before .before .before .shape-of .ok .1 .1 .1 .1 .1 .0 .1)) in
     (f .0, f .1, f .2, laws.left-fits _ _ _ _ _ _ _ (S m .pre .1 .0) _ (m .before .enter .ensures)))
@@ -135,39 +120,38 @@ pub +kept-step+pointing-step-spec : {M : Type 1} → statement M
     let m = c .before .before .before .before .before .before .before in
     let may = laws.child-may _ _ _ _ _ _ _ (S m .pre .1 .0) (above m)
     _ (below m)
-    _ (m .before .enter .ensures) _ (rw (w m .reborrow .ensures) at (m .child .ensures)) _ _ (c .before .before .before .before .before .child2 .given .1) in
-    laws.child-by _ _ _ _ _ _ _ (S m .pre .1 .0) (above m) _ (below m) _ (m .before .enter .ensures) _ (rw (w m .reborrow .ensures) at (m .child .ensures))
+    _ (m .before .enter .ensures) _ (m .child .ensures) _ _ (c .before .before .before .before .before .child2 .given .1) in
+    laws.child-by _ _ _ _ _ _ _ (S m .pre .1 .0) (above m) _ (below m) _ (m .before .enter .ensures) _ (m .child .ensures)
     _ _ _ (c .before .before .before .before .before .child2 .given .1)
     (laws.last-walked _ _ _ _ _ _ (m .before .enter .result) may (c .before .if1 .taken ∙ x m .levels-is) _ (c .packed .ensures)))
     (λ c κs.
     let m = c .before .before .before .before .before .before in
     let may = laws.child-may _ _ _ _ _ _ _ (S m .pre .1 .0) (above m)
     _ (below m)
-    _ (m .before .enter .ensures) _ (rw (w m .reborrow .ensures) at (m .child .ensures)) _ _ (c .before .before .before .before .child2 .given .1) in (
-      omega (arith, S m .pre .0, ap levels (w m .reborrow .ensures), S m .pre .1 .1),
-      rw (w m .reborrow .ensures) (may, omega (arith, may .on .level-in, c .if1 .left, x m .levels-is)),
+    _ (m .before .enter .ensures) _ (m .child .ensures) _ _ (c .before .before .before .before .child2 .given .1) in (
+      omega (arith, S m .pre .0, S m .pre .1 .1),
+      (may, omega (arith, may .on .level-in, c .if1 .left, x m .levels-is)),
     ))
     (λ c.
     let m = c .before .before .before .before .before .before .before in
-    laws.child-by _ _ _ _ _ _ _ (S m .pre .1 .0) (above m) _ (below m) _ (m .before .enter .ensures) _ (rw (w m .reborrow .ensures) at (m .child .ensures))
-    _ _ _ (c .before .before .before .before .before .child2 .given .1) (rw (w m .reborrow .ensures) at (c .pointing-step .ensures))))
+    laws.child-by _ _ _ _ _ _ _ (S m .pre .1 .0) (above m) _ (below m) _ (m .before .enter .ensures) _ (m .child .ensures)
+    _ _ _ (c .before .before .before .before .before .child2 .given .1) (c .pointing-step .ensures)))
     (λ t. pointing-step-lts.spec (pointing-claims t)
     (pointing-step-at t)
     pointing-step.Post
-    (λ c κs. search needs)
-    (λ c κs. rw (c .reborrow .ensures) (c .before .before .pre .1))
+    (λ c κs. c .before .pre .1)
     (λ c. search needs)
     (λ c. search needs)
     (λ c.
     let m = c .before .before in
     sym laws.broken-word
-    ∙ laws.landed-off _ _ _ _ _ _ _ (from m .pre .1 .0) (from m .pre .1 .1) _ (rw (tree m .reborrow .ensures) at (m .to-kept .ensures))
+    ∙ laws.landed-off _ _ _ _ _ _ _ (from m .pre .1 .0) (from m .pre .1 .1) _ (m .to-kept .ensures)
     (c .enum-told .given .1))
     (λ c κs.
     let m = c .before .before .before in (
-      omega (arith, from m .pre .0, ap levels (tree m .reborrow .ensures)),
-      rw (tree m .reborrow .ensures) (
-        laws.landed-kept _ _ _ _ _ _ _ (from m .pre .1 .0) (from m .pre .1 .1) _ (rw (tree m .reborrow .ensures) at (m .to-kept .ensures)) _ _ _
+      omega (arith, from m .pre .0),
+      (
+        laws.landed-kept _ _ _ _ _ _ _ (from m .pre .1 .0) (from m .pre .1 .1) _ (m .to-kept .ensures) _ _ _
             (c .before .there .given .1),
         from m .pre .1 .1,
       ),
@@ -175,5 +159,5 @@ pub +kept-step+pointing-step-spec : {M : Type 1} → statement M
     (λ c.
     let m = c .before .before .before .before in
     laws.landed-by _ _ _ _ _ _ _ (from m .pre .1 .0) (from m .pre .1 .1)
-    _ (rw (tree m .reborrow .ensures) at (m .to-kept .ensures)) _ _ _ (c .before .before .there .given .1) _
-    (rw (tree m .reborrow .ensures) at (c .kept-step .ensures))))
+    _ (m .to-kept .ensures) _ _ _ (c .before .before .there .given .1) _
+    (c .kept-step .ensures)))

@@ -28,18 +28,7 @@ header-settings-spec =
     (λ c. let w = c .before .before .before .before in let v = w .before .before in laws.wrong _ (laws.header-refused
     (v .before .before .before .before .before .before .args .t .now) _ _ _ _ (v .read3 .ensures) (w .before .read4 .ensures) (w .read5 .ensures)
     (v .before .before .read2 .ensures) (v .before .if2 .left) _ _ (c .before .before .new .ensures) (c .enum-told .given .1)))
-    (λ c κs. let w = c .before .before .before .before .before .before in
-    let v = w .before .before .before in laws.has-settings (v .before .before .before .before .args .t .now)
-    _ _ _ _ (w .before .read3 .ensures) (w .read4 .ensures) (c .before .before .before .before .before .read5 .ensures)
-    (v .read2 .ensures) (w .before .before .if2 .left) _ (v .before .before .read .ensures)
-    (v .before .if1 .left) _ _ (c .before .before .before .new .ensures) (c .before .checked .given .1) (v .before .before .before .before .pre))
-    (λ c. let w = c .before .before .before .before .before .before .before in
-    let v = w .before .before .before in laws.rest-wrong (v .before .before .before .before .before .args .t .now)
-    _ _ _ _ (w .before .before .read3 .ensures) (w .before .read4 .ensures) (w .read5 .ensures) (v .before .read2 .ensures) (v .if2 .left)
-    _ (v .before .before .before .read .ensures) (v .before .before .if1 .left) _ _ (c .before .before .before .before .before .new .ensures)
-    (c .before .before .before .checked .given .1) _ (c .before .rest-right .ensures) (not-true _ (c .if3 .taken)))
-    (λ c. let w = c .before .before .before .before .before .before .before in let v = w .before .before .before .before in
-    laws.rest-fine (v .before .before .before .before .args .t .now) _ _ _ _ (w .before .before .read3 .ensures)
+    (λ c. let w = c .before .before .before .before .before in let v = w .before .before .before .before in
+    laws.settings-fine (v .before .before .before .before .args .t .now) _ _ _ _ (w .before .before .read3 .ensures)
     (w .before .read4 .ensures) (w .read5 .ensures) (v .read2 .ensures) (w .before .before .before .if2 .left) _ (v .before .before .read .ensures)
-    (v .before .if1 .left) _ _ (c .before .before .before .before .before .new .ensures) (c .before .before .before .checked .given .1)
-    (v .before .before .before .before .pre) _ (c .before .rest-right .ensures) (not-false _ (c .if3 .left))))
+    (v .before .if1 .left) _ _ (c .before .before .before .new .ensures) (c .before .checked .given .1) (v .before .before .before .before .pre)))

@@ -1,4 +1,4 @@
-use mathlib.Core.Path.{refl}
+use mathlib.Core.Path.{refl, _∙_}
 use native.Mathlib.Omega.{arith}
 use borrow.Author.Needs.{needs}
 use Rattle.query_access.proofs.LeafEndLaws as laws
@@ -14,20 +14,20 @@ end-of-spec =
     (λ c. search needs)
     (λ c. let w = c .before .before in
     let pre = w .before .before .pre in
-    laws.end-broken _ _ _ (pre .0) (pre .1) _ (w .walk .ensures) (c .enum-told .given .1))
+    laws.end-broken _ _ _ (pre .0) (pre .1) _ (w .unpacked .ensures ∙ pre .2) (c .enum-told .given .1))
     (λ c. search needs)
     (λ c κs. let g = c .before .before .before .before in
     let w = g .before .before in
     let pre = w .before .before .pre in
-    laws.last-field _ _ (pre .0) _ 1 (laws.end-there _ _ _ (pre .0) (pre .1) _ (w .walk .ensures) _ (g .walked .given .1)) (omega arith))
+    laws.last-field _ _ (pre .0) _ 1 (laws.end-there _ _ _ (pre .0) (pre .1) _ (w .unpacked .ensures ∙ pre .2) _ (g .walked .given .1)) (omega arith))
     (λ c. let g = c .before .before .before .before .before .before in
     let w = g .before .before in
     let pre = w .before .before .pre in
-    laws.end-other _ _ _ (pre .0) (pre .1) _ (w .walk .ensures) _ (g .walked .given .1) _ (c .before .kind .ensures) (c .if1 .taken))
+    laws.end-other _ _ _ (pre .0) (pre .1) _ (w .unpacked .ensures ∙ pre .2) _ (g .walked .given .1) _ (c .before .kind .ensures) (c .if1 .taken))
     (λ c κs. let g = c .before .before .before .before .before .before in
     let w = g .before .before in
     let pre = w .before .before .pre in
-    laws.last-field _ _ (pre .0) _ 2 (laws.end-there _ _ _ (pre .0) (pre .1) _ (w .walk .ensures) _ (g .walked .given .1)) (omega arith))
+    laws.last-field _ _ (pre .0) _ 2 (laws.end-there _ _ _ (pre .0) (pre .1) _ (w .unpacked .ensures ∙ pre .2) _ (g .walked .given .1)) (omega arith))
     (λ c. search needs)
     (λ c. search needs)
     (λ c. search needs)
@@ -37,7 +37,7 @@ end-of-spec =
     let g = e .before .before .before .before .before .before in
     let w = g .before .before in
     let pre = w .before .before .pre in
-    laws.end-no-leaf _ _ _ (pre .0) (pre .1) _ (w .walk .ensures) _ (g .walked .given .1) _ (e .before .kind .ensures) (e .if1 .left)
+    laws.end-no-leaf _ _ _ (pre .0) (pre .1) _ (w .unpacked .ensures ∙ pre .2) _ (g .walked .given .1) _ (e .before .kind .ensures) (e .if1 .left)
     _ _ (l .link .ensures) refl (c .if2 .taken))
     (λ c. search needs)
     (λ c. let l = c .before .before .before .before .before in
@@ -46,7 +46,7 @@ end-of-spec =
     let w = g .before .before in
     let pre = w .before .before .pre in
     record {
-      fits = laws.end-entered-fits _ _ _ (pre .0) (pre .1) _ (w .walk .ensures) _ (g .walked .given .1) _ (e .before .kind .ensures) (e .if1 .left)
+      fits = laws.end-entered-fits _ _ _ (pre .0) (pre .1) _ (w .unpacked .ensures ∙ pre .2) _ (g .walked .given .1) _ (e .before .kind .ensures) (e .if1 .left)
           _ _ (l .link .ensures) refl (c .before .if2 .left);
     })
     (λ c. let l = c .before .before .before .before .before in
@@ -54,5 +54,5 @@ end-of-spec =
     let g = e .before .before .before .before .before .before in
     let w = g .before .before in
     let pre = w .before .before .pre in
-    laws.end-found _ _ _ (pre .0) (pre .1) _ (w .walk .ensures) _ (g .walked .given .1) _ (e .before .kind .ensures) (e .if1 .left)
+    laws.end-found _ _ _ (pre .0) (pre .1) _ (w .unpacked .ensures ∙ pre .2) _ (g .walked .given .1) _ (e .before .kind .ensures) (e .if1 .left)
     _ _ (l .link .ensures) refl (c .before .if2 .left)))

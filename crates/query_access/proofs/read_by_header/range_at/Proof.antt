@@ -14,4 +14,4 @@ range-at-spec =
     (λ c. (refl, laws.range-refused _ _ _ _ (c .before .before .leaf-range .ensures) (c .enum-told .given .1)))
     (λ c. search needs)
     (λ c. let w = c .before in let r = w .before .before .before in
-    laws.found-range _ _ _ _ (r .leaf-range .ensures) (r .before .before .pre .0 .passes) _ (w .before .found .given .1)))
+    laws.found-range _ _ _ _ (r .leaf-range .ensures) (r .before .before .before .pre .0 .passes) _ (w .before .found .given .1)))

@@ -18,11 +18,11 @@ find-guided-at-spec =
     (λ c. let e = c .before .before .before in
     laws.guided-refused _ _ _ _ _ (first.number-past _ _ (e .before .before .before .before .before .pre)
     _ _ _ (e .before .before .number-of .ensures .0) (e .if1 .left) _ (c .before .total .ensures) (c .if3 .taken)) (omega arith))
-    (λ c κs. let e = c .before .before .before in
+    (λ c κs. let e = c .before .before .before .before in
     first.seek-ready _ _ (e .before .before .before .before .before .pre) _ _ _ (e .before .before .number-of .ensures .0)
-    (e .if1 .left) _ (c .before .total .ensures) (omega (arith, c .before .before .if2 .left)) (c .if3 .left))
-    (λ c. let e = c .before .before .before .before in
+    (e .if1 .left) _ (c .before .before .total .ensures) (omega (arith, c .before .before .before .if2 .left)) (c .before .if3 .left))
+    (λ c. let e = c .before .before .before .before .before in
     laws.guided-sought _ _ _ _ _ _ (e .before .before .number-of .ensures .0)
     (first.asked-none _ _ (e .before .before .before .before .before .pre) _ _ _ (e .before .before .number-of .ensures .0)
-    (e .if1 .left) _ (c .before .before .total .ensures) (omega (arith, c .before .before .before .if2 .left)) (c .before .if3 .left))
+    (e .if1 .left) _ (c .before .before .before .total .ensures) (omega (arith, c .before .before .before .before .if2 .left)) (c .before .before .if3 .left))
     (c .guided .ensures .0) (c .guided .ensures .1)))

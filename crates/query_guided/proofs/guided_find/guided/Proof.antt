@@ -37,7 +37,7 @@ guided-spec =
       p .1,
       p .3,
       p .4,
-      laws.stops (a .t .now) (a .guide .now) (a .wanted .byte)
+      laws.stops (a .t .now .now) (a .guide .now) (a .wanted .byte)
           _ _ (p .1) (p .3) (p .4) _ (ap (λ (k : ℕ). k + lastEntry (c .before .before .before .before .before .before .before .before .args .j))
           (c .before .before .before .before .before .entries-before .ensures .0))
           _ _ _ (c .before .before .before .read .ensures) (c .block-from .ensures .0) (c .block-from .ensures .1),
@@ -52,7 +52,7 @@ guided-spec =
     let p = w .pre in
     let said = f .text-place .ensures in
     let z = sought-by _ _ _ _ _ _ _ _ (p .0 .length-is) (p .2) (said .0) (f .before .word-in .ensures) in (
-      rw (c .with-steps .ensures) (laws.sought-by (a .t .now) (a .guide .now) (a .wanted .byte) _ _ (p .1)
+      rw (c .with-steps .ensures) (laws.sought-by (a .t .now .now) (a .guide .now) (a .wanted .byte) _ _ (p .1)
           (p .3) (p .4) _ (ap (λ (k : ℕ). k + lastEntry (w .args .j)) (b .before .before .before .before .before .entries-before .ensures .0))
           _ _ _ (b .before .before .before .read .ensures)
           (b .block-from .ensures .0) (b .block-from .ensures .1) (f .text-place .result) (said .1) z),

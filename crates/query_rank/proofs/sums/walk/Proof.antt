@@ -19,12 +19,12 @@ walk-spec =
       S .pre .2,
     ))
     (λ c κs.
-    let S = c .before .before .before in (
-      laws.first-may _ _ 0 0 _ _ (on-top _ _ (S .pre .0)) _ (c .before .top-spot .ensures)
-          (c .start .result) (laws.start-entered _ _ _ _ (c .start .ensures .0)) (omega (arith, S .pre .0 .length-is, S .pre .1)),
-      c .start .ensures .1,
+    let S = c .before .before .before .before in (
+      laws.first-may _ _ 0 0 _ _ (on-top _ _ (S .pre .0)) _ (c .before .before .top-spot .ensures)
+          (c .before .start .result) (laws.start-entered _ _ _ _ (c .before .start .ensures .0)) (omega (arith, S .pre .0 .length-is, S .pre .1)),
+      c .before .start .ensures .1,
     ))
     (λ c.
-    let S = c .before .before .before .before in
+    let S = c .before .before .before .before .before in
     laws.first-by _ _ _ _ _ _
-    (on-top _ _ (S .pre .0)) _ (c .before .before .top-spot .ensures) _ _ (c .before .start .ensures .0) (c .pointing-step .ensures)))
+    (on-top _ _ (S .pre .0)) _ (c .before .before .before .top-spot .ensures) _ _ (c .before .before .start .ensures .0) (c .pointing-step .ensures)))

@@ -9,19 +9,19 @@ use Rattle.query_rows.proofs.next_newline.next_newline.Statement.{state
 use Rattle.query_rows.proofs.next_newline.next_newline.Tie as tie
 
 abbrev Inv-loop : tie.InvT-loop
-Inv-loop t h at₀ earlier₀ first₀ at earlier first = (laws.NoneYet t at₀ at earlier) × (laws.RowFirst t at₀ at first)
+Inv-loop t h tree at₀ earlier₀ first₀ at earlier first = (laws.NoneYet (t .now) at₀ at earlier) × (laws.RowFirst (t .now) at₀ at first)
 
 abbrev μ-loop : tie.MeasureT-loop
-μ-loop t h at₀ earlier₀ first₀ at earlier first = at-tree.textLength t - at
+μ-loop t h tree at₀ earlier₀ first₀ at earlier first = at-tree.textLength (t .now) - at
 
 abbrev start : tie.After-known-told Inv-loop μ-loop → tie.Start Inv-loop μ-loop
 start c = c .before .before .before .before .before .before .before .before .before
 
 -- The range that was found, in the text.
 there : (c : tie.After-known-told Inv-loop μ-loop)
-    → (ReadsOn (start c .args .t .now) (c .before .before .before .before .before .before .loop .at)
+    → (ReadsOn (start c .args .t .now .now) (c .before .before .before .before .before .before .loop .at)
     (c .before .found .given .0 .0 .from) (c .before .found .given .0 .0 .length))
-    × (LeafRangeAt (start c .args .t .now) (c .before .before .before .before .before .before .loop .at) 32 (c .before .found .given .0 .0))
+    × (LeafRangeAt (start c .args .t .now .now) (c .before .before .before .before .before .before .loop .at) 32 (c .before .found .given .0 .0))
 there c =
     let f = c .before in
     laws.range-there _ _ (start c .pre .0) _ _ _ (f .before .before .leaf-range .ensures) _ (f .found .given .1)

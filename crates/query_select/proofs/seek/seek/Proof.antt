@@ -10,11 +10,11 @@ seek-spec =
     tie.close
     (tie.spec
     (λ c κs. let p = c .before .pre in (laws.full-level _ _ (p .0), p .1, omega (arith, p .3, p .4)))
-    (λ c κs. let p = c .before .before .pre in
-    (on-top _ _ (p .0), p .1, p .3, p .4, laws.stopped _ _ _ _ (p .1) (p .3) (c .first-block .ensures)))
+    (λ c κs. let p = c .before .before .before .pre in
+    (on-top _ _ (p .0), p .1, p .3, p .4, laws.stopped _ _ _ _ (p .1) (p .3) (c .before .first-block .ensures)))
     (λ c κs. search needs)
-    (λ c. let p = c .before .before .before .before .pre in (
-      laws.from-first _ _ _ _ (p .1) (p .3) (c .before .before .first-block .ensures) _ _
+    (λ c. let p = c .before .before .before .before .before .pre in (
+      laws.from-first _ _ _ _ (p .1) (p .3) (c .before .before .before .first-block .ensures) _ _
           (laws.sought-by _ _ _ _ _ _ _ _ (p .0 .length-is) (p .2) (c .text-place .ensures .0) (c .before .word-in .ensures)),
       c .text-place .ensures .1,
     )))
