@@ -1,9 +1,16 @@
 // Byte, run and span in a tree that passes questions 5 to 7, given its header.
 use crate::ByteAnswer;
 use crate::SpanAnswer;
+use crate::descent;
+use crate::descent::BufferPart;
+use crate::descent::Rules;
 use crate::leaf_end;
 use crate::leaf_end::LeafEndAnswer;
 use layout::header::Header;
+use layout::place::BlockNumber;
+use layout::place::BlockPlace;
+use layout::place::BlockPosition;
+use layout::place::LevelAt;
 use layout::place::TextPlace;
 use layout::settings::Settings;
 use walk_short::gather;
@@ -164,6 +171,9 @@ pub fn span_at(t: &[u8], h: Header, at: TextPlace, len: u32, buffer: &mut [u8]) 
     if is_short(h, len) {
         return short_span(t, h, at, len, buffer);
     }
+    if len < 64 {
+        return copy_on(t, h, no_run(), at, len, buffer);
+    }
     copy(t, h, at, len, buffer)
 }
 
@@ -198,7 +208,7 @@ fn short_span(t: &[u8], h: Header, at: TextPlace, len: u32, buffer: &mut [u8]) -
 }
 
 // Copies the first n bytes of a range to a place in the buffer. Their answers are those of one walk, so that the loop over them is a copy.
-fn copy_range(t: &[u8], run: LeafRun, n: u32, buffer: &mut [u8], to: usize) -> SpanAnswer
+pub fn copy_range(t: &[u8], run: LeafRun, n: u32, buffer: &mut [u8], to: usize) -> SpanAnswer
     requires { ⌜ (run .from + n ≤ length (now t)) × (to + n ≤ length (now buffer)) ⌝ }
     ensures { λ r. ⌜ r ≡ SpanAnswer.Bytes n 0 ⌝ }
     ensures { λ _. ⌜ now (buffer .exit) ≡ bytesWritten (now (buffer .entry)) to (now (t .entry)) (run .from) n ⌝ }
@@ -241,7 +251,28 @@ pub fn copy(t: &[u8], h: Header, at: TextPlace, len: u32, buffer: &mut [u8]) -> 
     ensures { λ r. ⌜ IsCopyAnswer (now (t .entry)) (at .0) len (length (now (buffer .entry))) r ⌝ }
     ensures { λ _. ⌜ now (buffer .exit) ≡ copyBuffer (now (t .entry)) (at .0) len (now (buffer .entry)) ⌝ }
 {
-    copy_on(t, h, no_run(), at, len, buffer)
+    let copied = descent::copy_segment(
+        &t,
+        Rules {
+            record_size: h.record_size,
+            pointers: 1,
+        },
+        LevelAt {
+            level: 0,
+            b: h.top_length,
+        },
+        BlockPosition {
+            block: BlockNumber(0),
+            place: BlockPlace(at.0),
+        },
+        BufferPart { to: 0, size: len },
+        buffer,
+    );
+    if !copied {
+        byte_slices::clear(buffer, len as usize);
+        return SpanAnswer::Refused(14);
+    }
+    SpanAnswer::Bytes(len, 0)
 }
 
 // The same, where some of the first bytes, or none, are known to be a range of the tree.

@@ -1,0 +1,30 @@
+use mathlib.Core.Path.{refl, sym, ap, _∙_}
+use Prim.Native.Nat.{ℕ, _+_}
+use native.Mathlib.Omega.{arith}
+use borrow.Author.Needs.{needs}
+use Rattle.walk_steps.proofs.StepLaws.{shapes}
+use Rattle.query_access.proofs.SegmentLaws as segments
+use Rattle.query_access.proofs.descent.copy_leaves.Statement.{statement}
+use Rattle.query_access.proofs.descent.copy_leaves.Tie as tie
+
+pub copy-leaves-spec : {M : Type 1} → statement M
+copy-leaves-spec =
+    tie.close
+    (tie.spec
+    (λ c κs. search needs)
+    (λ c. search needs)
+    (λ c. search needs)
+    (λ c. search needs)
+    (λ c. search needs)
+    (λ c. search needs)
+    (λ c. search needs)
+    (λ c. let x = shapes _ _ (c .before .before .before .before .before .shape-of .ensures) in
+    segments.leaves-missing _ _ _ _ _ _ _ _ (c .before .before .before .before .before .before .before .before .pre .2) refl (x .count-is) (c .if1 .taken))
+    (λ c. search needs)
+    (λ c. search needs)
+    (λ c. search needs)
+    (λ c κs. let x = shapes _ _ (c .before .before .before .before .before .before .before .before .shape-of .ensures) in
+    (omega (arith, c .before .before .before .if1 .left, x .count-is, x .offset-is, c .before .before .before .before .before .before .before .before .before .before .before .pre .0 .size), c .before .before .before .before .before .before .before .before .before .before .before .pre .3))
+    (λ c. search needs)
+    (λ c. let x = shapes _ _ (c .before .before .before .before .before .before .before .before .before .before .before .shape-of .ensures) in
+    segments.leaves-copied _ _ _ _ _ _ _ _ _ _ refl (x .count-is) (c .before .before .before .before .before .before .if1 .left) (ap (λ (y : ℕ). y + (c .before .before .before .before .before .before .before .before .before .before .before .before .before .before .args .from .block .0 + c .before .before .before .before .before .before .before .before .before .before .before .before .before .before .args .from .place .0)) (x .offset-is)) (c .before .before .copy-range .ensures .1)))
