@@ -31,7 +31,7 @@ use Rattle.query_access.specs.declared.descent.Segment.{Segment}
 use Rattle.query_access.specs.declared.descent.Piece.{Piece}
 use Rattle.query_access.specs.declared.descent.Piece.the-variants as piece
 use Rattle.query_access.proofs.LeafEndLaws.{kept-by, unkept-by, unkept-past}
-use Rattle.query_access.specs.Descent.{leafNumber, leafFrom, leafIn, fullWidth, KeptOn, SegmentAt, NextAt, IsNext}
+use Rattle.query_access.specs.Segments.{leafNumber, leafFrom, leafIn, fullWidth, KeptOn, SegmentAt, NextAt, IsNext}
 
 -- A place further on, in blocks of c bytes.
 past-div : (o d c : ℕ) → 0 < c → (o + d) / c ≡ o / c + (o % c + d) / c

@@ -11,23 +11,23 @@ use borrow.Author.Tests.{lt-ltb, le-ltb}
 use lib.Dec.{ltb}
 use lib.ListN.{length, getD, set, drop, replicate, length-set}
 use lib.Seq.{drop-set-lt}
+use Rattle.text.specs.Text.{tabulate}
 use Rattle.text.specs.ListLaws.{lt-or-ge, bool-cases}
 use Rattle.format.specs.Layout as at
+use Rattle.format.specs.Layout.{maxText}
 use Rattle.format.specs.LayoutLaws.{Readable}
 use Rattle.format.specs.TreeReading.{Path, provided, pathOf, pathFrom}
-use Rattle.format.specs.Answers.{Answer, byteOf, byteAnswer, pathsHold, replied, NeverZero}
+use Rattle.format.specs.Answers.{Answer, refused, byteOf, byteAnswer, pathsHold}
 use Rattle.theory_paths.specs.Links.{b, H}
 use Rattle.theory_paths.specs.PlaceBytes.{byte-path, hold-at}
 use Rattle.byte_slices.specs.ByteSlices.{bytesWritten}
 use Rattle.layout.specs.declared.header.Header.{Header}
 use Rattle.layout.specs.HeaderFields.{HeaderOf}
-use Rattle.query_access.specs.declared.SpanAnswer.the-variants as copied
-use Rattle.query_access.specs.ReadAnswers.{spanReply}
 use Rattle.query_access.specs.ReadByRuns.{placesWritten}
 use Rattle.query_access.specs.declared.descent.Segment.{Segment}
 use Rattle.query_access.specs.declared.descent.Piece.{Piece}
 use Rattle.query_access.specs.declared.descent.Piece.the-variants as piece
-use Rattle.query_access.specs.Descent.{leafNumber, hasLeaf, leafFrom, leafIn, leafValue, leavesWritten, SegmentCopied, SegmentAt, NextAt, IsNext}
+use Rattle.query_access.specs.Segments.{leafNumber, hasLeaf, leafFrom, leafIn, leafValue, leavesWritten, SegmentCopied, SegmentAt, NextAt, IsNext}
 use Rattle.query_access.proofs.SpanLaws.{ByPaths, values, span-broken}
 use Rattle.query_access.proofs.CopyLaws.{copy-known, copy-end}
 
@@ -70,7 +70,7 @@ module _ (t : List ℕ) where
   leaves-copied first place size to leaf count from d e leaf-is count-is fits from-is e-is =
       let each : (x : ℕ) → x < size → leafIn t 1 (H t) first (place + x) ≡ some (leaf + x) =
       λ x l. (let z : first + (place + x) ≡ leaf + x = omega arith in
-          leaf-at first (place + x) ∙ rw (z, lt-ltb (leaf + x) (at.leafCount t) (omega arith))) in
+      leaf-at first (place + x) ∙ rw (z, lt-ltb (leaf + x) (at.leafCount t) (omega arith))) in
       (e-is ∙ leaves-bytes d to size from leaf (λ x. leafIn t 1 (H t) first (place + x)) from-is each, λ x l. rw (each x l))
 
 -- The rest of a segment of blocks.
@@ -104,15 +104,15 @@ module _ (t : List ℕ) (p l first o most : ℕ) (x : Piece) (x-is : IsNext t p 
   next-none e = rw e at x-is
 
 -- The loop over a segment, from buffer d to buffer e, after some of its bytes.
-pub record Going (t : List ℕ) (p l first place to : ℕ) (d e : List ℕ) (done : ℕ) : Type 0 where
+pub record SegmentUpTo (t : List ℕ) (p l first place to : ℕ) (d e : List ℕ) (done : ℕ) : Type 0 where
   pub bytes : e ≡ leavesWritten t d to (λ x. leafIn t p l first (place + x)) done
   pub found : (x : ℕ) → x < done → hasLeaf (leafIn t p l first (place + x)) ≡ true
 
 module _ (t : List ℕ) (p l first place to : ℕ) (d : List ℕ) where
-  pub go-start : Going t p l first place to d d 0
+  pub go-start : SegmentUpTo t p l first place to d d 0
   go-start = record { bytes = refl; found = λ x less. absurd (let y : ⊥ = omega arith in y) }
 
-  module _ (e : List ℕ) (done : ℕ) (g : Going t p l first place to d e done) where
+  module _ (e : List ℕ) (done : ℕ) (g : SegmentUpTo t p l first place to d e done) where
     pub go-end : (size : ℕ) → done ≡ size → SegmentCopied t p l first place size to d e true
     unfolding SegmentCopied
     go-end size all = rw (← all) (g .bytes, g .found)
@@ -138,7 +138,7 @@ module _ (t : List ℕ) (p l first place to : ℕ) (d : List ℕ) where
             λ k past. z .1 k (omega (arith, next .at-most)) ∙ go-past k (omega (arith, next .at-most)),
           )
 
-      pub go-more : r ≡ true → Going t p l first place to d f (done + n)
+      pub go-more : r ≡ true → SegmentUpTo t p l first place to d f (done + n)
       unfolding SegmentCopied
       go-more all =
           let z = rw all at r-is in
@@ -153,3 +153,81 @@ module _ (t : List ℕ) (p l first place to : ℕ) (d : List ℕ) where
           each x less (inr new) =
               let y : done + (x - done) ≡ x = omega arith in
               rw (rw y at (same-at (x - done) (omega arith))) ((rw all at r-is) .1 (x - done) (omega arith))
+
+-- The whole text is a segment: the blocks of level 0.
+
+leaf-broken : (t : List ℕ) (o : Option Path) → leafNumber o ≡ none → byteOf t o .number ≡ 14
+leaf-broken t none e = refl
+leaf-broken t (some q) e = absurd (let z : _≡_ {A = ℕ} 0 1 = cc in omega arith)
+
+leaf-found : (t : List ℕ) (o : Option Path) → hasLeaf (leafNumber o) ≡ true → byteOf t o .number ≡ 0
+leaf-found t none e = absurd (let z : _≡_ {A = ℕ} 0 1 = cc in omega arith)
+leaf-found t (some q) e = refl
+
+leaf-value : (t : List ℕ) (o : Option Path) → leafValue t (leafNumber o) ≡ byteOf t o .value
+leaf-value t none = refl
+leaf-value t (some q) = refl
+
+leaves-places : (t d : List ℕ) (to p n : ℕ) (f : ℕ → Option ℕ) → ((x : ℕ) → x < n → leafValue t (f x) ≡ byteAnswer t (p + x) .value)
+    → leavesWritten t d to f n ≡ placesWritten d to t p n
+leaves-places t d to p zero f each = refl
+leaves-places t d to p (suc n) f each = rw (leaves-places t d to p n f (λ x l. each x (omega arith)), each n (omega arith))
+
+pub text-segment : (t : List ℕ) (h : Header) → HeaderOf t h → (p len : ℕ) → p + len ≤ h .«text_length»
+    → SegmentAt t 1 (h .«record_size») 0 (h .«top_length») p len × (0 + len ≤ maxText)
+text-segment t h k p len low = (
+  record {
+    facts = k .facts;
+    size-is = k .size-is;
+    level-in = omega arith;
+    b-is = λ more. k .block-is;
+    near = omega (arith, k .length-is, k .facts .bounds .text-high);
+    some-leaf = λ past. absurd (let y : ⊥ = omega (arith, k .facts .bounds .levels-low) in y);
+  },
+  omega (arith, k .length-is, k .facts .bounds .text-high),
+)
+
+module _ (t : List ℕ) (h : Header) (k : HeaderOf t h) (p len : ℕ) (low : p + len ≤ h .«text_length») (d : List ℕ) (room : len ≤ length d)
+    (e : List ℕ) (r : Bool) (r-is : SegmentCopied t 1 0 0 p len 0 d e r) where
+  leaf-text : (q : ℕ) → leafIn t 1 0 0 q ≡ leafNumber (pathOf t q)
+  unfolding leafIn leafFrom pathOf
+  leaf-text q =
+      let s : H t - 0 ≡ suc (H t - 1) = omega (arith, k .facts .bounds .levels-low) in
+      let z : 0 + q / b t 0 ≡ q / b t 0 = omega arith in
+      rw (s, z)
+
+  text-byte : (x : ℕ) → x < len → byteAnswer t (p + x) ≡ byteOf t (pathOf t (p + x))
+  text-byte x less = byte-path t (k .passes) (p + x) (omega (arith, k .length-is))
+
+  pub descent-copied : r ≡ true → ByPaths t p len d (record { number = 0; value = len; entered = 0 }) e
+  unfolding SegmentCopied
+  descent-copied all =
+      let z = rw all at r-is in
+      let good : (x : ℕ) → x < len → byteAnswer t (p + x) .number ≡ 0 =
+      λ x l. ap (λ (y : Answer). y .number) (text-byte x l)
+      ∙ leaf-found t (pathOf t (p + x)) (ap hasLeaf (sym (leaf-text (p + x))) ∙ z .1 x l) in
+      let same : (x : ℕ) → x < len → leafValue t (leafIn t 1 0 0 (p + x)) ≡ byteAnswer t (p + x) .value =
+      λ x l. ap (leafValue t) (leaf-text (p + x)) ∙ leaf-value t (pathOf t (p + x)) ∙ sym (ap (λ (y : Answer). y .value) (text-byte x l)) in
+      let c = copy-known t p len d room len (omega arith) good e (z .0 ∙ leaves-places t d 0 p len (λ x. leafIn t 1 0 0 (p + x)) same) in
+      copy-end t h p len k low d room len e c refl
+
+  pub descent-broken : r ≡ false → (z : List ℕ) → z ≡ replicate len 0 ++ drop len e → ByPaths t p len d (refused 14) z
+  unfolding SegmentCopied
+  descent-broken off z z-is =
+      span-broken t p len d (pathsHold t p len) (tabulate len (values t p)) 0 (k .passes) (omega (arith, k .length-is)) room z 14 refl
+      (sym (go (bool-cases (pathsHold t p len)))) (rw (missing .1 len (omega arith)) at z-is)
+    where
+      missing : ((x : ℕ) × (x < len) × (leafIn t 1 0 0 (p + x) ≡ none)) × ((j : ℕ) → 0 + len ≤ j → drop j e ≡ drop j d)
+      missing = rw off at r-is
+
+      x : ℕ
+      x = missing .0 .0
+
+      fourteen : byteAnswer t (p + x) .number ≡ 14
+      fourteen =
+          ap (λ (y : Answer). y .number) (text-byte x (missing .0 .1))
+          ∙ leaf-broken t (pathOf t (p + x)) (sym (leaf-text (p + x)) ∙ missing .0 .2)
+
+      go : (pathsHold t p len ≡ true) ⊎ (pathsHold t p len ≡ false) → pathsHold t p len ≡ false
+      go (inl hold) = absurd (let y : ⊥ = omega (arith, fourteen, hold-at t len p x hold (missing .0 .1)) in y)
+      go (inr no-path) = no-path

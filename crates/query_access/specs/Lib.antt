@@ -1,4 +1,4 @@
 pub mod ReadAnswers
 pub mod LeafEnds
 pub mod ReadByRuns
-pub mod Descent
+pub mod Segments

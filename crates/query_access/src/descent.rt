@@ -20,7 +20,7 @@ ghost use Rattle.format.specs.Layout.{maxText};
 ghost use Rattle.format.specs.LayoutLaws.{Readable};
 ghost use Rattle.format.specs.TreeReading.{keptBlock};
 ghost use Rattle.walk_steps.specs.Steps.{OnLevel, Pointing};
-ghost use Rattle.query_access.specs.Descent.{fullWidth, leafIn, KeptOn, SegmentAt, IsNext, SegmentCopied};
+ghost use Rattle.query_access.specs.Segments.{fullWidth, leafIn, KeptOn, SegmentAt, IsNext, SegmentCopied};
 
 // The size of a record, and 1 if a pointer may still be followed on this level, else 0.
 pub struct Rules {
@@ -102,9 +102,11 @@ fn kept_size(t: &[u8], size: u32, on: LevelAt, from: BlockPosition, most: u32) -
 // The children of a kept block and of those after it, or their leaf bytes.
 fn children(t: &[u8], size: u32, on: LevelAt, from: BlockPosition) -> Segment
     requires { ⌜ (OnLevel (now t) size (on .level) (on .b)) × (keptBlock (now t) (on .level) (from .block .0) ≡ true) ⌝ }
-    ensures { λ r. ⌜ r ≡ record { rules = record { «record_size» = size; pointers = 1 };
-        on = record { level = on .level + 1; b = on .b / fullWidth (now (t .entry)) (on .level) };
-        from = record { block = record { 0 = at.link (now (t .entry)) (on .level) (from .block .0) }; place = from .place } } ⌝ }
+    ensures { λ r. ⌜ r ≡ record {
+      rules = record { «record_size» = size; pointers = 1 };
+      on = record { level = on .level + 1; b = on .b / fullWidth (now (t .entry)) (on .level) };
+      from = record { block = record { 0 = at.link (now (t .entry)) (on .level) (from .block .0) }; place = from .place };
+    } ⌝ }
 {
     let place = from.place;
     let link = record::link(t, size, on.level, from.block);
@@ -128,10 +130,14 @@ fn children(t: &[u8], size: u32, on: LevelAt, from: BlockPosition) -> Segment
 // The targets of a pointing block.
 fn targets(t: &[u8], size: u32, on: LevelAt, from: BlockPosition) -> Segment
     requires { ⌜ Pointing (now t) size (on .level) (on .b) (from .block .0) (from .place .0) ⌝ }
-    ensures { λ r. ⌜ r ≡ record { rules = record { «record_size» = size; pointers = 0 };
-        on = on;
-        from = record { block = record { 0 = at.link (now (t .entry)) (on .level) (from .block .0) };
-            place = record { 0 = at.gap (now (t .entry)) (on .level) (from .block .0) + from .place .0 } } } ⌝ }
+    ensures { λ r. ⌜ r ≡ record {
+      rules = record { «record_size» = size; pointers = 0 };
+      on = on;
+      from = record {
+        block = record { 0 = at.link (now (t .entry)) (on .level) (from .block .0) };
+        place = record { 0 = at.gap (now (t .entry)) (on .level) (from .block .0) + from .place .0 };
+      };
+    } ⌝ }
 {
     let link = record::link(t, size, on.level, from.block);
     let gap = record::gap(t, size, on.level, from.block);
@@ -191,7 +197,13 @@ fn next_segment(t: &[u8], rules: Rules, on: LevelAt, from: BlockPosition, most: 
     let next = walk_steps::classify_next(t, rules.record_size, on, ahead, at.place);
     match next {
         BlockKind::Kept(block, place) => below(t, rules, on, BlockPosition { block, place }, most),
-        BlockKind::Points(block, place) => across(t, rules, on, BlockPosition { block, place }, most),
+        BlockKind::Points(block, place) => across(
+            t,
+            rules,
+            on,
+            BlockPosition { block, place },
+            most,
+        ),
         BlockKind::Off => Piece::Off,
     }
 }
@@ -217,7 +229,14 @@ fn copy_leaves(t: &[u8], from: BlockPosition, part: BufferPart, buffer: &mut [u8
 }
 
 // The bytes of a segment, which are in the segments below it or beside it.
-pub fn copy_segment(t: &&[u8], rules: Rules, on: LevelAt, from: BlockPosition, part: BufferPart, buffer: &mut [u8]) -> bool
+pub fn copy_segment(
+    t: &&[u8],
+    rules: Rules,
+    on: LevelAt,
+    from: BlockPosition,
+    part: BufferPart,
+    buffer: &mut [u8],
+) -> bool
     requires { ⌜ (SegmentAt (now (now t)) (rules .pointers) (rules .«record_size») (on .level) (on .b) (from .place .0) (part .size))
         × (part .to + part .size ≤ maxText) × (part .to + part .size ≤ length (now buffer)) ⌝ }
     ensures { λ r. ⌜ SegmentCopied (now (now (t .entry))) (rules .pointers) (on .level) (from .block .0) (from .place .0)

@@ -155,6 +155,9 @@ pub fn range_at(t: &[u8], h: Header, at: TextPlace, most: u32) -> RunRangeAnswer
     })
 }
 
+// Spans of fewer bytes have few ranges: a walk for each takes less time than a descent.
+const FEW: u32 = 64;
+
 // Span: questions 10 and 13; then a short span of a layout 2 tree by edges, any other span by the paths of its bytes.
 pub fn span_at(t: &[u8], h: Header, at: TextPlace, len: u32, buffer: &mut [u8]) -> SpanAnswer
     requires { ⌜ HeaderOf (now t) h ⌝ }
@@ -171,7 +174,7 @@ pub fn span_at(t: &[u8], h: Header, at: TextPlace, len: u32, buffer: &mut [u8]) 
     if is_short(h, len) {
         return short_span(t, h, at, len, buffer);
     }
-    if len < 64 {
+    if len < FEW {
         return copy_on(t, h, no_run(), at, len, buffer);
     }
     copy(t, h, at, len, buffer)
@@ -245,7 +248,7 @@ fn copy_run(
     copy_range(t, run, run.length, buffer, to)
 }
 
-// Copies range by range; where a byte is refused, the part asked for is left zero.
+// Copies by one descent; where a byte is refused, the part asked for is left zero.
 pub fn copy(t: &[u8], h: Header, at: TextPlace, len: u32, buffer: &mut [u8]) -> SpanAnswer
     requires { ⌜ (HeaderOf (now t) h) × (at .0 + len ≤ h .«text_length») × (len ≤ length (now buffer)) ⌝ }
     ensures { λ r. ⌜ IsCopyAnswer (now (t .entry)) (at .0) len (length (now (buffer .entry))) r ⌝ }
@@ -275,7 +278,7 @@ pub fn copy(t: &[u8], h: Header, at: TextPlace, len: u32, buffer: &mut [u8]) -> 
     SpanAnswer::Bytes(len, 0)
 }
 
-// The same, where some of the first bytes, or none, are known to be a range of the tree.
+// The same range by range, each by a walk, where some of the first bytes, or none, are known to be a range of the tree.
 pub fn copy_on(
     t: &[u8],
     h: Header,

@@ -42,7 +42,7 @@ claims t = (
 abbrev Inv-loop : copy-segment-lts.InvT-loop
 Inv-loop t rules on from part buffer₀ tree block done₀ buffer done =
     (done ≤ part .size) × (length buffer ≡ length buffer₀)
-    × segments.Going tree (rules .pointers) (on .level) (block .0) (from .place .0) (part .to) buffer₀ buffer done
+    × segments.SegmentUpTo tree (rules .pointers) (on .level) (block .0) (from .place .0) (part .to) buffer₀ buffer done
 
 abbrev μ-loop : copy-segment-lts.MeasureT-loop
 μ-loop t rules on from part buffer₀ tree block done₀ buffer done = part .size - done
@@ -56,37 +56,71 @@ pub +copy-segment-spec : {M : Type 1} → statement M
     Inv-loop
     μ-loop
     (λ c κs. c .before .before .pre .1 .0 .facts .long)
-    (λ c κs. let p = c .before .before .before .before .before .before .before .pre .1 in let x = shapes _ _ (c .before .before .before .before .shape-of .ensures) in (p .0 .facts, p .0 .near, p .0 .some-leaf (omega (arith, c .before .if1 .taken, x .levels-is)) .0, p .2))
+    (λ c κs. let at-shape-of = c .before .before .before .before in
+    let p = at-shape-of .before .before .before .pre .1 in let x = shapes _ _ (at-shape-of .shape-of .ensures) in
+    (p .0 .facts, p .0 .near, p .0 .some-leaf (omega (arith, c .before .if1 .taken, x .levels-is)) .0, p .2))
     (λ c. c .before .before .copy-leaves .kept .1 .1 .1 .0)
-    (λ c. let p = c .before .before .before .before .before .before .before .before .before .before .pre .1 in let x = shapes _ _ (c .before .before .before .before .before .before .before .shape-of .ensures) in segments.leaves-segment _ _ _ _ _ _ _ _ _ _ (c .before .before .before .before .if1 .taken ∙ x .levels-is)
-    (p .0 .some-leaf (omega (arith, c .before .before .before .before .if1 .taken, x .levels-is)) .1) (c .before .before .copy-leaves .ensures))
+    (λ c. let then1 = c .before .before .before .before in
+    let start = then1 .before .before .before .before .before .before in
+    let p = start .pre .1 in let x = shapes _ _ (then1 .before .before .before .shape-of .ensures) in
+    segments.leaves-segment _ _ _ _ _ _ _ _ _ _ (then1 .if1 .taken ∙ x .levels-is)
+    (p .0 .some-leaf (omega (arith, then1 .if1 .taken, x .levels-is)) .1) (c .before .before .copy-leaves .ensures))
     (λ c. (omega arith, refl, segments.go-start _ _ _ _ _ _ _))
-    (λ c. let p = c .before .before .before .before .before .before .before .before .before .before .before .pre .1 in record { fits = omega (arith, p .0 .near, c .before .if2 .taken) })
+    (λ c. let start = c .before .before .before .before .before .before .before .before .before .before .before in
+    let p = start .pre .1 in record { fits = omega (arith, p .0 .near, c .before .if2 .taken) })
     (λ c. omega (arith, c .before .before .if2 .taken))
-    (λ c κs. let p = c .before .before .before .before .before .before .before .before .before .before .before .before .pre .1 in let x = shapes _ _ (c .before .before .before .before .before .before .before .before .before .shape-of .ensures) in let low = segments.above _ _ (p .0 .level-in) (λ e. c .before .before .before .before .before .before .if1 .left (e ∙ sym (x .levels-is))) in (
-      segments.rest-at _ _ _ _ _ _ _ (p .0) low _ (c .before .before .if2 .taken),
+    (λ c κs. let then2 = c .before .before in
+    let else1 = then2 .before .before .before .before in
+    let start = else1 .before .before .before .before .before .before in
+    let p = start .pre .1 in let x = shapes _ _ (else1 .before .before .before .shape-of .ensures) in
+    let low = segments.above _ _ (p .0 .level-in) (λ e. else1 .if1 .left (e ∙ sym (x .levels-is))) in (
+      segments.rest-at _ _ _ _ _ _ _ (p .0) low _ (then2 .if2 .taken),
       low,
-      omega (arith, c .before .before .if2 .taken),
+      omega (arith, then2 .if2 .taken),
     ))
     (λ c. search needs)
     (λ c. search needs)
-    (λ c. c .before .before .before .before .before .before .before .loop .inv .1)
-    (λ c. let v = c .before .before .before .before .before .before .before .loop .inv in segments.go-off _ _ _ _ _ _ _ _ _ (v .2) _ (c .before .before .before .before .before .if2 .taken)
+    (λ c. let turn = c .before .before .before .before .before .before .before in
+    turn .loop .inv .1)
+    (λ c. let then2 = c .before .before .before .before .before in
+    let v = then2 .before .before .loop .inv in segments.go-off _ _ _ _ _ _ _ _ _ (v .2) _ (then2 .if2 .taken)
     (segments.next-none _ _ _ _ _ _ _ (c .before .before .next-segment .ensures) (c .enum-told .given .1)))
-    (λ c. let p = c .before .before .before .before .before .before .before .before .before .before .before .before .before .before .before .before .before .pre .1 in record { fits = omega (arith, p .1, c .before .before .before .before .before .before .before .if2 .taken) })
-    (λ c κs. let p = c .before .before .before .before .before .before .before .before .before .before .before .before .before .before .before .before .before .before .pre .1 in let v = c .before .before .before .before .before .before .before .before .before .before .loop .inv in let next = segments.next-at _ _ _ _ _ _ _ (c .before .before .before .before .before .next-segment .ensures) _ _ (c .before .before .before .found .given .1) in (
-      omega (arith, c .before .before .before .before .before .before .before .before .before .before .before .before .before .before .before .before .before .before .pre .0, next .falls),
-      (next .segment, omega (arith, p .1, next .at-most, c .before .before .before .before .before .before .before .before .if2 .taken), omega (arith, p .2, next .at-most, c .before .before .before .before .before .before .before .before .if2 .taken, v .1)),
+    (λ c. let then2 = c .before .before .before .before .before .before .before in
+    let start = then2 .before .before .before .before .before .before .before .before .before .before in
+    let p = start .pre .1 in record { fits = omega (arith, p .1, then2 .if2 .taken) })
+    (λ c κs. let at-next-segment = c .before .before .before .before .before in
+    let then2 = at-next-segment .before .before .before in
+    let start = then2 .before .before .before .before .before .before .before .before .before .before in
+    let p = start .pre .1 in let v = then2 .before .before .loop .inv in
+    let next = segments.next-at _ _ _ _ _ _ _ (at-next-segment .next-segment .ensures) _ _ (c .before .before .before .found .given .1) in (
+      omega (arith, start .pre .0, next .falls),
+      (next .segment, omega (arith, p .1, next .at-most, then2 .if2 .taken), omega (arith, p .2, next .at-most, then2 .if2 .taken, v .1)),
     ))
-    (λ c. c .before .before .before .copy-segment .kept .1 .1 .1 .1 .1 .0 ∙ c .before .before .before .before .before .before .before .before .before .before .before .before .before .before .loop .inv .1)
-    (λ c. let v = c .before .before .before .before .before .before .before .before .before .before .before .before .before .before .loop .inv in let next = segments.next-at _ _ _ _ _ _ _ (c .before .before .before .before .before .before .before .before .before .next-segment .ensures) _ _ (c .before .before .before .before .before .before .before .found .given .1) in segments.go-broken _ _ _ _ _ _ _ _ _ (v .2) _ _ _ next _ _ (c .before .before .before .copy-segment .ensures)
-    (not-true _ (c .if3 .taken)) _ (omega (arith, c .before .before .before .before .before .before .before .before .before .before .before .before .if2 .taken)))
-    (λ c. let p = c .before .before .before .before .before .before .before .before .before .before .before .before .before .before .before .before .before .before .before .before .before .before .pre .1 in let next = segments.next-at _ _ _ _ _ _ _ (c .before .before .before .before .before .before .before .before .before .next-segment .ensures) _ _ (c .before .before .before .before .before .before .before .found .given .1) in record { fits = omega (arith, p .1, next .at-most, c .before .before .before .before .before .before .before .before .before .before .before .before .if2 .taken) })
-    (λ c. let next = segments.next-at _ _ _ _ _ _ _ (c .before .before .before .before .before .before .before .before .before .next-segment .ensures) _ _ (c .before .before .before .before .before .before .before .found .given .1) in omega (arith, next .some-byte, c .before .before .before .before .before .before .before .before .before .before .before .before .if2 .taken))
-    (λ c. let v = c .before .before .before .before .before .before .before .before .before .before .before .before .before .before .loop .inv in let next = segments.next-at _ _ _ _ _ _ _ (c .before .before .before .before .before .before .before .before .before .next-segment .ensures) _ _ (c .before .before .before .before .before .before .before .found .given .1) in (
-      omega (arith, next .at-most, c .before .before .before .before .before .before .before .before .before .before .before .before .if2 .taken),
-      c .before .before .before .copy-segment .kept .1 .1 .1 .1 .1 .0 ∙ v .1,
-      segments.go-more _ _ _ _ _ _ _ _ _ (v .2) _ _ _ next _ _ (c .before .before .before .copy-segment .ensures) (not-false _ (c .if3 .left)),
+    (λ c. let turn = c .before .before .before .before .before .before .before .before .before .before .before .before .before .before in
+    c .before .before .before .copy-segment .kept .1 .1 .1 .1 .1 .0 ∙ turn .loop .inv .1)
+    (λ c. let at-found = c .before .before .before .before .before .before .before in
+    let then2 = at-found .before .before .before .before .before in
+    let v = then2 .before .before .loop .inv in
+    let next = segments.next-at _ _ _ _ _ _ _ (at-found .before .before .next-segment .ensures) _ _ (at-found .found .given .1) in
+    segments.go-broken _ _ _ _ _ _ _ _ _ (v .2) _ _ _ next _ _ (c .before .before .before .copy-segment .ensures)
+    (not-true _ (c .if3 .taken)) _ (omega (arith, then2 .if2 .taken)))
+    (λ c. let at-found = c .before .before .before .before .before .before .before in
+    let then2 = at-found .before .before .before .before .before in
+    let start = then2 .before .before .before .before .before .before .before .before .before .before in
+    let p = start .pre .1 in let next = segments.next-at _ _ _ _ _ _ _ (at-found .before .before .next-segment .ensures) _ _ (at-found .found .given .1) in
+    record { fits = omega (arith, p .1, next .at-most, then2 .if2 .taken) })
+    (λ c. let at-found = c .before .before .before .before .before .before .before in
+    let then2 = at-found .before .before .before .before .before in
+    let next = segments.next-at _ _ _ _ _ _ _ (at-found .before .before .next-segment .ensures) _ _ (at-found .found .given .1) in
+    omega (arith, next .some-byte, then2 .if2 .taken))
+    (λ c. let at-copy-segment = c .before .before .before in
+    let at-found = at-copy-segment .before .before .before .before in
+    let then2 = at-found .before .before .before .before .before in
+    let v = then2 .before .before .loop .inv in
+    let next = segments.next-at _ _ _ _ _ _ _ (at-found .before .before .next-segment .ensures) _ _ (at-found .found .given .1) in (
+      omega (arith, next .at-most, then2 .if2 .taken),
+      at-copy-segment .copy-segment .kept .1 .1 .1 .1 .1 .0 ∙ v .1,
+      segments.go-more _ _ _ _ _ _ _ _ _ (v .2) _ _ _ next _ _ (at-copy-segment .copy-segment .ensures) (not-false _ (c .if3 .left)),
     ))
     (λ c. c .before .before .loop .inv .1)
     (λ c. let v = c .before .before .loop .inv in segments.go-end _ _ _ _ _ _ _ _ _ (v .2) _ (omega (arith, v .0))))

@@ -11,5 +11,7 @@ below-spec =
     (λ c κs. let p = c .before .pre in (p .0, p .1, p .2, omega (arith, p .4)))
     (λ c κs. let p = c .before .before .pre in (p .0, p .1))
     (λ c κs. search needs)
-    (λ c. let p = c .before .before .before .before .pre in let k = p .0 in
-    laws.below-next _ (k .facts) _ (k .level-in) _ _ _ _ _ _ _ _ k (c .before .before .kept-size .ensures) (p .3) (c .min .ensures) (p .4) _ (c .before .children .ensures)))
+    (λ c. let start = c .before .before .before .before in
+    let p = start .pre in let k = p .0 in
+    laws.below-next _ (k .facts) _ (k .level-in) _ _ _ _ _ _ _ _ k (c .before .before .kept-size .ensures) (p .3) (c .min .ensures) (p .4) _
+    (c .before .children .ensures)))

@@ -18,13 +18,20 @@ copy-leaves-spec =
     (λ c. search needs)
     (λ c. search needs)
     (λ c. search needs)
-    (λ c. let x = shapes _ _ (c .before .before .before .before .before .shape-of .ensures) in
-    segments.leaves-missing _ _ _ _ _ _ _ _ (c .before .before .before .before .before .before .before .before .pre .2) refl (x .count-is) (c .if1 .taken))
+    (λ c. let at-shape-of = c .before .before .before .before .before in
+    let x = shapes _ _ (at-shape-of .shape-of .ensures) in
+    segments.leaves-missing _ _ _ _ _ _ _ _ (at-shape-of .before .before .before .pre .2) refl (x .count-is) (c .if1 .taken))
     (λ c. search needs)
     (λ c. search needs)
     (λ c. search needs)
-    (λ c κs. let x = shapes _ _ (c .before .before .before .before .before .before .before .before .shape-of .ensures) in
-    (omega (arith, c .before .before .before .if1 .left, x .count-is, x .offset-is, c .before .before .before .before .before .before .before .before .before .before .before .pre .0 .size), c .before .before .before .before .before .before .before .before .before .before .before .pre .3))
+    (λ c κs. let at-shape-of = c .before .before .before .before .before .before .before .before in
+    let start = at-shape-of .before .before .before in
+    let x = shapes _ _ (at-shape-of .shape-of .ensures) in
+    (omega (arith, c .before .before .before .if1 .left, x .count-is, x .offset-is, start .pre .0 .size), start .pre .3))
     (λ c. search needs)
-    (λ c. let x = shapes _ _ (c .before .before .before .before .before .before .before .before .before .before .before .shape-of .ensures) in
-    segments.leaves-copied _ _ _ _ _ _ _ _ _ _ refl (x .count-is) (c .before .before .before .before .before .before .if1 .left) (ap (λ (y : ℕ). y + (c .before .before .before .before .before .before .before .before .before .before .before .before .before .before .args .from .block .0 + c .before .before .before .before .before .before .before .before .before .before .before .before .before .before .args .from .place .0)) (x .offset-is)) (c .before .before .copy-range .ensures .1)))
+    (λ c. let else1 = c .before .before .before .before .before .before in
+    let at-shape-of = else1 .before .before .before .before .before in
+    let start = at-shape-of .before .before .before in
+    let x = shapes _ _ (at-shape-of .shape-of .ensures) in
+    segments.leaves-copied _ _ _ _ _ _ _ _ _ _ refl (x .count-is) (else1 .if1 .left)
+    (ap (λ (y : ℕ). y + (start .args .from .block .0 + start .args .from .place .0)) (x .offset-is)) (c .before .before .copy-range .ensures .1)))

@@ -7,7 +7,7 @@ use borrow.Author.Tests.{not-false}
 use Rattle.format.specs.Layout as at
 use Rattle.format.specs.TreeReading.{keptBlock}
 use Rattle.walk_steps.proofs.StepLaws.{field-there, kept-in, b-pos, b-small}
-use Rattle.query_access.specs.Descent.{KeptOn}
+use Rattle.query_access.specs.Segments.{KeptOn}
 use Rattle.query_access.proofs.DescentLaws as laws
 use Rattle.query_access.proofs.descent.kept_size.Statement.{statement}
 use Rattle.query_access.proofs.descent.kept_size.Tie as tie
@@ -29,29 +29,71 @@ kept-size-spec =
     μ-loop
     (λ c κs. let k = c .before .pre .0 in (k .facts, k .b-is, k .level-in))
     (λ c. search needs)
-    (λ c κs. let k = c .before .before .pre .0 in field-there _ _ _ _ _ 2 k (kept-in _ _ _ (c .before .before .pre .1)) (omega arith))
+    (λ c κs. let start = c .before .before in
+    let k = start .pre .0 in field-there _ _ _ _ _ 2 k (kept-in _ _ _ (start .pre .1)) (omega arith))
     (λ c. search needs)
     (λ c. search needs)
     (λ c. search needs)
     (λ c. search needs)
     (λ c. search needs)
-    (λ c. let k = c .before .before .before .before .before .before .before .pre .0 in (omega arith, laws.counts-none _ _ _, laws.counts-none _ _ _, omega arith,
-    λ i o small kept next-is n-is link-is. laws.kept-first _ (k .facts) _ (k .level-in) i o (omega (arith, k .b-is)) _ kept (omega (arith, k .b-is))))
-    (λ c κs. c .before .before .before .before .before .before .before .before .before .pre .0)
-    (λ c. c .before .before .before .loop .inv .4 _ _ (c .before .before .before .before .before .before .before .before .before .before .before .pre .2) (c .before .before .before .before .before .before .before .before .before .before .before .pre .1) refl refl (ap (λ (y : ℕ). y + c .before .before .before .before .before .before .before .before .before .width .result) (c .before .before .before .before .before .before .before .before .link .ensures)))
-    (λ c. let k = c .before .before .before .before .before .before .before .before .before .before .before .before .pre .0 in record { fits = omega (arith, b-small _ _ _ _ k, c .before .before .before .loop-test .taken, c .before .before .before .before .before .before .before .before .before .before .before .before .pre .3) })
-    (λ c. let k = c .before .before .before .before .before .before .before .before .before .before .before .before .pre .0 in let z = laws.counts-near _ _ (c .before .before .before .before .before .before .before .before .before .before .width .result) _ _ (omega (arith, b-pos _ _ _ _ k)) (omega (arith, c .before .before .before .before .before .before .before .before .before .before .width .ensures, k .b-is, laws.width-in _ _ (k .facts) (k .level-in) .1)) (c .before .before .before .before .loop .inv .1) in
-    record { fits = omega (arith, z .0, c .before .before .before .before .loop .inv .0, c .before .before .before .before .loop .inv .3, c .before .before .before .before .before .before .before .before .before .before .before .before .pre .3, b-small _ _ _ _ k, c .before .before .before .before .before .before .before .before .before .before .before .before .good .1 .1 .1 .0 .1 .1 .0 .1) })
-    (λ c. let k = c .before .before .before .before .before .before .before .before .before .before .before .before .pre .0 in let z = laws.counts-near _ _ (c .before .before .before .before .before .before .before .before .before .before .width .result) _ _ (omega (arith, b-pos _ _ _ _ k)) (omega (arith, c .before .before .before .before .before .before .before .before .before .before .width .ensures, k .b-is, laws.width-in _ _ (k .facts) (k .level-in) .1)) (c .before .before .before .before .loop .inv .1) in
-    record { fits = omega (arith, z .1, c .before .before .before .before .loop .inv .2, c .before .before .before .before .loop .inv .3, c .before .before .before .before .before .before .before .before .before .before .before .before .pre .3, b-small _ _ _ _ k, laws.width-in _ _ (k .facts) (k .level-in) .1, c .before .before .before .before .before .before .before .before .before .before .width .ensures, k .b-is, c .before .before .before .before .before .before .before .before .before .link .ok .1 .1 .0 .1) })
-    (λ c. let k = c .before .before .before .before .before .before .before .before .before .before .before .before .pre .0 in omega (arith, b-pos _ _ _ _ k, c .before .before .before .loop-test .taken))
-    (λ c. let k = c .before .before .before .before .before .before .before .before .before .before .before .before .pre .0 in let v = c .before .before .before .before .loop .inv in (
+    (λ c. let start = c .before .before .before .before .before .before .before in
+    let k = start .pre .0 in (
+      omega arith,
+      laws.counts-none _ _ _,
+      laws.counts-none _ _ _,
+      omega arith,
+      λ i o small kept next-is n-is link-is. laws.kept-first _ (k .facts) _ (k .level-in) i o (omega (arith, k .b-is)) _ kept (omega (arith, k .b-is)),
+    ))
+    (λ c κs. let start = c .before .before .before .before .before .before .before .before .before in
+    start .pre .0)
+    (λ c. let at-link = c .before .before .before .before .before .before .before .before in
+    let start = at-link .before .before .before in
+    c .before .before .before .loop .inv .4 _ _ (start .pre .2) (start .pre .1) refl refl
+    (ap (λ (y : ℕ). y + at-link .before .width .result) (at-link .link .ensures)))
+    (λ c. let start = c .before .before .before .before .before .before .before .before .before .before .before .before in
+    let k = start .pre .0 in record { fits = omega (arith, b-small _ _ _ _ k, c .before .before .before .loop-test .taken, start .pre .3) })
+    (λ c. let turn = c .before .before .before .before in
+    let at-width = turn .before .before .before .before .before .before in
+    let start = at-width .before .before in
+    let k = start .pre .0 in
+    let z = laws.counts-near _ _ (at-width .width .result) _ _ (omega (arith, b-pos _ _ _ _ k))
+    (omega (arith, at-width .width .ensures, k .b-is, laws.width-in _ _ (k .facts) (k .level-in) .1)) (turn .loop .inv .1) in
+    record { fits = omega (arith, z .0, turn .loop .inv .0, turn .loop .inv .3, start .pre .3, b-small _ _ _ _ k, start .good .1 .1 .1 .0 .1 .1 .0 .1) })
+    (λ c. let turn = c .before .before .before .before in
+    let at-link = turn .before .before .before .before .before in
+    let at-width = at-link .before in
+    let start = at-width .before .before in
+    let k = start .pre .0 in
+    let z = laws.counts-near _ _ (at-width .width .result) _ _ (omega (arith, b-pos _ _ _ _ k))
+    (omega (arith, at-width .width .ensures, k .b-is, laws.width-in _ _ (k .facts) (k .level-in) .1)) (turn .loop .inv .1) in
+    record {
+      fits = omega (
+        arith,
+        z .1,
+        turn .loop .inv .2,
+        turn .loop .inv .3,
+        start .pre .3,
+        b-small _ _ _ _ k,
+        laws.width-in _ _ (k .facts)
+            (k .level-in) .1,
+        at-width .width .ensures,
+        k .b-is,
+        at-link .link .ok .1 .1 .0 .1,
+      );
+    })
+    (λ c. let start = c .before .before .before .before .before .before .before .before .before .before .before .before in
+    let k = start .pre .0 in omega (arith, b-pos _ _ _ _ k, c .before .before .before .loop-test .taken))
+    (λ c. let turn = c .before .before .before .before in
+    let at-width = turn .before .before .before .before .before .before in
+    let k = at-width .before .before .pre .0 in let v = turn .loop .inv in (
       omega (arith, v .0),
       laws.counts-more _ _ _ _ _ (v .0) (v .1),
       laws.counts-more _ _ _ _ _ (v .0) (v .2),
       omega (arith, c .before .before .before .loop-test .taken),
       λ i o small kept next-is n-is link-is. laws.kept-again _ (k .facts) _ (k .level-in) i o (omega (arith, k .b-is)) _ _ _ _ _ _ _ _
-          (k .b-is) (c .before .before .before .before .before .before .before .before .before .before .width .ensures) (v .4 i o small kept next-is n-is link-is) next-is n-is link-is (v .0) (v .1) (v .2)
+          (k .b-is) (at-width .width .ensures) (v .4 i o small kept next-is n-is link-is) next-is n-is link-is (v .0) (v .1) (v .2)
           _ (c .before .before .continues .ensures) (not-false _ (c .before .if1 .left)),
     ))
-    (λ c. c .before .loop .inv .4 _ _ (c .before .before .before .before .before .before .before .before .before .pre .2) (c .before .before .before .before .before .before .before .before .before .pre .1) refl refl (ap (λ (y : ℕ). y + c .before .before .before .before .before .before .before .width .result) (c .before .before .before .before .before .before .link .ensures))))
+    (λ c. let at-link = c .before .before .before .before .before .before in
+    let start = at-link .before .before .before in
+    c .before .loop .inv .4 _ _ (start .pre .2) (start .pre .1) refl refl (ap (λ (y : ℕ). y + at-link .before .width .result) (at-link .link .ensures))))

@@ -11,5 +11,6 @@ targets-spec =
     (tie.spec
     (λ c κs. pointing-there _ _ _ _ _ _ (c .before .pre) 2 (omega arith))
     (λ c κs. pointing-there _ _ _ _ _ _ (c .before .before .pre) 3 (omega arith))
-    (λ c. record { fits = omega (arith, sum-small _ _ _ _ _ _ (c .before .before .before .before .before .pre) _ (c .before .before .gap .ensures)) })
+    (λ c. let start = c .before .before .before .before .before in
+    record { fits = omega (arith, sum-small _ _ _ _ _ _ (start .pre) _ (c .before .before .gap .ensures)) })
     (λ c. laws.targets-are _ _ _ _ _ _ _ (c .before .before .before .link .ensures) (c .before .before .gap .ensures)))

@@ -12,6 +12,7 @@ width-spec =
     (tie.spec
     (λ c κs. search needs)
     (λ c. search needs)
-    (λ c. c .before .before .before .before .before .pre .1 ∙ laws.width-last _ _ (c .if1 .taken ∙ shapes _ _ (c .before .before .before .shape-of .ensures) .levels-is))
+    (λ c. let start = c .before .before .before .before .before in
+    start .pre .1 ∙ laws.width-last _ _ (c .if1 .taken ∙ shapes _ _ (c .before .before .before .shape-of .ensures) .levels-is))
     (λ c. let x = shapes _ _ (c .before .before .before .shape-of .ensures) in
     x .arity-is ∙ laws.width-above _ _ (λ e. omega (arith, c .if1 .left, x .levels-is))))
