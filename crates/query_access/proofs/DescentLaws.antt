@@ -8,11 +8,9 @@ use Prim.Native.Nat.{ℕ, zero, suc, _+_, _-_, _*_, _/_, _%_, _≤_, _<_, min}
 use native.Mathlib.Omega.{arith}
 use native.Mathlib.Nat.{add-assoc, div-add-mod', div-eq-of-lt, mod-eq-of-lt, mod-lt, mod-le, mul-comm, mul-assoc, mul-le-mul-left, mul-le-mul-right}
 use native.Mathlib.Nat.{add-mul-mod-self-left, add-mul-div-left, add-mul, one-mul, mul-one, zero-mul}
-use borrow.Author.Tests.{lt-ltb, le-ltb, eq-eqb, ne-eqb, eqb-true}
+use borrow.Author.Tests.{eq-eqb, ne-eqb, eqb-true}
 use lib.Arith.{digits-div, digits-mod}
 use lib.Dec.{ltb, eqb}
-use lib.ListN.{length, getD, set, drop}
-use lib.Seq.{drop-set-lt}
 use Rattle.text.specs.ListLaws.{lt-or-ge, bool-cases, and-left, and-right}
 use Rattle.format.specs.Layout.{maxText}
 use Rattle.format.specs.Layout as at

@@ -1,22 +1,21 @@
 -- The bytes of a segment, copied to a buffer: of leaf bytes, and of segments that follow each other; and the span that is copied so.
 use mathlib.Core.List.{List, _++_}
 use mathlib.Core.Option.{Option, none, some}
-use mathlib.Core.Bool.{Bool, true, false}
+use mathlib.Core.Bool.{true, false}
 use mathlib.Core.Logic.{_⊎_, inl, inr}
 use mathlib.Core.Path.{_≡_, refl, sym, ap, _∙_}
-use Prim.Native.Nat.{ℕ, zero, suc, _+_, _-_, _*_, _/_, _%_, _≤_, _<_}
+use Prim.Native.Nat.{ℕ, zero, suc, _+_, _-_, _/_, _≤_, _<_}
 use native.Mathlib.Omega.{arith}
 use native.Mathlib.Nat.{add-assoc}
 use borrow.Author.Tests.{lt-ltb, le-ltb}
 use lib.Dec.{ltb}
-use lib.ListN.{length, getD, set, drop, replicate, length-set}
+use lib.ListN.{length, drop, replicate}
 use lib.Seq.{drop-set-lt}
 use Rattle.text.specs.Text.{tabulate}
 use Rattle.text.specs.ListLaws.{lt-or-ge, bool-cases}
 use Rattle.format.specs.Layout as at
 use Rattle.format.specs.Layout.{maxText}
-use Rattle.format.specs.LayoutLaws.{Readable}
-use Rattle.format.specs.TreeReading.{Path, provided, pathOf, pathFrom}
+use Rattle.format.specs.TreeReading.{Path, provided, pathOf}
 use Rattle.format.specs.Answers.{Answer, refused, byteOf, byteAnswer, pathsHold}
 use Rattle.theory_paths.specs.Links.{b, H}
 use Rattle.theory_paths.specs.PlaceBytes.{byte-path, hold-at}
@@ -27,7 +26,7 @@ use Rattle.query_access.specs.ReadByRuns.{placesWritten}
 use Rattle.query_access.specs.declared.descent.Segment.{Segment}
 use Rattle.query_access.specs.declared.descent.Piece.{Piece}
 use Rattle.query_access.specs.declared.descent.Piece.the-variants as piece
-use Rattle.query_access.specs.Segments.{leafNumber, hasLeaf, leafFrom, leafIn, leafValue, leavesWritten, SegmentCopied, SegmentAt, NextAt, IsNext}
+use Rattle.query_access.specs.Segments.{leafNumber, hasLeaf, leafFrom, leafIn, leafValue, leavesWritten, Copied, SegmentCopied, SegmentAt, NextAt, IsNext}
 use Rattle.query_access.proofs.SpanLaws.{ByPaths, values, span-broken}
 use Rattle.query_access.proofs.CopyLaws.{copy-known, copy-end}
 
@@ -59,13 +58,20 @@ module _ (t : List ℕ) where
   leaf-at first o = let z : H t - H t ≡ 0 = omega arith in rw z
 
   pub leaves-missing : (first place size to leaf count : ℕ) (d : List ℕ) → 1 ≤ size → leaf ≡ first + place → count ≡ at.leafCount t → count < leaf + size
-      → SegmentCopied t 1 (H t) first place size to d d false
+      → SegmentCopied t 1 (H t) first place size to d d 14
   unfolding SegmentCopied
-  leaves-missing first place size to leaf count d least leaf-is count-is past =
-      ((size - 1, omega arith, leaf-at first (place + (size - 1)) ∙ rw (le-ltb (first + (place + (size - 1))) (at.leafCount t) (omega arith))), λ k l. refl)
+  leaves-missing first place size to leaf count d least leaf-is count-is past = (
+    refl,
+    (
+      size - 1,
+      omega arith,
+      leaf-at first (place + (size - 1)) ∙ rw (le-ltb (first + (place + (size - 1))) (at.leafCount t) (omega arith)),
+    ),
+    λ k l. refl,
+  )
 
   pub leaves-copied : (first place size to leaf count from : ℕ) (d e : List ℕ) → leaf ≡ first + place → count ≡ at.leafCount t → leaf + size ≤ count
-      → from ≡ at.leafOffset t + leaf → e ≡ bytesWritten d to t from size → SegmentCopied t 1 (H t) first place size to d e true
+      → from ≡ at.leafOffset t + leaf → e ≡ bytesWritten d to t from size → SegmentCopied t 1 (H t) first place size to d e 0
   unfolding SegmentCopied
   leaves-copied first place size to leaf count from d e leaf-is count-is fits from-is e-is =
       let each : (x : ℕ) → x < size → leafIn t 1 (H t) first (place + x) ≡ some (leaf + x) =
@@ -89,11 +95,21 @@ rest-at t p size l c o n s low done less = record {
 }
 
 -- Below the last level.
-pub leaves-segment : (t : List ℕ) (p l first place n to : ℕ) (d e : List ℕ) (r : Bool) → l ≡ H t → 1 ≤ p
+pub leaves-segment : (t : List ℕ) (p l first place n to : ℕ) (d e : List ℕ) (r : ℕ) → l ≡ H t → 1 ≤ p
     → SegmentCopied t 1 (H t) first place n to d e r → SegmentCopied t p l first place n to d e r
 unfolding SegmentCopied leafIn
 leaves-segment t zero l first place n to d e r l-is may s = absurd (let y : ⊥ = omega arith in y)
 leaves-segment t (suc p) l first place n to d e r l-is may s = rw l-is s
+
+-- A refusal.
+pub some-refusal : (r : ℕ) → (r ≡ 0 → ⊥) → 1 ≤ r
+some-refusal zero off = absurd (off refl)
+some-refusal (suc q) off = omega arith
+
+missing-byte : (t : List ℕ) (f : ℕ → Option ℕ) (n to : ℕ) (d e : List ℕ) (r : ℕ) → (r ≡ 0 → ⊥) → Copied t f n to d e r
+    → (r ≡ 14) × ((x : ℕ) × (x < n) × (f x ≡ none)) × ((k : ℕ) → to + n ≤ k → drop k e ≡ drop k d)
+missing-byte t f n to d e zero off c = absurd (off refl)
+missing-byte t f n to d e (suc q) off c = (omega (arith, c .0), c .1, c .2)
 
 -- The answer of `next_segment`.
 module _ (t : List ℕ) (p l first o most : ℕ) (x : Piece) (x-is : IsNext t p l first o most x) where
@@ -113,32 +129,37 @@ module _ (t : List ℕ) (p l first place to : ℕ) (d : List ℕ) where
   go-start = record { bytes = refl; found = λ x less. absurd (let y : ⊥ = omega arith in y) }
 
   module _ (e : List ℕ) (done : ℕ) (g : SegmentUpTo t p l first place to d e done) where
-    pub go-end : (size : ℕ) → done ≡ size → SegmentCopied t p l first place size to d e true
+    pub go-end : (size : ℕ) → done ≡ size → SegmentCopied t p l first place size to d e 0
     unfolding SegmentCopied
     go-end size all = rw (← all) (g .bytes, g .found)
 
     go-past : (k : ℕ) → to + done ≤ k → drop k e ≡ drop k d
     go-past k past = ap (drop k) (g .bytes) ∙ leaves-past t d to done (λ x. leafIn t p l first (place + x)) k past
 
-    pub go-off : (size : ℕ) → done < size → leafIn t p l first (place + done) ≡ none → SegmentCopied t p l first place size to d e false
+    pub go-off : (size : ℕ) → done < size → leafIn t p l first (place + done) ≡ none → SegmentCopied t p l first place size to d e 14
     unfolding SegmentCopied
-    go-off size less none-is = ((done, less, none-is), λ k past. go-past k (omega arith))
+    go-off size less none-is = (refl, (done, less, none-is), λ k past. go-past k (omega arith))
 
-    module _ (most : ℕ) (s : Segment) (n : ℕ) (next : NextAt t p l first (place + done) most s n) (f : List ℕ) (r : Bool)
+    module _ (most : ℕ) (s : Segment) (n : ℕ) (next : NextAt t p l first (place + done) most s n) (f : List ℕ) (r : ℕ)
         (r-is : SegmentCopied t (s .rules .pointers) (s .on .level) (s .from .block .0) (s .from .place .0) n (to + done) e f r) where
       same-at : (x : ℕ) → x < n
           → leafIn t p l first (place + (done + x)) ≡ leafIn t (s .rules .pointers) (s .on .level) (s .from .block .0) (s .from .place .0 + x)
       same-at x less = rw (add-assoc place done x) at (next .same x less)
 
-      pub go-broken : r ≡ false → (size : ℕ) → done + most ≤ size → SegmentCopied t p l first place size to d f false
+      pub go-broken : (r ≡ 0 → ⊥) → (size : ℕ) → done + most ≤ size → SegmentCopied t p l first place size to d f r
       unfolding SegmentCopied
       go-broken off size fits =
-          let z = rw off at r-is in (
-            (done + z .0 .0, omega (arith, z .0 .1, next .at-most), same-at (z .0 .0) (z .0 .1) ∙ z .0 .2),
-            λ k past. z .1 k (omega (arith, next .at-most)) ∙ go-past k (omega (arith, next .at-most)),
+          let z = missing-byte t h n (to + done) e f r off r-is in
+          rw (z .0) (
+            refl,
+            (done + z .1 .0, omega (arith, z .1 .1, next .at-most), same-at (z .1 .0) (z .1 .1) ∙ z .1 .2),
+            λ k past. z .2 k (omega (arith, next .at-most)) ∙ go-past k (omega (arith, next .at-most)),
           )
+        where
+          h : ℕ → Option ℕ
+          h x = leafIn t (s .rules .pointers) (s .on .level) (s .from .block .0) (s .from .place .0 + x)
 
-      pub go-more : r ≡ true → SegmentUpTo t p l first place to d f (done + n)
+      pub go-more : r ≡ 0 → SegmentUpTo t p l first place to d f (done + n)
       unfolding SegmentCopied
       go-more all =
           let z = rw all at r-is in
@@ -188,7 +209,7 @@ text-segment t h k p len low = (
 )
 
 module _ (t : List ℕ) (h : Header) (k : HeaderOf t h) (p len : ℕ) (low : p + len ≤ h .«text_length») (d : List ℕ) (room : len ≤ length d)
-    (e : List ℕ) (r : Bool) (r-is : SegmentCopied t 1 0 0 p len 0 d e r) where
+    (e : List ℕ) (r : ℕ) (r-is : SegmentCopied t 1 0 0 p len 0 d e r) where
   leaf-text : (q : ℕ) → leafIn t 1 0 0 q ≡ leafNumber (pathOf t q)
   unfolding leafIn leafFrom pathOf
   leaf-text q =
@@ -199,7 +220,7 @@ module _ (t : List ℕ) (h : Header) (k : HeaderOf t h) (p len : ℕ) (low : p +
   text-byte : (x : ℕ) → x < len → byteAnswer t (p + x) ≡ byteOf t (pathOf t (p + x))
   text-byte x less = byte-path t (k .passes) (p + x) (omega (arith, k .length-is))
 
-  pub descent-copied : r ≡ true → ByPaths t p len d (record { number = 0; value = len; entered = 0 }) e
+  pub descent-copied : r ≡ 0 → ByPaths t p len d (record { number = 0; value = len; entered = 0 }) e
   unfolding SegmentCopied
   descent-copied all =
       let z = rw all at r-is in
@@ -211,23 +232,23 @@ module _ (t : List ℕ) (h : Header) (k : HeaderOf t h) (p len : ℕ) (low : p +
       let c = copy-known t p len d room len (omega arith) good e (z .0 ∙ leaves-places t d 0 p len (λ x. leafIn t 1 0 0 (p + x)) same) in
       copy-end t h p len k low d room len e c refl
 
-  pub descent-broken : r ≡ false → (z : List ℕ) → z ≡ replicate len 0 ++ drop len e → ByPaths t p len d (refused 14) z
+  pub descent-broken : (r ≡ 0 → ⊥) → (z : List ℕ) → z ≡ replicate len 0 ++ drop len e → ByPaths t p len d (refused r) z
   unfolding SegmentCopied
   descent-broken off z z-is =
-      span-broken t p len d (pathsHold t p len) (tabulate len (values t p)) 0 (k .passes) (omega (arith, k .length-is)) room z 14 refl
-      (sym (go (bool-cases (pathsHold t p len)))) (rw (missing .1 len (omega arith)) at z-is)
+      span-broken t p len d (pathsHold t p len) (tabulate len (values t p)) 0 (k .passes) (omega (arith, k .length-is)) room z r (missing .0)
+      (sym (go (bool-cases (pathsHold t p len)))) (rw (missing .2 len (omega arith)) at z-is)
     where
-      missing : ((x : ℕ) × (x < len) × (leafIn t 1 0 0 (p + x) ≡ none)) × ((j : ℕ) → 0 + len ≤ j → drop j e ≡ drop j d)
-      missing = rw off at r-is
+      missing : (r ≡ 14) × ((x : ℕ) × (x < len) × (leafIn t 1 0 0 (p + x) ≡ none)) × ((j : ℕ) → 0 + len ≤ j → drop j e ≡ drop j d)
+      missing = missing-byte t (λ x. leafIn t 1 0 0 (p + x)) len 0 d e r off r-is
 
       x : ℕ
-      x = missing .0 .0
+      x = missing .1 .0
 
       fourteen : byteAnswer t (p + x) .number ≡ 14
       fourteen =
-          ap (λ (y : Answer). y .number) (text-byte x (missing .0 .1))
-          ∙ leaf-broken t (pathOf t (p + x)) (sym (leaf-text (p + x)) ∙ missing .0 .2)
+          ap (λ (y : Answer). y .number) (text-byte x (missing .1 .1))
+          ∙ leaf-broken t (pathOf t (p + x)) (sym (leaf-text (p + x)) ∙ missing .1 .2)
 
       go : (pathsHold t p len ≡ true) ⊎ (pathsHold t p len ≡ false) → pathsHold t p len ≡ false
-      go (inl hold) = absurd (let y : ⊥ = omega (arith, fourteen, hold-at t len p x hold (missing .0 .1)) in y)
+      go (inl hold) = absurd (let y : ⊥ = omega (arith, fourteen, hold-at t len p x hold (missing .1 .1)) in y)
       go (inr no-path) = no-path

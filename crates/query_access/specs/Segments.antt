@@ -45,13 +45,13 @@ module _ (t : List ℕ) where
   leavesWritten d to f zero = d
   leavesWritten d to f (suc n) = set (leavesWritten d to f n) (to + n) (leafValue (f n))
 
-  -- Buffer d became e: n bytes were written, and none is missing; or one is missing, and nothing was written after the n bytes.
-  abbrev pub Copied : (ℕ → Option ℕ) → ℕ → ℕ → List ℕ → List ℕ → Bool → Type 0
-  Copied f n to d e true = (e ≡ leavesWritten d to f n) × ((x : ℕ) → x < n → hasLeaf (f x) ≡ true)
-  Copied f n to d e false = ((x : ℕ) × (x < n) × (f x ≡ none)) × ((k : ℕ) → to + n ≤ k → drop k e ≡ drop k d)
+  -- Buffer d became e: n bytes were written, and none is missing; or the refusal is 14, one is missing, and nothing was written after the n bytes.
+  abbrev pub Copied : (ℕ → Option ℕ) → ℕ → ℕ → List ℕ → List ℕ → ℕ → Type 0
+  Copied f n to d e zero = (e ≡ leavesWritten d to f n) × ((x : ℕ) → x < n → hasLeaf (f x) ≡ true)
+  Copied f n to d e (suc q) = (q ≡ 13) × ((x : ℕ) × (x < n) × (f x ≡ none)) × ((k : ℕ) → to + n ≤ k → drop k e ≡ drop k d)
 
   -- The answer of `copy_segment`.
-  unfoldable pub SegmentCopied : (pointers l first place n to : ℕ) → List ℕ → List ℕ → Bool → Type 0
+  unfoldable pub SegmentCopied : (pointers l first place n to : ℕ) → List ℕ → List ℕ → ℕ → Type 0
   SegmentCopied pointers l first place n to d e r = Copied (λ x. leafIn pointers l first (place + x)) n to d e r
 
   -- The number of children of a full kept block, or of its leaf bytes on the last level.

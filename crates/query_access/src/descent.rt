@@ -1,5 +1,6 @@
 // A long span by one descent. On each level it goes over consecutive blocks: a segment. Kept blocks that follow each other with links that follow each
 // other have one segment of children; a pointing block has a segment of its targets; below the last level the segment is a range of leaf bytes.
+use crate::SpanAnswer;
 use crate::read_by_header;
 use crate::read_by_header::LeafRun;
 use layout::place::BlockNumber;
@@ -208,8 +209,8 @@ fn next_segment(t: &[u8], rules: Rules, on: LevelAt, from: BlockPosition, most: 
     }
 }
 
-// A range of leaf bytes, if there are so many.
-fn copy_leaves(t: &[u8], from: BlockPosition, part: BufferPart, buffer: &mut [u8]) -> bool
+// Copies a range of leaf bytes: 0, or the refusal, 14 if there are not so many.
+fn copy_leaves(t: &[u8], from: BlockPosition, part: BufferPart, buffer: &mut [u8]) -> u32
     requires { ⌜ (Readable (now t)) × (from .place .0 + part .size ≤ 2 * maxText) × (1 ≤ part .size) × (part .to + part .size ≤ length (now buffer)) ⌝ }
     ensures { λ r. ⌜ SegmentCopied (now (t .entry)) 1 (at.settings (now (t .entry)) .levels) (from .block .0) (from .place .0)
         (part .size) (part .to) (now (buffer .entry)) (now (buffer .exit)) r ⌝ }
@@ -217,18 +218,21 @@ fn copy_leaves(t: &[u8], from: BlockPosition, part: BufferPart, buffer: &mut [u8
     let shape = fields::shape_of(t);
     let leaf = from.block.0 as u64 + from.place.0 as u64;
     if (shape.leaf_count as u64) < leaf + part.size as u64 {
-        return false;
+        return 14;
     }
     let run = LeafRun {
         from: shape.leaf_offset as usize + leaf as usize,
         length: part.size,
         entered: 0,
     };
-    read_by_header::copy_range(t, run, part.size, buffer, part.to as usize);
-    true
+    let copied = read_by_header::copy_range(t, run, part.size, buffer, part.to as usize);
+    match copied {
+        SpanAnswer::Bytes(_, _) => 0,
+        SpanAnswer::Refused(number) => number,
+    }
 }
 
-// The bytes of a segment, which are in the segments below it or beside it.
+// Copies the bytes of a segment, which are in the segments below it or beside it: 0, or the refusal.
 pub fn copy_segment(
     t: &&[u8],
     rules: Rules,
@@ -236,7 +240,7 @@ pub fn copy_segment(
     from: BlockPosition,
     part: BufferPart,
     buffer: &mut [u8],
-) -> bool
+) -> u32
     requires { ⌜ (SegmentAt (now (now t)) (rules .pointers) (rules .«record_size») (on .level) (on .b) (from .place .0) (part .size))
         × (part .to + part .size ≤ maxText) × (part .to + part .size ≤ length (now buffer)) ⌝ }
     ensures { λ r. ⌜ SegmentCopied (now (now (t .entry))) (rules .pointers) (on .level) (from .block .0) (from .place .0)
@@ -254,16 +258,17 @@ pub fn copy_segment(
         let rest = BlockPosition { block, place };
         let found = next_segment(tree, rules, on, rest, part.size - done);
         let Piece::At(next, n) = found else {
-            return false;
+            return 14;
         };
         let piece = BufferPart {
             to: part.to + done,
             size: n,
         };
-        if !copy_segment(t, next.rules, next.on, next.from, piece, buffer) {
-            return false;
+        let refused = copy_segment(t, next.rules, next.on, next.from, piece, buffer);
+        if refused != 0 {
+            return refused;
         }
         done += n;
     }
-    true
+    0
 }

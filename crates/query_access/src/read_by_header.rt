@@ -254,7 +254,7 @@ pub fn copy(t: &[u8], h: Header, at: TextPlace, len: u32, buffer: &mut [u8]) -> 
     ensures { λ r. ⌜ IsCopyAnswer (now (t .entry)) (at .0) len (length (now (buffer .entry))) r ⌝ }
     ensures { λ _. ⌜ now (buffer .exit) ≡ copyBuffer (now (t .entry)) (at .0) len (now (buffer .entry)) ⌝ }
 {
-    let copied = descent::copy_segment(
+    let refused = descent::copy_segment(
         &t,
         Rules {
             record_size: h.record_size,
@@ -271,9 +271,9 @@ pub fn copy(t: &[u8], h: Header, at: TextPlace, len: u32, buffer: &mut [u8]) -> 
         BufferPart { to: 0, size: len },
         buffer,
     );
-    if !copied {
+    if refused != 0 {
         byte_slices::clear(buffer, len as usize);
-        return SpanAnswer::Refused(14);
+        return SpanAnswer::Refused(refused);
     }
     SpanAnswer::Bytes(len, 0)
 }

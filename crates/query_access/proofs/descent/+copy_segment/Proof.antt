@@ -2,7 +2,6 @@ use mathlib.Core.Path.{_≡_, refl, sym, _∙_}
 use Prim.Native.Nat.{ℕ, _+_, _-_, _*_, _≤_, _<_}
 use native.Mathlib.Omega.{arith}
 use borrow.Author.Needs.{needs}
-use borrow.Author.Tests.{not-false, not-true}
 use borrow.Fn.Kinds.{In}
 use borrow.Fn.PlainCycle.{Measures, is, falls, and}
 use lib.ListN.{length}
@@ -103,7 +102,7 @@ pub +copy-segment-spec : {M : Type 1} → statement M
     let v = then2 .before .before .loop .inv in
     let next = segments.next-at _ _ _ _ _ _ _ (at-found .before .before .next-segment .ensures) _ _ (at-found .found .given .1) in
     segments.go-broken _ _ _ _ _ _ _ _ _ (v .2) _ _ _ next _ _ (c .before .before .before .copy-segment .ensures)
-    (not-true _ (c .if3 .taken)) _ (omega (arith, then2 .if2 .taken)))
+    (c .if3 .taken) _ (omega (arith, then2 .if2 .taken)))
     (λ c. let at-found = c .before .before .before .before .before .before .before in
     let then2 = at-found .before .before .before .before .before in
     let start = then2 .before .before .before .before .before .before .before .before .before .before in
@@ -120,7 +119,7 @@ pub +copy-segment-spec : {M : Type 1} → statement M
     let next = segments.next-at _ _ _ _ _ _ _ (at-found .before .before .next-segment .ensures) _ _ (at-found .found .given .1) in (
       omega (arith, next .at-most, then2 .if2 .taken),
       at-copy-segment .copy-segment .kept .1 .1 .1 .1 .1 .0 ∙ v .1,
-      segments.go-more _ _ _ _ _ _ _ _ _ (v .2) _ _ _ next _ _ (at-copy-segment .copy-segment .ensures) (not-false _ (c .if3 .left)),
+      segments.go-more _ _ _ _ _ _ _ _ _ (v .2) _ _ _ next _ _ (at-copy-segment .copy-segment .ensures) (c .if3 .left),
     ))
     (λ c. c .before .before .loop .inv .1)
     (λ c. let v = c .before .before .loop .inv in segments.go-end _ _ _ _ _ _ _ _ _ (v .2) _ (omega (arith, v .0))))

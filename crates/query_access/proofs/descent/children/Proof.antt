@@ -1,5 +1,4 @@
 use native.Mathlib.Omega.{arith}
-use borrow.Author.Needs.{needs}
 use Rattle.walk_steps.proofs.StepLaws.{field-there, kept-in}
 use Rattle.query_access.proofs.DescentLaws as laws
 use Rattle.query_access.proofs.descent.children.Statement.{statement}

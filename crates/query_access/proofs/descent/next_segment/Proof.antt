@@ -1,5 +1,4 @@
 use mathlib.Core.Path.{refl}
-use native.Mathlib.Omega.{arith}
 use borrow.Author.Needs.{needs}
 use Rattle.walk_steps.proofs.StepLaws.{b-pos}
 use Rattle.walk_steps.proofs.NextLaws.{next-kept, next-points, next-off}

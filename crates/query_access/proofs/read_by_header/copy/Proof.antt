@@ -1,7 +1,5 @@
 use mathlib.Core.Path.{_∙_}
 use native.Mathlib.Omega.{arith}
-use borrow.Author.Needs.{needs}
-use borrow.Author.Tests.{not-false, not-true}
 use Rattle.query_access.specs.declared.SpanAnswer.the-variants.{Bytes, Refused}
 use Rattle.query_access.proofs.SegmentLaws as segments
 use Rattle.query_access.proofs.SpanLaws.{copy-answered}
@@ -22,11 +20,11 @@ copy-spec =
     (λ c. let then1 = c .before .before .before .before in
     let start = then1 .before .before .before .before .before .before .before .before in
     let p = start .pre in
-    copy-answered _ _ _ _ _ (Refused 14) (omega arith)
+    copy-answered _ _ _ _ _ (Refused _) (segments.some-refusal _ (then1 .if1 .taken))
     (segments.descent-broken _ _ (p .0) _ _ (p .1) _ (p .2) _ _ (then1 .before .before .before .copy-segment .ensures)
-    (not-true _ (then1 .if1 .taken)) _ (c .before .before .clear .ensures)))
+    (then1 .if1 .taken) _ (c .before .before .clear .ensures)))
     (λ c. c .before .before .before .copy-segment .kept .1 .1 .1 .1 .1 .0)
     (λ c. let start = c .before .before .before .before .before .before .before .before in
     let p = start .pre in
     copy-answered _ _ _ _ _ (Bytes _ 0) tt (segments.descent-copied _ _ (p .0) _ _ (p .1) _ (p .2) _ _ (c .before .before .before .copy-segment .ensures)
-    (not-false _ (c .if1 .left)))))
+    (c .if1 .left))))
