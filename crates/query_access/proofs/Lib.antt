@@ -5,4 +5,6 @@ pub mod ShortLaws
 pub mod RunLaws
 pub mod LeafEndLaws
 pub mod LeafRunLaws
+pub mod DescentLaws
+pub mod SegmentLaws
 pub mod Theorems

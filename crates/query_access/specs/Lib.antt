@@ -1,3 +1,4 @@
 pub mod ReadAnswers
 pub mod LeafEnds
 pub mod ReadByRuns
+pub mod Segments

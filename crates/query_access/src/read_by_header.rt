@@ -1,9 +1,16 @@
 // Byte, run and span in a tree that passes questions 5 to 7, given its header.
 use crate::ByteAnswer;
 use crate::SpanAnswer;
+use crate::descent;
+use crate::descent::BufferPart;
+use crate::descent::Rules;
 use crate::leaf_end;
 use crate::leaf_end::LeafEndAnswer;
 use layout::header::Header;
+use layout::place::BlockNumber;
+use layout::place::BlockPlace;
+use layout::place::BlockPosition;
+use layout::place::LevelAt;
 use layout::place::TextPlace;
 use layout::settings::Settings;
 use walk_path::TopLevel;
@@ -163,6 +170,9 @@ pub fn range_at(t: &[u8], h: Header, at: TextPlace, most: u32) -> RunRangeAnswer
     })
 }
 
+// Spans of fewer bytes have few ranges: a walk for each takes less time than a descent.
+const FEW: u32 = 64;
+
 // Span: questions 10 and 13; then a short span of a layout 2 tree by edges, any other span by the paths of its bytes.
 pub fn span_at(t: &[u8], h: Header, at: TextPlace, len: u32, buffer: &mut [u8]) -> SpanAnswer
     requires { ⌜ HeaderOf (now t) h ⌝ }
@@ -178,6 +188,9 @@ pub fn span_at(t: &[u8], h: Header, at: TextPlace, len: u32, buffer: &mut [u8]) 
     }
     if is_short(h, len) {
         return short_span(t, h, at, len, buffer);
+    }
+    if len < FEW {
+        return copy_on(t, h, no_run(), at, len, buffer);
     }
     copy(t, h, at, len, buffer)
 }
@@ -213,7 +226,7 @@ fn short_span(t: &[u8], h: Header, at: TextPlace, len: u32, buffer: &mut [u8]) -
 }
 
 // Copies the first n bytes of a range to a place in the buffer. Their answers are those of one walk, so that the loop over them is a copy.
-fn copy_range(t: &[u8], run: LeafRun, n: u32, buffer: &mut [u8], to: usize) -> SpanAnswer
+pub fn copy_range(t: &[u8], run: LeafRun, n: u32, buffer: &mut [u8], to: usize) -> SpanAnswer
     requires { ⌜ (run .from + n ≤ length (now t)) × (to + n ≤ length (now buffer)) ⌝ }
     ensures { λ r. ⌜ r ≡ SpanAnswer.Bytes n 0 ⌝ }
     ensures { λ _. ⌜ now (buffer .exit) ≡ bytesWritten (now (buffer .entry)) to (now (t .entry)) (run .from) n ⌝ }
@@ -250,16 +263,37 @@ fn copy_run(
     copy_range(t, run, run.length, buffer, to)
 }
 
-// Copies range by range; where a byte is refused, the part asked for is left zero.
+// Copies by one descent; where a byte is refused, the part asked for is left zero.
 pub fn copy(t: &[u8], h: Header, at: TextPlace, len: u32, buffer: &mut [u8]) -> SpanAnswer
     requires { ⌜ (HeaderOf (now t) h) × (at .0 + len ≤ h .«text_length») × (len ≤ length (now buffer)) ⌝ }
     ensures { λ r. ⌜ IsCopyAnswer (now (t .entry)) (at .0) len (length (now (buffer .entry))) r ⌝ }
     ensures { λ _. ⌜ now (buffer .exit) ≡ copyBuffer (now (t .entry)) (at .0) len (now (buffer .entry)) ⌝ }
 {
-    copy_on(t, h, no_run(), at, len, buffer)
+    let refused = descent::copy_segment(
+        &t,
+        Rules {
+            record_size: h.record_size,
+            pointers: 1,
+        },
+        LevelAt {
+            level: 0,
+            b: h.top_length,
+        },
+        BlockPosition {
+            block: BlockNumber(0),
+            place: BlockPlace(at.0),
+        },
+        BufferPart { to: 0, size: len },
+        buffer,
+    );
+    if refused != 0 {
+        byte_slices::clear(buffer, len as usize);
+        return SpanAnswer::Refused(refused);
+    }
+    SpanAnswer::Bytes(len, 0)
 }
 
-// The same, where some of the first bytes, or none, are known to be a range of the tree.
+// The same range by range, each by a walk, where some of the first bytes, or none, are known to be a range of the tree.
 pub fn copy_on(
     t: &[u8],
     h: Header,
