@@ -50,7 +50,8 @@ module _ (t : List ℕ) where
   pub header-both : at.headerOk t ≡ (startRight t && restRight t)
   unfolding at.headerOk startRight restRight tablesMeet spareCounted spareLevels
   header-both =
-      start-and-rest (at.lengthOk (at.textLength t)) (at.sizesOk (at.settings t)) counted (spareCounted t (at.countedCount t)) (spareLevels t (at.settings t .levels))
+      start-and-rest (at.lengthOk (at.textLength t)) (at.sizesOk (at.settings t)) counted
+      (spareCounted t (at.countedCount t)) (spareLevels t (at.settings t .levels))
       (eqb (at.levelCount t 0) (at.pieces (at.textLength t) (at.fullLength t 0))) (allBelow (at.settings t .levels) (follows t))
       (eqb (at.leafOffset t) (headerLength + sumBelow (at.settings t .levels) (at.levelCount t) * at.recordSize t))
       (eqb (length t) (at.leafOffset t + at.leafCount t))
