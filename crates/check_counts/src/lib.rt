@@ -5,6 +5,7 @@ ghost use Rattle.format.specs.TreeReading.{textOf, countsTrue};
 ghost use Rattle.check_counts.specs.CountsAsked.{Linking};
 
 mod block_counts;
+mod leaf_count;
 mod level_counts;
 mod prefix;
 

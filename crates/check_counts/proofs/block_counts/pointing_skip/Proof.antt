@@ -16,6 +16,7 @@ pointing-skip-spec =
     (λ c. search needs)
     (λ c κs. let w = c .before .before .before .before .before .before in (
       w .pre .0,
+      laws.points-above _ _ _ _ _ (w .pre .1) (w .pre .2) (w .pre .3),
       laws.gap-there _ _ _ _ _ (w .pre .1)
           (w .pre .2) (w .pre .3) _ (c .before .before .before .before .gap .ensures) (c .before .before .if1 .left) _ (c .before .link .ensures),
     ))

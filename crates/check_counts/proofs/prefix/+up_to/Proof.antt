@@ -1,17 +1,20 @@
 use mathlib.Core.List.{List}
-use mathlib.Core.Path.{sym, ap, _∙_}
-use Prim.Native.Nat.{ℕ, _+_, _-_, _≤_, _<_}
+use mathlib.Core.Path.{_≡_, sym, ap, _∙_}
+use Prim.Native.Nat.{ℕ, _+_, _-_, _<_}
 use borrow.Author.Needs.{needs}
 use native.Mathlib.Omega.{arith}
 use borrow.Fn.Kinds.{In}
 use borrow.Fn.PlainCycle.{Measures}
 use Rattle.format.specs.Layout as at
+use Rattle.check_counts.specs.PrefixTargets.{childOf}
+use Rattle.check_counts.specs.CountsAsked.{InKept}
 use Rattle.check_counts.proofs.CountsHeader as facts
 use Rattle.check_counts.proofs.PrefixLaws as laws
 use Rattle.check_counts.proofs.prefix.up_to.Reads as up-to
 use Rattle.check_counts.proofs.prefix.up_to.Kinds as up-to-kinds
 use Rattle.check_counts.proofs.prefix.+up_to.Lts-up_to as up-to-lts
-use Rattle.check_counts.proofs.prefix.in_leaves.Reads as in-leaves-reads
+use Rattle.check_counts.proofs.prefix.child_of.Reads as child-of-reads
+use Rattle.check_counts.proofs.prefix.in_last.Reads as in-last-reads
 use Rattle.check_counts.proofs.prefix.step.Reads as step-reads
 use Rattle.walk_steps.proofs.fields.reborrow.Reads as whole-reads
 use Rattle.walk_steps.proofs.fields.shape_of.Reads as shape-of-reads
@@ -37,20 +40,22 @@ claims t = (
   whole-reads.Learnt,
   shape-of-reads.Asked,
   shape-of-reads.Learnt,
-  in-leaves-reads.Asked,
-  in-leaves-reads.Learnt,
   quotient-reads.Asked,
   quotient-reads.Learnt,
+  child-of-reads.Asked,
+  child-of-reads.Learnt,
+  in-last-reads.Asked,
+  in-last-reads.Learnt,
   step-reads.Asked,
   step-reads.Learnt,
   below-measure up-to-kinds.ps μ-up-to up-to.Pre t,
   up-to.Post,
 )
 
--- Above the last level: what was read of the tree.
-module _ {t : ℕ} (e : up-to-lts.Else1 (claims t) (up-to-at t) up-to.Post) where
+-- What was read of the tree, with the block length of the children.
+module _ {t : ℕ} (q : up-to-lts.After-quotient (claims t) (up-to-at t) up-to.Post) where
   abbrev s : up-to-lts.After-shape-of (claims t) (up-to-at t) up-to.Post
-  s = e .before .before .before
+  s = q .before .before
 
   abbrev w : up-to-lts.After-reborrow (claims t) (up-to-at t) up-to.Post
   w = s .before
@@ -61,8 +66,30 @@ module _ {t : ℕ} (e : up-to-lts.Else1 (claims t) (up-to-at t) up-to.Post) wher
   x : Shapes (S .args .t .now) (s .shape-of .result)
   x = shapes-on _ _ _ (w .reborrow .ensures) (s .shape-of .ensures)
 
-  up : S .args .on .level + 1 < levels (S .args .t .now)
-  up = laws.not-last _ _ _ _ _ _ _ (S .pre .1 .0) (S .pre .1 .1) (λ last. e .if1 .left (last ∙ sym (x .levels-is)))
+  below : q .quotient .result ≡ at.fullLength (S .args .t .now) (S .args .on .level + 1)
+  below = q .quotient .ensures ∙ laws.below-is _ _ _ _ _ _ _ (S .pre .1 .0) (S .pre .1 .2) (S .pre .1 .1) _ (x .arity-is)
+
+-- The child that contains the place.
+child-is : {t : ℕ} (v : up-to-lts.After-child-of (claims t) (up-to-at t) up-to.Post)
+    → v .child-of .result
+    ≡ childOf (S (v .before) .args .t .now) (S (v .before) .args .on .level) (S (v .before) .args .spot .block .0) (S (v .before) .args .spot .place .0)
+child-is v =
+    let a = S (v .before) .args in
+    v .child-of .ensures ∙ ap (λ (l : List ℕ). childOf l (a .on .level) (a .spot .block .0) (a .spot .place .0)) (w (v .before) .reborrow .ensures)
+
+-- Above the last level but one.
+module _ {t : ℕ} (e : up-to-lts.Else1 (claims t) (up-to-at t) up-to.Post) where
+  abbrev v : up-to-lts.After-child-of (claims t) (up-to-at t) up-to.Post
+  v = e .before .before
+
+  abbrev q : up-to-lts.After-quotient (claims t) (up-to-at t) up-to.Post
+  q = v .before
+
+  child : v .child-of .result ≡ childOf (S q .args .t .now) (S q .args .on .level) (S q .args .spot .block .0) (S q .args .spot .place .0)
+  child = child-is v
+
+  up : S q .args .on .level + 1 + 1 < levels (S q .args .t .now)
+  up = facts.not-last _ _ (S q .pre .1 .2 .block .table .tree) _ (S q .pre .1 .1) (λ last. e .if1 .left (last ∙ sym (x q .levels-is)))
 
 pub +up-to-spec : {M : Type 1} → statement M
 +up-to-spec =
@@ -71,63 +98,59 @@ pub +up-to-spec : {M : Type 1} → statement M
     (up-to-at t)
     up-to.Post
     (λ c κs. search needs)
-    (λ c κs. rw (c .reborrow .ensures) (c .before .before .pre .1 .1 .block .table .tree .facts .long))
-    (λ c. let k = c .before .before .before .before .pre .1 .1 .block .table in omega (arith, k .level-in, k .tree .facts .bounds .levels-high))
-    (λ c.
-    let w = c .before .before .before .before .before in
-    let S = w .before .before in
-    omega (arith, S .pre .1 .1 .block .place-in, facts.length-lt _ _ _ _ _ (S .pre .1 .1 .block .table)))
+    (λ c κs. rw (c .reborrow .ensures) (c .before .before .pre .1 .2 .block .table .tree .facts .long))
+    (λ c. let k = c .before .before .before .before .pre .1 .2 .block .table in omega (arith, k .level-in, k .tree .facts .bounds .levels-high))
     (λ c κs.
-    let s = c .before .before .before .before in
+    let s = c .before in
     let w = s .before in
-    let S = w .before .before in
-    rw (w .reborrow .ensures) (
-      S .pre .1 .1 .block .table,
-      c .before .if1 .taken ∙ shapes-on _ _ _ (w .reborrow .ensures) (s .shape-of .ensures) .levels-is,
-      (let few : S .args .spot .place .0 + 1 ≤ at.blockLengthAt (S .args .t .now) (S .args .on .level) (S .args .spot .block .0) =
-          omega (arith, S .pre .1 .1 .block .place-in) in few),
+    let tree = w .before .before .pre .1 .2 .block .table .tree in
+    omega (arith, shapes-on _ _ _ (w .reborrow .ensures) (s .shape-of .ensures) .arity-is, tree .facts .bounds .arity-low))
+    (λ c κs. rw (w c .reborrow .ensures) (below c, S c .pre .1 .1, laws.kept-place _ _ _ _ _ _ _ (S c .pre .1 .0) (S c .pre .1 .2) (S c .pre .1 .1)))
+    (λ c. let k = S (c .before) .pre .1 .2 .block .table in omega (arith, k .level-in, k .tree .facts .bounds .levels-high))
+    (λ c κs.
+    let v = c .before .before in
+    let q = v .before in
+    rw (w q .reborrow .ensures) (
+      c .if1 .taken ∙ x q .levels-is,
+      laws.child-there _ _ _ _ _ _ _ (S q .pre .1 .0) (S q .pre .1 .2) (S q .pre .1 .1) _ (child-is v),
     ))
     (λ c.
-    let s = c .before .before .before .before .before in
-    let w = s .before in
-    let S = w .before .before in
-    laws.walk-last _ _ _ _ _ _ _ (S .pre .1 .0) (S .pre .1 .1)
-    (c .before .before .if1 .taken ∙ shapes-on _ _ _ (w .reborrow .ensures) (s .shape-of .ensures) .levels-is)
-    _ (rw (w .reborrow .ensures) at (c .in-leaves .ensures .0)))
+    let v = c .before .before .before in
+    let q = v .before in
+    laws.walk-last _ _ _ _ _ _ _ (S q .pre .1 .0) (S q .pre .1 .2) (S q .pre .1 .1) _ (child-is v)
+    (c .before .if1 .taken ∙ x q .levels-is) _ (rw (w q .reborrow .ensures) at (c .in-last .ensures)))
     (λ c κs.
-    let s = c .before .before .before in
-    let w = s .before in
-    let tree = w .before .before .pre .1 .1 .block .table .tree in
-    omega (arith, shapes-on _ _ _ (w .reborrow .ensures) (s .shape-of .ensures) .arity-is, tree .facts .bounds .arity-low))
+    let k = S (q c) .pre .1 in
+    rw (w (q c) .reborrow .ensures) (below (q c), laws.child-there _ _ _ _ _ _ _ (k .0) (k .2) (k .1) _ (child c)))
     (λ c κs.
-    let e = c .before in
-    rw (w e .reborrow .ensures)
-    (c .quotient .ensures ∙ laws.below-is _ _ _ _ _ _ _ (S e .pre .1 .0) (S e .pre .1 .1) (up e) _ (x e .arity-is), (up e), S e .pre .1 .1))
-    (λ c κs.
-    let q = c .before .before .before in
-    let e = q .before in (
-      omega (arith, S e .pre .0, ap levels (w e .reborrow .ensures), up e),
-      rw (w e .reborrow .ensures) (
-        q .quotient .ensures ∙ laws.below-is _ _ _ _ _ _ _ (S e .pre .1 .0) (S e .pre .1 .1) (up e) _ (x e .arity-is),
-        laws.walk-next _ _ _ _ _ _ _ (S e .pre .1 .0) (S e .pre .1 .1) (up e) _ (rw (w e .reborrow .ensures) at (c .before .before .step .ensures .0)),
+    let e = c .before .before .before in
+    let k = S (q e) .pre .1 in (
+      omega (arith, S (q e) .pre .0, ap levels (w (q e) .reborrow .ensures), k .1),
+      rw (w (q e) .reborrow .ensures) (
+        below (q e),
+        up e,
+        laws.walk-next _ _ _ _ _ _ _ (k .0) (k .2) (k .1) _ (child e) _ (rw (w (q e) .reborrow .ensures) at (c .before .before .step .ensures .0)),
       ),
     ))
     (λ c.
     let z = c .before .before .before .before in
-    let e = z .before .before in
+    let e = z .before in
+    let k = S (q e) .pre .1 in
     omega (
       arith,
       z .step .ensures .1,
-      laws.rest-small _ _ _ _ _ _ _ (S e .pre .1 .0) (S e .pre .1 .1) (up e) _ (rw (w e .reborrow .ensures) at (z .step .ensures .0))
-          _ (rw (w e .reborrow .ensures) at (c .before .up-to .ensures)),
+      laws.rest-small _ _ _ _ _ _ _ (k .0) (k .2) (k .1) _ (child e) _ (rw (w (q e) .reborrow .ensures) at (z .step .ensures .0))
+          _ (rw (w (q e) .reborrow .ensures) at (c .before .up-to .ensures)),
     ))
     (λ c.
     let z = c .before .before .before .before .before in
-    let e = z .before .before in
-    laws.minus-low _ _ _ _ _ _ _ (S e .pre .1 .0) (S e .pre .1 .1) (up e) _ (rw (w e .reborrow .ensures) at (z .step .ensures .0))
-    _ (rw (w e .reborrow .ensures) at (c .before .before .up-to .ensures)))
+    let e = z .before in
+    let k = S (q e) .pre .1 in
+    laws.minus-low _ _ _ _ _ _ _ (k .0) (k .2) (k .1) _ (child e) _ (rw (w (q e) .reborrow .ensures) at (z .step .ensures .0))
+    _ (rw (w (q e) .reborrow .ensures) at (c .before .before .up-to .ensures)))
     (λ c.
     let z = c .before .before .before .before .before in
-    let e = z .before .before in
-    laws.walk-is _ _ _ _ _ _ _ (S e .pre .1 .0) (S e .pre .1 .1) (up e) _ (rw (w e .reborrow .ensures) at (z .step .ensures .0))
-    _ (rw (w e .reborrow .ensures) at (c .before .before .up-to .ensures))))
+    let e = z .before in
+    let k = S (q e) .pre .1 in
+    laws.walk-is _ _ _ _ _ _ _ (k .0) (k .2) (k .1) _ (child e) _ (rw (w (q e) .reborrow .ensures) at (z .step .ensures .0))
+    _ (rw (w (q e) .reborrow .ensures) at (c .before .before .up-to .ensures))))
