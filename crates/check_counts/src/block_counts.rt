@@ -76,7 +76,7 @@ fn pointing_skip(t: &[u8], size: u32, level: u32, b: u32, block: BlockNumber, c:
         block: BlockNumber(link.0),
         place: BlockPlace(gap.0 - 1),
     };
-    prefix::up_to(t, size, LevelAt { level, b }, there, c)
+    prefix::up_to(&t, size, LevelAt { level, b }, there, c)
 }
 
 // How often the byte occurs in the linked blocks up to the end of the occurrence.
@@ -94,7 +94,7 @@ fn pointing_inside(t: &[u8], size: u32, level: u32, b: u32, block: BlockNumber, 
     let next = hand.block;
     let place = hand.place;
     let there = BlockPosition { block: next, place };
-    let rest = prefix::up_to(t, size, LevelAt { level, b }, there, c);
+    let rest = prefix::up_to(&t, size, LevelAt { level, b }, there, c);
     hand.plus + rest
 }
 

@@ -113,12 +113,12 @@ fn step(t: &[u8], size: u32, on: LevelAt, spot: BlockPosition, c: u32) -> Prefix
 }
 
 // How often counted byte number c occurs in a kept block above the last level up to a place, included. The number of levels left decreases.
-pub fn up_to(t: &[u8], size: u32, on: LevelAt, spot: BlockPosition, c: u32) -> u64
-    requires { ⌜ (on .b ≡ at.fullLength (now t) (on .level)) × (on .level + 1 < at.settings (now t) .levels)
-        × InKept (now t) size (on .level) (spot .block .0) (spot .place .0) c ⌝ }
-    ensures { λ r. ⌜ r ≡ upTo (now (t .entry)) (at.settings (now (t .entry)) .levels - 1 - on .level) (on .level) (spot .block .0) (spot .place .0) c ⌝ }
+pub fn up_to(t: &&[u8], size: u32, on: LevelAt, spot: BlockPosition, c: u32) -> u64
+    requires { ⌜ (on .b ≡ at.fullLength (now (now t)) (on .level)) × (on .level + 1 < at.settings (now (now t)) .levels)
+        × InKept (now (now t)) size (on .level) (spot .block .0) (spot .place .0) c ⌝ }
+    ensures { λ r. ⌜ r ≡ upTo (now (now (t .entry))) (at.settings (now (now (t .entry))) .levels - 1 - on .level) (on .level) (spot .block .0) (spot .place .0) c ⌝ }
 {
-    let tree = fields::reborrow(t);
+    let tree = *t;
     let shape = fields::shape_of(tree);
     let down = on.level + 1;
     let below = walk_steps::quotient(on.b, shape.arity);
@@ -133,6 +133,6 @@ pub fn up_to(t: &[u8], size: u32, on: LevelAt, spot: BlockPosition, c: u32) -> u
     let hand = step(tree, size, under, child, c);
     let block = hand.block;
     let place = hand.place;
-    let rest = up_to(tree, size, under, BlockPosition { block, place }, c);
+    let rest = up_to(t, size, under, BlockPosition { block, place }, c);
     hand.plus + rest - hand.minus
 }
