@@ -3,12 +3,12 @@ use mathlib.Core.List.{List}
 use mathlib.Core.Bool.{true, false}
 use mathlib.Core.Path.{_≡_, sym, _∙_}
 use mathlib.Core.Logic.{_⊎_, inl, inr}
-use Prim.Native.Nat.{ℕ, zero, suc, _-_, _≤_, _<_}
+use Prim.Native.Nat.{ℕ, zero, suc, _-_, _/_, _≤_, _<_}
 use native.Mathlib.Omega.{arith}
 use native.Mathlib.Nat.{pos-of-ne-zero}
 use borrow.Author.Tests.{ne-eqb}
 use Rattle.text.specs.Text.{allBelow}
-use Rattle.text.specs.ListLaws.{bool-cases, bool-clash, lt-or-ge, allBelow-make, allBelow-not}
+use Rattle.text.specs.ListLaws.{bool-cases, bool-clash, lt-or-ge, allBelow-at, allBelow-make, allBelow-not}
 use Rattle.format.specs.Layout.{blockLength}
 use Rattle.format.specs.Layout as at
 use Rattle.format.specs.TreeReading.{textOf, countsTrue}
@@ -17,7 +17,7 @@ use Rattle.theory_counts.specs.CountsLocal.{upLength, blockLocal, levelLocal}
 use Rattle.theory_counts.specs.LevelTrue.{Level, counts-facts, counts-make}
 use Rattle.theory_counts.specs.CountsExact.{level-true, level-local}
 use Rattle.check_counts.specs.CountsAsked.{Linking, TrueBelow}
-use Rattle.check_counts.specs.PrefixTargets.{upFrom}
+use Rattle.check_counts.specs.PrefixTargets.{childLength, byteLocal, upFrom}
 use Rattle.check_counts.proofs.CountsHeader as facts
 
 module _ (t : List ℕ) (h : Header) (w : Linking t h) where
@@ -38,14 +38,32 @@ module _ (t : List ℕ) (h : Header) (w : Linking t h) where
   up-is zero up e = e ∙ up-top
   up-is (suc l) up e = e ∙ up-under l
 
-  -- One block, all counted bytes.
-  module _ (level i : ℕ) where
-    pub bytes-done : (c : ℕ) → ((x : ℕ) → x < c → blockLocal t level i x ≡ true)
-        → h .settings .counted ≤ c → true ≡ allBelow (at.countedCount t) (blockLocal t level i)
-    bytes-done c f l = sym (allBelow-make (at.countedCount t) (blockLocal t level i) (λ x hx. f x (omega (arith, facts.counted-is t h w))))
+  pub child-length-is : (level b : ℕ) → b ≡ at.fullLength t level → b / h .settings .arity ≡ childLength t level
+  unfolding childLength
+  child-length-is level b e = rw (e, facts.arity-is t h w)
 
-    pub bytes-fail : (c : ℕ) → c < h .settings .counted → blockLocal t level i c ≡ false → false ≡ allBelow (at.countedCount t) (blockLocal t level i)
-    bytes-fail c l e = sym (allBelow-not (at.countedCount t) (blockLocal t level i) c (counted-low c l) e)
+  -- All blocks, one counted byte after the other.
+  module _ (level : ℕ) where
+    pub bytes-done : (c : ℕ) → ((x : ℕ) → x < c → byteLocal t level x ≡ true) → h .settings .counted ≤ c → true ≡ levelLocal t level
+    unfolding levelLocal byteLocal
+    bytes-done c f l =
+        sym (allBelow-make (at.levelCount t level) (λ i. allBelow (at.countedCount t) (blockLocal t level i))
+        (λ i hi. allBelow-make (at.countedCount t) (blockLocal t level i)
+        (λ x hx. allBelow-at (at.levelCount t level) (λ j. blockLocal t level j x) (f x (omega (arith, facts.counted-is t h w))) i hi)))
+
+    byte-holds : (c : ℕ) → c < h .settings .counted → levelLocal t level ≡ true → byteLocal t level c ≡ true
+    unfolding levelLocal byteLocal
+    byte-holds c l y =
+        allBelow-make (at.levelCount t level) (λ i. blockLocal t level i c)
+        (λ i hi. allBelow-at (at.countedCount t) (blockLocal t level i)
+        (allBelow-at (at.levelCount t level) (λ j. allBelow (at.countedCount t) (blockLocal t level j)) y i hi) c (counted-low c l))
+
+    pub bytes-fail : (c : ℕ) → c < h .settings .counted → byteLocal t level c ≡ false → false ≡ levelLocal t level
+    bytes-fail c l e = go (bool-cases (levelLocal t level))
+      where
+        go : (levelLocal t level ≡ true) ⊎ (levelLocal t level ≡ false) → false ≡ levelLocal t level
+        go (inl y) = bool-clash (byteLocal t level c) (byte-holds c l y) e
+        go (inr n) = sym n
 
   -- All levels.
   module _ (left : ℕ) (some : left ≡ 0 → ⊥) (low : left ≤ at.settings t .levels) (f : (m : ℕ) → left ≤ m → m < at.settings t .levels → Level t m) where
@@ -77,12 +95,12 @@ module _ (t : List ℕ) (h : Header) (w : Linking t h) where
   pub levels-done : (left : ℕ) → left ≡ 0 → ((m : ℕ) → left ≤ m → m < at.settings t .levels → Level t m) → true ≡ countsTrue (textOf t) t
   levels-done left z f = sym (counts-make t (λ l hl. f l (omega arith) hl))
 
--- One level, all blocks.
-module _ (t : List ℕ) (level n : ℕ) (n-is : n ≡ at.levelCount t level) where
-  pub blocks-done : (i : ℕ) → ((x : ℕ) → x < i → allBelow (at.countedCount t) (blockLocal t level x) ≡ true) → n ≤ i → true ≡ levelLocal t level
-  unfolding levelLocal
-  blocks-done i f l = sym (allBelow-make (at.levelCount t level) (λ x. allBelow (at.countedCount t) (blockLocal t level x)) (λ x hx. f x (omega arith)))
+-- One counted byte, all blocks of a level.
+module _ (t : List ℕ) (level c n : ℕ) (n-is : n ≡ at.levelCount t level) where
+  pub blocks-done : (i : ℕ) → ((x : ℕ) → x < i → blockLocal t level x c ≡ true) → n ≤ i → true ≡ byteLocal t level c
+  unfolding byteLocal
+  blocks-done i f l = sym (allBelow-make (at.levelCount t level) (λ x. blockLocal t level x c) (λ x hx. f x (omega arith)))
 
-  pub blocks-fail : (i : ℕ) → i < n → allBelow (at.countedCount t) (blockLocal t level i) ≡ false → false ≡ levelLocal t level
-  unfolding levelLocal
-  blocks-fail i l e = sym (allBelow-not (at.levelCount t level) (λ x. allBelow (at.countedCount t) (blockLocal t level x)) i (omega arith) e)
+  pub blocks-fail : (i : ℕ) → i < n → blockLocal t level i c ≡ false → false ≡ byteLocal t level c
+  unfolding byteLocal
+  blocks-fail i l e = sym (allBelow-not (at.levelCount t level) (λ x. blockLocal t level x c) i (omega arith) e)

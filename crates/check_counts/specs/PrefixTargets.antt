@@ -1,10 +1,11 @@
 -- The block that a place of a block refers to, and what is added and subtracted on the way, as the struct of the code.
 use mathlib.Core.List.{List}
-use mathlib.Core.Bool.{cond}
+use mathlib.Core.Bool.{Bool, cond}
 use Prim.Native.Nat.{ℕ, _+_, _-_, _*_, _/_, _%_, _^_}
 use lib.Dec.{eqb}
+use Rattle.text.specs.Text.{allBelow}
 use Rattle.format.specs.Layout as at
-use Rattle.theory_counts.specs.CountsLocal.{handBlock, handPlace, handPlus, handMinus, inLeafBytes}
+use Rattle.theory_counts.specs.CountsLocal.{handBlock, handPlace, handPlus, handMinus, inLeafBytes, blockLocal}
 use Rattle.layout.specs.declared.header.Header.{Header}
 use Rattle.layout.specs.declared.place.BlockPosition.{BlockPosition}
 use Rattle.check_counts.specs.declared.prefix.PrefixTarget.{PrefixTarget}
@@ -38,6 +39,14 @@ module _ (t : List ℕ) where
   -- The count of the parent of block i of the last level up to place o of the block, included.
   unfoldable pub lastSum : ℕ → ℕ → ℕ → ℕ → ℕ
   lastSum l i o c = at.before t l i c + inLeafBytes t l i (o + 1) c
+
+  -- The block length of the children, by that of the level.
+  unfoldable pub childLength : ℕ → ℕ
+  childLength l = at.fullLength t l / at.settings t .arity
+
+  -- The counts of counted byte number c in all blocks of a level.
+  unfoldable pub byteLocal : ℕ → ℕ → Bool
+  byteLocal l c = allBelow (at.levelCount t l) (λ i. blockLocal t l i c)
 
 -- The block length of the level above, by the header; for level 0, the length of the text.
 unfoldable pub upFrom : Header → ℕ → ℕ
