@@ -1,12 +1,10 @@
 -- The block that a place of a block refers to, and what is added and subtracted on the way, as the struct of the code.
 use mathlib.Core.List.{List}
-use mathlib.Core.Bool.{Bool, cond}
-use Prim.Native.Nat.{ℕ, _+_, _-_, _*_, _/_, _%_, _^_}
-use lib.Dec.{eqb}
+use mathlib.Core.Bool.{Bool}
+use Prim.Native.Nat.{ℕ, _+_, _/_, _%_}
 use Rattle.text.specs.Text.{allBelow}
 use Rattle.format.specs.Layout as at
 use Rattle.theory_counts.specs.CountsLocal.{handBlock, handPlace, handPlus, handMinus, inLeafBytes, blockLocal}
-use Rattle.layout.specs.declared.header.Header.{Header}
 use Rattle.layout.specs.declared.place.BlockPosition.{BlockPosition}
 use Rattle.check_counts.specs.declared.prefix.PrefixTarget.{PrefixTarget}
 
@@ -47,7 +45,3 @@ module _ (t : List ℕ) where
   -- The counts of counted byte number c in all blocks of a level.
   unfoldable pub byteLocal : ℕ → ℕ → Bool
   byteLocal l c = allBelow (at.levelCount t l) (λ i. blockLocal t l i c)
-
--- The block length of the level above, by the header; for level 0, the length of the text.
-unfoldable pub upFrom : Header → ℕ → ℕ
-upFrom h level = cond (eqb level 0) (h .«text_length») (h .settings .leaf * h .settings .arity ^ (h .settings .levels - 1 - (level - 1)))

@@ -41,7 +41,8 @@ fn kept_inside(
     block: BlockNumber,
     c: u32,
 ) -> u64
-    requires { ⌜ (b ≡ at.fullLength (now t) level) × (below ≡ childLength (now t) level) × InTable (now t) size level (block .0) c × (at.isKept (now t) level (block .0) ≡ true) ⌝ }
+    requires { ⌜ (b ≡ at.fullLength (now t) level) × (below ≡ childLength (now t) level)
+        × InTable (now t) size level (block .0) c × (at.isKept (now t) level (block .0) ≡ true) ⌝ }
     ensures { λ r. ⌜ r ≡ keptInside (now (t .entry)) level (block .0) c ⌝ }
 {
     let shape = fields::shape_of(t);
@@ -67,7 +68,8 @@ fn kept_right(
     block: BlockNumber,
     c: u32,
 ) -> bool
-    requires { ⌜ (b ≡ at.fullLength (now t) level) × (below ≡ childLength (now t) level) × InTable (now t) size level (block .0) c × (at.isKept (now t) level (block .0) ≡ true) ⌝ }
+    requires { ⌜ (b ≡ at.fullLength (now t) level) × (below ≡ childLength (now t) level)
+        × InTable (now t) size level (block .0) c × (at.isKept (now t) level (block .0) ≡ true) ⌝ }
     ensures { λ r. ⌜ r ≡ keptLocal (now (t .entry)) level (block .0) c ⌝ }
 {
     let skip = record::skip(t, size, level, block, c);
@@ -141,8 +143,8 @@ pub fn block_right(
     block: BlockNumber,
     c: u32,
 ) -> bool
-    requires { ⌜ (on .b ≡ at.fullLength (now t) (on .level)) × (up ≡ upLength (now t) (on .level)) × (below ≡ childLength (now t) (on .level)) × InTable (now t) size (on .level) (block .0) c
-        × TrueBelow (now t) (on .level) ⌝ }
+    requires { ⌜ (on .b ≡ at.fullLength (now t) (on .level)) × (up ≡ upLength (now t) (on .level)) × (below ≡ childLength (now t) (on .level))
+        × InTable (now t) size (on .level) (block .0) c × TrueBelow (now t) (on .level) ⌝ }
     ensures { λ r. ⌜ r ≡ blockLocal (now (t .entry)) (on .level) (block .0) c ⌝ }
 {
     if !before_right(t, size, on.level, up, block, c) {

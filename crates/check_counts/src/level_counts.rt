@@ -8,9 +8,8 @@ ghost use mathlib.Core.Path.{_≡_};
 ghost use Prim.Native.Nat.{_+_, _-_, _<_};
 ghost use Rattle.format.specs.Layout as at;
 ghost use Rattle.theory_counts.specs.CountsLocal.{upLength, levelLocal};
-ghost use Rattle.layout.specs.SettingsLevel.{Sized};
 ghost use Rattle.check_counts.specs.CountsAsked.{Linking, TrueBelow};
-ghost use Rattle.check_counts.specs.PrefixTargets.{byteLocal, upFrom};
+ghost use Rattle.check_counts.specs.PrefixTargets.{byteLocal};
 
 // The counts of one counted byte in all blocks of a level.
 fn byte_right(t: &[u8], h: Header, level: u32, b: u32, up: u32, c: u32) -> bool
@@ -39,23 +38,22 @@ fn byte_right(t: &[u8], h: Header, level: u32, b: u32, up: u32, c: u32) -> bool
 }
 
 // The block length of the level above; for level 0, the length of the text.
-fn up_length(h: Header, level: u32) -> u32
-    requires { ⌜ Sized (h .settings) level ⌝ }
-    ensures { λ r. ⌜ r ≡ upFrom h level ⌝ }
+fn up_length(t: &[u8], h: Header, level: u32, b: u32) -> u32
+    requires { ⌜ (b ≡ at.fullLength (now t) level) × Linking (now t) h × (level < at.settings (now t) .levels) ⌝ }
+    ensures { λ r. ⌜ r ≡ upLength (now (t .entry)) level ⌝ }
 {
     if level == 0 {
         return h.text_length;
     }
-    h.settings.block_length(level - 1)
+    b * h.settings.arity
 }
 
-// One pass over the records of a level for each counted byte.
-pub fn level_right(t: &[u8], h: Header, level: u32) -> bool
-    requires { ⌜ Linking (now t) h × (level < at.settings (now t) .levels) × TrueBelow (now t) level ⌝ }
+// One pass over the records of a level for each counted byte; b is its block length.
+pub fn level_right(t: &[u8], h: Header, level: u32, b: u32) -> bool
+    requires { ⌜ (b ≡ at.fullLength (now t) level) × Linking (now t) h × (level < at.settings (now t) .levels) × TrueBelow (now t) level ⌝ }
     ensures { λ r. ⌜ r ≡ levelLocal (now (t .entry)) level ⌝ }
 {
-    let b = h.settings.block_length(level);
-    let up = up_length(h, level);
+    let up = up_length(t, h, level, b);
     let k = h.settings.counted;
     let mut c: u32 = 0;
     while c < k {

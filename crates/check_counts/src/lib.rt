@@ -15,10 +15,12 @@ pub fn counts_right(t: &[u8], h: Header) -> bool
     ensures { λ r. ⌜ r ≡ countsTrue (textOf (now (t .entry))) (now (t .entry)) ⌝ }
 {
     let mut left = h.settings.levels;
+    let mut b = h.settings.leaf;
     while left != 0 {
-        if !level_counts::level_right(t, h, left - 1) {
+        if !level_counts::level_right(t, h, left - 1, b) {
             return false;
         }
+        b = b * h.settings.arity;
         left = left - 1;
     }
     true

@@ -116,7 +116,8 @@ fn step(t: &[u8], size: u32, on: LevelAt, spot: BlockPosition, c: u32) -> Prefix
 pub fn up_to(t: &&[u8], size: u32, on: LevelAt, spot: BlockPosition, c: u32) -> u64
     requires { ⌜ (on .b ≡ at.fullLength (now (now t)) (on .level)) × (on .level + 1 < at.settings (now (now t)) .levels)
         × InKept (now (now t)) size (on .level) (spot .block .0) (spot .place .0) c ⌝ }
-    ensures { λ r. ⌜ r ≡ upTo (now (now (t .entry))) (at.settings (now (now (t .entry))) .levels - 1 - on .level) (on .level) (spot .block .0) (spot .place .0) c ⌝ }
+    ensures { λ r. ⌜ r ≡ upTo (now (now (t .entry)))
+        (at.settings (now (now (t .entry))) .levels - 1 - on .level) (on .level) (spot .block .0) (spot .place .0) c ⌝ }
 {
     let tree = *t;
     let shape = fields::shape_of(tree);

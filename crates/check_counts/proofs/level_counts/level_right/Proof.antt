@@ -4,7 +4,6 @@ use borrow.Author.Needs.{needs}
 use mathlib.Core.Bool.{true}
 use mathlib.Core.Path.{_≡_}
 use native.Mathlib.Omega.{arith}
-use Rattle.layout.specs.HeaderFields as header
 use Rattle.check_counts.specs.PrefixTargets.{byteLocal}
 use Rattle.check_counts.proofs.LevelCountsLaws as laws
 use Rattle.layout.proofs.AnswerTests.{failed, held}
@@ -21,20 +20,19 @@ pub level-right-spec : {M : Type 1} → statement M
 level-right-spec =
     tie.close
     (tie.spec Inv-loop μ-loop
-    (λ c κs. header.sized _ _ (c .before .pre .0 .header) _ (omega (arith, c .before .pre .1, c .before .pre .0 .header .levels-is)))
-    (λ c κs. header.sized _ _ (c .before .before .pre .0 .header) _ (omega (arith, c .before .before .pre .1, c .before .before .pre .0 .header .levels-is)))
+    (λ c κs. let w = c .before in (w .pre .0, w .pre .1, w .pre .2))
     (λ c. (omega arith, λ x l. absurd (let z : ⊥ = omega arith in z)))
-    (λ c κs. let u = c .before .before in let w = u .before .before .before in (
-      header.full-is _ _ (w .pre .0 .header) _ _ (u .before .block-length .ensures),
-      laws.up-is _ _ (w .pre .0) _ _ (u .up-length .ensures),
+    (λ c κs. let u = c .before .before in let w = u .before .before in (
       w .pre .0,
+      u .up-length .ensures,
       w .pre .1,
-      laws.counted-low _ _ (w .pre .0) _ (omega arith),
       w .pre .2,
+      laws.counted-low _ _ (w .pre .1) _ (omega arith),
+      w .pre .3,
     ))
-    (λ c. laws.bytes-fail _ _ (c .before .before .before .before .before .before .before .pre .0)
+    (λ c. laws.bytes-fail _ _ (c .before .before .before .before .before .before .pre .1)
     _ _ (omega arith) (failed (c .before .byte-right .ensures) (c .if1 .taken)))
     (λ c. search needs)
     (λ c. search needs)
     (λ c. (omega arith, below-more _ _ (c .before .before .before .loop .inv .1) (held (c .before .byte-right .ensures) (c .if1 .left))))
-    (λ c. laws.bytes-done _ _ (c .before .before .before .before .before .pre .0) _ _ (c .before .loop .inv .1) (omega arith)))
+    (λ c. laws.bytes-done _ _ (c .before .before .before .before .pre .1) _ _ (c .before .loop .inv .1) (omega arith)))
