@@ -114,6 +114,9 @@ module _ (t : List ℕ) (size level i c : ℕ) (w : InTable t size level i c) wh
     p : Pointing t level i
     p = d .points level i (w .level-in) (w .block-in) un
 
+    pub points-above : level + 1 < at.settings t .levels
+    points-above = p .above
+
     module _ (g : ℕ) (g-is : g ≡ at.gap t level i) where
       pub no-gap : g ≡ 0 → 0 ≡ pointingSkip t level i c
       unfolding pointingSkip

@@ -1,7 +1,7 @@
 -- What the header's fields and a block's record are, where the check of counts looks at them.
 use mathlib.Core.List.{List}
 use mathlib.Core.Bool.{true, false}
-use mathlib.Core.Path.{_≡_, sym, _∙_}
+use mathlib.Core.Path.{_≡_, refl, sym, _∙_}
 use Prim.Native.Nat.{ℕ, _+_, _-_, _/_, _≤_, _<_}
 use native.Mathlib.Omega.{arith}
 use native.Mathlib.Nat.{mul-div-cancel}
@@ -21,6 +21,7 @@ use Rattle.layout.specs.declared.header.Header.{Header}
 use Rattle.layout.specs.Record.{FieldIn, field-in}
 use Rattle.walk_steps.specs.Steps as steps
 use Rattle.check_counts.specs.CountsAsked.{Linking, Sound, InTable}
+use Rattle.check_counts.specs.PrefixTargets.{childLength}
 
 module _ (t : List ℕ) (h : Header) (w : Linking t h) where
   pub counted-is : h .settings .counted ≡ at.countedCount t
@@ -58,6 +59,10 @@ module _ (t : List ℕ) (size : ℕ) (w : Sound t size) where
   below-is level b r b-is r-is above =
       let pos : 0 < at.settings t .arity = omega (arith, w .facts .bounds .arity-low) in
       rw (r-is, b-is, full-step t (w .facts) level above) (mul-div-cancel (at.fullLength t (level + 1)) pos)
+
+  pub child-below-is : (level b : ℕ) → b ≡ childLength t level → level + 1 < at.settings t .levels → b ≡ at.fullLength t (level + 1)
+  unfolding childLength
+  child-below-is level b e above = e ∙ below-is level (at.fullLength t level) (at.settings t .arity) refl refl above
 
 -- A level's count is a word.
 pub count-lt : (t : List ℕ) (l : ℕ) → ((k : ℕ) → getD t k 0 < 256) → at.levelCount t l < 4294967296

@@ -1,20 +1,24 @@
 -- The count walk: from the fields read to the result.
 use mathlib.Core.List.{List}
-use mathlib.Core.Bool.{false}
+use mathlib.Core.Bool.{true, false}
+use mathlib.Core.Logic.{_⊎_, inl, inr}
 use mathlib.Core.Path.{_≡_, _∙_}
 use Prim.Native.Nat.{ℕ, suc, _+_, _-_, _/_, _%_, _≤_, _<_, _*_}
 use native.Mathlib.Omega.{arith}
 use borrow.Author.Tests.{lt-ltb, le-ltb}
 use lib.ListN.{length, getD}
 use Rattle.text.specs.Text.{stretch, countIn}
-use Rattle.format.specs.Layout.{maxText, countedAt}
+use Rattle.text.specs.ListLaws.{bool-cases}
+use Rattle.format.specs.Layout.{maxText, maxLeaf, countedAt, linkField}
 use Rattle.format.specs.Layout as at
-use Rattle.format.specs.LayoutLaws.{Readable, full-pos, full-small}
+use Rattle.format.specs.LayoutLaws.{Readable, full-pos, full-small, full-last}
 use Rattle.theory_paths.specs.Links.{Linked, Pointing}
-use Rattle.theory_paths.specs.BlockStarts.{len-small, child}
+use Rattle.theory_paths.specs.BlockStarts.{len-small, Child, child}
 use Rattle.theory_paths.specs.PlacesLand.{target-first, target-second}
 use Rattle.layout.specs.declared.place.BlockNumber.{BlockNumber}
 use Rattle.layout.specs.declared.place.BlockPlace.{BlockPlace}
+use Rattle.layout.specs.declared.place.BlockPosition.{BlockPosition}
+use Rattle.layout.specs.Record.{FieldIn, field-in}
 use Rattle.walk_steps.specs.declared.DivRem.{DivRem}
 use Rattle.theory_counts.specs.LevelTrue.{tally, Level}
 use Rattle.theory_counts.specs.CountsExact.{up-to}
@@ -22,8 +26,8 @@ use Rattle.theory_counts.specs.CountedStretches.{leaves-end, tally-le}
 use Rattle.theory_counts.specs.PointedCounts.{Handed, handed}
 use Rattle.theory_counts.specs.CountsLocal.{handBlock, handPlace, handPlus, handMinus, inLeafBytes, upTo}
 use Rattle.check_counts.specs.declared.prefix.PrefixTarget.{PrefixTarget}
-use Rattle.check_counts.specs.CountsAsked.{Sound, InTable, InBlock, InKept}
-use Rattle.check_counts.specs.PrefixTargets.{targetOf, stepOf}
+use Rattle.check_counts.specs.CountsAsked.{Sound, InTable, InBlock, KeptPlace, InKept}
+use Rattle.check_counts.specs.PrefixTargets.{targetOf, stepOf, childOf, lastSum}
 use Rattle.check_counts.proofs.CountsHeader as facts
 
 -- Handing a place on.
@@ -82,6 +86,14 @@ module _ (t : List ℕ) (size level i n c link : ℕ) (w : InTable t size level 
       let k = w .tree .facts in
       omega (arith, leaves-end t k (facts.linked t size (w .tree)) level i last (w .block-in), k .size)
 
+  -- A block of the last level has at most m bytes.
+  pub leaves-few : n ≤ maxLeaf
+  leaves-few =
+      let k = w .tree .facts in
+      let e : level ≡ at.settings t .levels - 1 = omega arith in
+      let b : at.fullLength t level ≡ at.settings t .leaf = rw e (full-last t k) in
+      omega (arith, len-small t level i, k .bounds .leaf-high)
+
   pub leaves-are : (off : ℕ) → off ≡ at.leafOffset t
       → (r : ℕ) → r ≡ countIn (getD t (countedAt + c) 0) (stretch t (off + link) n) → r ≡ inLeafBytes t level i n c
   unfolding inLeafBytes
@@ -89,26 +101,35 @@ module _ (t : List ℕ) (size level i n c link : ℕ) (w : InTable t size level 
 
 -- A step to a child.
 
-module _ (t : List ℕ) (size level b c i o : ℕ) (b-is : b ≡ at.fullLength t (level + 1)) (hl : level + 1 < at.settings t .levels)
-    (w : InKept t size level i o c) (j : ℕ) (j-is : j ≡ at.link t level i) where
+module _ (t : List ℕ) (size level b i o : ℕ) (b-is : b ≡ at.fullLength t (level + 1)) (above : level + 1 < at.settings t .levels)
+    (w : KeptPlace t size level i o) where
+  pub link-there : FieldIn t size level i linkField
+  link-there = field-in t (w .tree .facts) size level i linkField (w .tree .size-is) (omega arith) (w .block-in) (omega arith)
+
   pub step-pos : 0 < b
-  step-pos = rw b-is (full-pos t (w .block .table .tree .facts) (level + 1))
+  step-pos = rw b-is (full-pos t (w .tree .facts) (level + 1))
 
-  module _ (part : DivRem) (part-is : part ≡ record { blocks = o / b; place = record { 0 = o % b } }) where
-    pub child-there : InBlock t size (level + 1) (j + part .blocks) (part .place .0) c
-    child-there =
-        let tree = w .block .table .tree in
-        let q = child t (tree .facts) (facts.linked t size tree) level i o hl (w .block .table .block-in) (w .kept) (w .block .place-in) in
-        rw (part-is, j-is, b-is) (record {
-          table = record { tree = tree; level-in = hl; block-in = q .below; number-in = w .block .table .number-in };
-          place-in = q .inside;
-        })
+  module _ (j : ℕ) (part : DivRem) (j-is : j ≡ at.link t level i) (part-is : part ≡ record { blocks = o / b; place = record { 0 = o % b } }) where
+    pub child-below : j + part .blocks < at.levelCount t (level + 1)
+    child-below =
+        let q = child t (w .tree .facts) (facts.linked t size (w .tree)) level i o above (w .block-in) (w .kept) (w .place-in) in
+        rw (part-is, j-is, b-is) (q .below)
 
-    pub step-is : (x : ℕ) (on : PrefixTarget) → x ≡ at.before t (level + 1) (j + part .blocks) c → on
-        ≡ targetOf t (level + 1) (j + part .blocks) (part .place .0) c
-        → record { block = on .block; place = on .place; plus = x + on .plus; minus = on .minus } ≡ stepOf t level i o c
-    unfolding stepOf targetOf
-    step-is x on x-is e = rw (x-is, e, part-is, j-is, b-is)
+    pub child-is : record { block = record { 0 = j + part .blocks }; place = part .place } ≡ childOf t level i o
+    unfolding childOf
+    child-is = rw (part-is, j-is, b-is)
+
+-- In a child.
+
+module _ (t : List ℕ) (l i o c x : ℕ) (x-is : x ≡ at.before t l i c) where
+  pub last-is : (r : ℕ) → r ≡ inLeafBytes t l i (o + 1) c → x + r ≡ lastSum t l i o c
+  unfolding lastSum
+  last-is r r-is = rw (x-is, r-is)
+
+  pub step-is : (on : PrefixTarget)
+      → on ≡ targetOf t l i o c → record { block = on .block; place = on .place; plus = x + on .plus; minus = on .minus } ≡ stepOf t l i o c
+  unfolding stepOf targetOf
+  step-is on e = rw (x-is, e)
 
 -- The walk.
 
@@ -122,9 +143,6 @@ module _ (t : List ℕ) (size level b c i o : ℕ) (b-is : b ≡ at.fullLength t
   d : Linked t
   d = facts.linked t size tree
 
-  pub not-last : (level + 1 ≡ at.settings t .levels → ⊥) → level + 1 < at.settings t .levels
-  not-last n = facts.not-last t size tree level (w .block .table .level-in) n
-
   pub walk-small : (r : ℕ) → r ≡ upTo t (at.settings t .levels - 1 - level) level i o c → r ≤ maxText
   walk-small r e =
       omega (
@@ -137,13 +155,12 @@ module _ (t : List ℕ) (size level b c i o : ℕ) (b-is : b ≡ at.fullLength t
         facts.length-lt t size level i c (w .block .table),
       )
 
-  pub walk-last : level + 1 ≡ at.settings t .levels → (r : ℕ) → r ≡ inLeafBytes t level i (o + 1) c → r ≡ upTo t (at.settings t .levels - 1 - level) level i o c
-  unfolding upTo
-  walk-last e r f = let z : at.settings t .levels - 1 - level ≡ 0 = omega (arith, e) in f ∙ rw z
-
   module _ (above : level + 1 < at.settings t .levels) where
     pub below-is : (r : ℕ) → r ≡ at.settings t .arity → b / r ≡ at.fullLength t (level + 1)
     below-is r r-is = facts.below-is t size tree level b r b-is r-is above
+
+    pub kept-place : KeptPlace t size level i o
+    kept-place = record { tree = tree; block-in = w .block .table .block-in; kept = w .kept; place-in = w .block .place-in }
 
     abbrev down : ℕ
     down = at.link t level i + o / at.fullLength t (level + 1)
@@ -151,15 +168,43 @@ module _ (t : List ℕ) (size level b c i o : ℕ) (b-is : b ≡ at.fullLength t
     abbrev onward : ℕ
     onward = o % at.fullLength t (level + 1)
 
+    q : Child t k d level i o down onward
+    q = child t k d level i o above (w .block .table .block-in) (w .kept) (w .block .place-in)
+
     next : Handed t k d (level + 1) down onward c
-    next =
-        let q = child t k d level i o above (w .block .table .block-in) (w .kept) (w .block .place-in) in
-        handed t k d (level + 1) down onward c above (q .below) (q .inside) (w .block .table .number-in) (w .below (level + 1) (omega arith) above)
+    next = handed t k d (level + 1) down onward c above (q .below) (q .inside) (w .block .table .number-in) (w .below (level + 1) (omega arith) above)
 
     below-true : (m : ℕ) → level + 1 < m → m < at.settings t .levels → Level t m
     below-true m lt hm = w .below m (omega arith) hm
 
-    module _ (on : PrefixTarget) (on-is : on ≡ stepOf t level i o c) where
+    module _ (s : BlockPosition) (s-is : s ≡ childOf t level i o) where
+      pub child-there : InBlock t size (level + 1) (s .block .0) (s .place .0) c
+      unfolding childOf
+      child-there = rw s-is (record {
+        table = record { tree = tree; level-in = above; block-in = q .below; number-in = w .block .table .number-in };
+        place-in = q .inside;
+      })
+
+      -- No block of the last level points.
+      last-kept : level + 1 + 1 ≡ at.settings t .levels → at.isKept t (level + 1) down ≡ true
+      last-kept e = go (bool-cases (at.isKept t (level + 1) down))
+        where
+          go : (at.isKept t (level + 1) down ≡ true) ⊎ (at.isKept t (level + 1) down ≡ false) → at.isKept t (level + 1) down ≡ true
+          go (inl y) = y
+          go (inr n) = absurd (let z : ⊥ = omega (arith, d .points (level + 1) down above (q .below) n .above) in z)
+
+      pub walk-last : level + 1 + 1 ≡ at.settings t .levels
+          → (r : ℕ) → r ≡ lastSum t (level + 1) (s .block .0) (s .place .0) c → r ≡ upTo t (at.settings t .levels - 1 - level) level i o c
+      unfolding upTo lastSum childOf handBlock handPlace handPlus handMinus
+      walk-last e r f =
+          let z : at.settings t .levels - 1 - level ≡ suc 0 = omega arith in
+          rw s-is at f ∙ rw (z, last-kept e) (omega arith)
+
+    module _ (s : BlockPosition) (s-is : s ≡ childOf t level i o) (on : PrefixTarget) (found : on ≡ stepOf t (level + 1) (s .block .0) (s .place .0) c) where
+      on-is : on ≡ stepOf t (level + 1) down onward c
+      unfolding childOf
+      on-is = rw s-is at found
+
       pub walk-next : InKept t size (level + 1) (on .block .0) (on .place .0) c
       unfolding stepOf
       walk-next = rw on-is (record {

@@ -39,6 +39,13 @@ module _ (t : List ℕ) (size : ℕ) where
     pub table : InTable level i c
     pub place-in : o < at.blockLengthAt t level i
 
+  -- A place of a kept block.
+  pub record KeptPlace (level i o : ℕ) : Type 0 where
+    pub tree : Sound
+    pub block-in : i < at.levelCount t level
+    pub kept : at.isKept t level i ≡ true
+    pub place-in : o < at.blockLengthAt t level i
+
   -- The block is kept, and the counts of the levels below are right.
   pub record InKept (level i o c : ℕ) : Type 0 where
     pub block : InBlock level i o c

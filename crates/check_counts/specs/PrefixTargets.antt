@@ -1,11 +1,11 @@
 -- The block that a place of a block refers to, and what is added and subtracted on the way, as the struct of the code.
 use mathlib.Core.List.{List}
-use mathlib.Core.Bool.{cond}
-use Prim.Native.Nat.{ℕ, _+_, _-_, _*_, _/_, _%_, _^_}
-use lib.Dec.{eqb}
+use mathlib.Core.Bool.{Bool}
+use Prim.Native.Nat.{ℕ, _+_, _/_, _%_}
+use Rattle.text.specs.Text.{allBelow}
 use Rattle.format.specs.Layout as at
-use Rattle.theory_counts.specs.CountsLocal.{handBlock, handPlace, handPlus, handMinus}
-use Rattle.layout.specs.declared.header.Header.{Header}
+use Rattle.theory_counts.specs.CountsLocal.{handBlock, handPlace, handPlus, handMinus, inLeafBytes, blockLocal}
+use Rattle.layout.specs.declared.place.BlockPosition.{BlockPosition}
 use Rattle.check_counts.specs.declared.prefix.PrefixTarget.{PrefixTarget}
 
 module _ (t : List ℕ) where
@@ -18,17 +18,30 @@ module _ (t : List ℕ) where
     minus = handMinus t l i c;
   }
 
-  -- The same for the child of kept block i that contains place o, with the child's count before.
+  -- The same for a child, with its count before.
   unfoldable pub stepOf : ℕ → ℕ → ℕ → ℕ → PrefixTarget
-  stepOf l i o c =
-      let j = at.link t l i + o / at.fullLength t (l + 1) in
-      let p = o % at.fullLength t (l + 1) in record {
-        block = record { 0 = handBlock t (l + 1) j p };
-        place = record { 0 = handPlace t (l + 1) j p };
-        plus = at.before t (l + 1) j c + handPlus t (l + 1) j p c;
-        minus = handMinus t (l + 1) j c;
-      }
+  stepOf l i o c = record {
+    block = record { 0 = handBlock t l i o };
+    place = record { 0 = handPlace t l i o };
+    plus = at.before t l i c + handPlus t l i o c;
+    minus = handMinus t l i c;
+  }
 
--- The block length of the level above, by the header; for level 0, the length of the text.
-unfoldable pub upFrom : Header → ℕ → ℕ
-upFrom h level = cond (eqb level 0) (h .«text_length») (h .settings .leaf * h .settings .arity ^ (h .settings .levels - 1 - (level - 1)))
+  -- The child of kept block i that contains place o, and the place in it.
+  unfoldable pub childOf : ℕ → ℕ → ℕ → BlockPosition
+  childOf l i o = record {
+    block = record { 0 = at.link t l i + o / at.fullLength t (l + 1) };
+    place = record { 0 = o % at.fullLength t (l + 1) };
+  }
+
+  -- The count of the parent of block i of the last level up to place o of the block, included.
+  unfoldable pub lastSum : ℕ → ℕ → ℕ → ℕ → ℕ
+  lastSum l i o c = at.before t l i c + inLeafBytes t l i (o + 1) c
+
+  -- The block length of the children, by that of the level.
+  unfoldable pub childLength : ℕ → ℕ
+  childLength l = at.fullLength t l / at.settings t .arity
+
+  -- The counts of counted byte number c in all blocks of a level.
+  unfoldable pub byteLocal : ℕ → ℕ → Bool
+  byteLocal l c = allBelow (at.levelCount t l) (λ i. blockLocal t l i c)

@@ -12,6 +12,7 @@ ghost use lib.Dec.{eqb};
 ghost use Rattle.format.specs.Layout as at;
 ghost use Rattle.theory_counts.specs.CountsLocal.{upLength, beforeLocal, keptInside, keptLocal, pointingSkip, pointingInside, pointingLocal, blockLocal};
 ghost use Rattle.check_counts.specs.CountsAsked.{InTable, TrueBelow};
+ghost use Rattle.check_counts.specs.PrefixTargets.{childLength};
 
 // The count before is 0 at the start of the parent, else the sum of before and inside of the left neighbour; `up` is the block length of the parent.
 fn before_right(t: &[u8], size: u32, level: u32, up: u32, block: BlockNumber, c: u32) -> bool
@@ -30,9 +31,18 @@ fn before_right(t: &[u8], size: u32, level: u32, up: u32, block: BlockNumber, c:
     before as u64 == to_left + in_left
 }
 
-// The count inside of a kept block: that of its leaf bytes, or before plus inside of its last child.
-fn kept_inside(t: &[u8], size: u32, level: u32, b: u32, block: BlockNumber, c: u32) -> u64
-    requires { ⌜ (b ≡ at.fullLength (now t) level) × InTable (now t) size level (block .0) c × (at.isKept (now t) level (block .0) ≡ true) ⌝ }
+// The count inside of a kept block: that of its leaf bytes, or before plus inside of its last child. `below` is the block length of the children.
+fn kept_inside(
+    t: &[u8],
+    size: u32,
+    level: u32,
+    b: u32,
+    below: u32,
+    block: BlockNumber,
+    c: u32,
+) -> u64
+    requires { ⌜ (b ≡ at.fullLength (now t) level) × (below ≡ childLength (now t) level)
+        × InTable (now t) size level (block .0) c × (at.isKept (now t) level (block .0) ≡ true) ⌝ }
     ensures { λ r. ⌜ r ≡ keptInside (now (t .entry)) level (block .0) c ⌝ }
 {
     let shape = fields::shape_of(t);
@@ -42,15 +52,24 @@ fn kept_inside(t: &[u8], size: u32, level: u32, b: u32, block: BlockNumber, c: u
         return prefix::in_leaves(t, size, level, block, length, c);
     }
     let link = record::link(t, size, level, block);
-    let last = BlockNumber(link.0 + (length - 1) / (b / shape.arity));
+    let last = BlockNumber(link.0 + (length - 1) / below);
     let to_last = record::before(t, size, down, last, c) as u64;
     let in_last = record::inside(t, size, down, last, c) as u64;
     to_last + in_last
 }
 
 // A kept block has its count inside, and a skip of 0.
-fn kept_right(t: &[u8], size: u32, level: u32, b: u32, block: BlockNumber, c: u32) -> bool
-    requires { ⌜ (b ≡ at.fullLength (now t) level) × InTable (now t) size level (block .0) c × (at.isKept (now t) level (block .0) ≡ true) ⌝ }
+fn kept_right(
+    t: &[u8],
+    size: u32,
+    level: u32,
+    b: u32,
+    below: u32,
+    block: BlockNumber,
+    c: u32,
+) -> bool
+    requires { ⌜ (b ≡ at.fullLength (now t) level) × (below ≡ childLength (now t) level)
+        × InTable (now t) size level (block .0) c × (at.isKept (now t) level (block .0) ≡ true) ⌝ }
     ensures { λ r. ⌜ r ≡ keptLocal (now (t .entry)) level (block .0) c ⌝ }
 {
     let skip = record::skip(t, size, level, block, c);
@@ -58,7 +77,7 @@ fn kept_right(t: &[u8], size: u32, level: u32, b: u32, block: BlockNumber, c: u3
         return false;
     }
     let inside = record::inside(t, size, level, block, c);
-    inside as u64 == kept_inside(t, size, level, b, block, c)
+    inside as u64 == kept_inside(t, size, level, b, below, block, c)
 }
 
 // How often the byte occurs in the linked block before the gap.
@@ -76,7 +95,7 @@ fn pointing_skip(t: &[u8], size: u32, level: u32, b: u32, block: BlockNumber, c:
         block: BlockNumber(link.0),
         place: BlockPlace(gap.0 - 1),
     };
-    prefix::up_to(t, size, LevelAt { level, b }, there, c)
+    prefix::up_to(&t, size, LevelAt { level, b }, there, c)
 }
 
 // How often the byte occurs in the linked blocks up to the end of the occurrence.
@@ -94,7 +113,7 @@ fn pointing_inside(t: &[u8], size: u32, level: u32, b: u32, block: BlockNumber, 
     let next = hand.block;
     let place = hand.place;
     let there = BlockPosition { block: next, place };
-    let rest = prefix::up_to(t, size, LevelAt { level, b }, there, c);
+    let rest = prefix::up_to(&t, size, LevelAt { level, b }, there, c);
     hand.plus + rest
 }
 
@@ -115,9 +134,17 @@ fn pointing_right(t: &[u8], size: u32, level: u32, b: u32, block: BlockNumber, c
 }
 
 // The counts before, inside and skip of one counted byte in one block; the levels below have been checked.
-pub fn block_right(t: &[u8], size: u32, on: LevelAt, up: u32, block: BlockNumber, c: u32) -> bool
-    requires { ⌜ (on .b ≡ at.fullLength (now t) (on .level)) × (up ≡ upLength (now t) (on .level)) × InTable (now t) size (on .level) (block .0) c
-        × TrueBelow (now t) (on .level) ⌝ }
+pub fn block_right(
+    t: &[u8],
+    size: u32,
+    on: LevelAt,
+    up: u32,
+    below: u32,
+    block: BlockNumber,
+    c: u32,
+) -> bool
+    requires { ⌜ (on .b ≡ at.fullLength (now t) (on .level)) × (up ≡ upLength (now t) (on .level)) × (below ≡ childLength (now t) (on .level))
+        × InTable (now t) size (on .level) (block .0) c × TrueBelow (now t) (on .level) ⌝ }
     ensures { λ r. ⌜ r ≡ blockLocal (now (t .entry)) (on .level) (block .0) c ⌝ }
 {
     if !before_right(t, size, on.level, up, block, c) {
@@ -125,7 +152,7 @@ pub fn block_right(t: &[u8], size: u32, on: LevelAt, up: u32, block: BlockNumber
     }
     let kind = record::kind(t, size, on.level, block);
     if kind == 0 {
-        return kept_right(t, size, on.level, on.b, block, c);
+        return kept_right(t, size, on.level, on.b, below, block, c);
     }
     pointing_right(t, size, on.level, on.b, block, c)
 }

@@ -1,4 +1,5 @@
 // The count walk: how often a counted byte occurs in a kept block up to a place. It enters one child on each level.
+use crate::leaf_count;
 use layout::header;
 use layout::place::BlockNumber;
 use layout::place::BlockPlace;
@@ -10,8 +11,8 @@ ghost use mathlib.Core.Path.{_≡_};
 ghost use Prim.Native.Nat.{_+_, _-_, _≤_, _<_};
 ghost use Rattle.format.specs.Layout as at;
 ghost use Rattle.theory_counts.specs.CountsLocal.{inLeafBytes, upTo};
-ghost use Rattle.check_counts.specs.CountsAsked.{InTable, InBlock, InKept};
-ghost use Rattle.check_counts.specs.PrefixTargets.{targetOf, stepOf};
+ghost use Rattle.check_counts.specs.CountsAsked.{InTable, InBlock, KeptPlace, InKept};
+ghost use Rattle.check_counts.specs.PrefixTargets.{targetOf, childOf, lastSum, stepOf};
 
 // The kept block of a level that contains a place, and what is added and subtracted on the way to it.
 pub struct PrefixTarget {
@@ -30,7 +31,7 @@ pub fn in_leaves(t: &[u8], size: u32, level: u32, block: BlockNumber, n: u32, c:
     let link = record::link(t, size, level, block);
     let from = shape.leaf_offset as usize + link.0 as usize;
     let byte = t[header::COUNTED_AT + c as usize];
-    byte_slices::count_in(t, from, n, byte) as u64
+    leaf_count::leaf_count(t, from, n, byte) as u64
 }
 
 // The kept block for a place: a kept block itself; for a pointing block its first target, or the second if the place is past the end of the first.
@@ -70,25 +71,37 @@ pub fn prefix_target(t: &[u8], size: u32, on: LevelAt, spot: BlockPosition, c: u
 }
 
 // From a kept block to the child that contains a place; b is the block length of the children.
-fn step(t: &[u8], size: u32, level: u32, b: u32, spot: BlockPosition, c: u32) -> PrefixTarget
+fn child_of(t: &[u8], size: u32, level: u32, b: u32, spot: BlockPosition) -> BlockPosition
     requires { ⌜ (b ≡ at.fullLength (now t) (level + 1)) × (level + 1 < at.settings (now t) .levels)
-        × InKept (now t) size level (spot .block .0) (spot .place .0) c ⌝ }
-    ensures { λ r. ⌜ (r ≡ stepOf (now (t .entry)) level (spot .block .0) (spot .place .0) c) × (r .plus < 8589934592) ⌝ }
+        × KeptPlace (now t) size level (spot .block .0) (spot .place .0) ⌝ }
+    ensures { λ r. ⌜ r ≡ childOf (now (t .entry)) level (spot .block .0) (spot .place .0) ⌝ }
 {
     let link = record::link(t, size, level, spot.block);
     let part = walk_steps::div_rem(spot.place, b);
-    let child = BlockNumber(link.0 + part.blocks);
-    let before = record::before(t, size, level + 1, child, c);
-    let under = LevelAt {
-        level: level + 1,
-        b,
-    };
-    let rest = part.place;
-    let there = BlockPosition {
-        block: child,
-        place: rest,
-    };
-    let hand = prefix_target(t, size, under, there, c);
+    let place = part.place;
+    BlockPosition {
+        block: BlockNumber(link.0 + part.blocks),
+        place,
+    }
+}
+
+// How often counted byte number c occurs in the parent of a block of the last level, up to a place of the block.
+fn in_last(t: &[u8], size: u32, level: u32, spot: BlockPosition, c: u32) -> u64
+    requires { ⌜ (level + 1 ≡ at.settings (now t) .levels) × InBlock (now t) size level (spot .block .0) (spot .place .0) c ⌝ }
+    ensures { λ r. ⌜ r ≡ lastSum (now (t .entry)) level (spot .block .0) (spot .place .0) c ⌝ }
+{
+    let before = record::before(t, size, level, spot.block, c);
+    let within = in_leaves(t, size, level, spot.block, spot.place.0 + 1, c);
+    before as u64 + within
+}
+
+// The kept block for a place of a child, with the child's count before.
+fn step(t: &[u8], size: u32, on: LevelAt, spot: BlockPosition, c: u32) -> PrefixTarget
+    requires { ⌜ (on .b ≡ at.fullLength (now t) (on .level)) × InBlock (now t) size (on .level) (spot .block .0) (spot .place .0) c ⌝ }
+    ensures { λ r. ⌜ (r ≡ stepOf (now (t .entry)) (on .level) (spot .block .0) (spot .place .0) c) × (r .plus < 8589934592) ⌝ }
+{
+    let before = record::before(t, size, on.level, spot.block, c);
+    let hand = prefix_target(t, size, on, spot, c);
     let block = hand.block;
     let place = hand.place;
     PrefixTarget {
@@ -99,25 +112,28 @@ fn step(t: &[u8], size: u32, level: u32, b: u32, spot: BlockPosition, c: u32) ->
     }
 }
 
-// How often counted byte number c occurs in a kept block up to a place, included. The number of levels left decreases.
-pub fn up_to(t: &[u8], size: u32, on: LevelAt, spot: BlockPosition, c: u32) -> u64
-    requires { ⌜ (on .b ≡ at.fullLength (now t) (on .level)) × InKept (now t) size (on .level) (spot .block .0) (spot .place .0) c ⌝ }
-    ensures { λ r. ⌜ r ≡ upTo (now (t .entry)) (at.settings (now (t .entry)) .levels - 1 - on .level) (on .level) (spot .block .0) (spot .place .0) c ⌝ }
+// How often counted byte number c occurs in a kept block above the last level up to a place, included. The number of levels left decreases.
+pub fn up_to(t: &&[u8], size: u32, on: LevelAt, spot: BlockPosition, c: u32) -> u64
+    requires { ⌜ (on .b ≡ at.fullLength (now (now t)) (on .level)) × (on .level + 1 < at.settings (now (now t)) .levels)
+        × InKept (now (now t)) size (on .level) (spot .block .0) (spot .place .0) c ⌝ }
+    ensures { λ r. ⌜ r ≡ upTo (now (now (t .entry)))
+        (at.settings (now (now (t .entry))) .levels - 1 - on .level) (on .level) (spot .block .0) (spot .place .0) c ⌝ }
 {
-    let tree = fields::reborrow(t);
+    let tree = *t;
     let shape = fields::shape_of(tree);
     let down = on.level + 1;
-    if down == shape.levels {
-        return in_leaves(tree, size, on.level, spot.block, spot.place.0 + 1, c);
-    }
     let below = walk_steps::quotient(on.b, shape.arity);
-    let hand = step(tree, size, on.level, below, spot, c);
-    let block = hand.block;
-    let place = hand.place;
+    let child = child_of(tree, size, on.level, below, spot);
+    if down + 1 == shape.levels {
+        return in_last(tree, size, down, child, c);
+    }
     let under = LevelAt {
         level: down,
         b: below,
     };
-    let rest = up_to(tree, size, under, BlockPosition { block, place }, c);
+    let hand = step(tree, size, under, child, c);
+    let block = hand.block;
+    let place = hand.place;
+    let rest = up_to(t, size, under, BlockPosition { block, place }, c);
     hand.plus + rest - hand.minus
 }

@@ -2,15 +2,17 @@
 use mathlib.Core.List.{List}
 use mathlib.Core.Logic.{_≢_}
 use mathlib.Core.Path.{_≡_, sym, ap, _∙_}
-use Prim.Native.Nat.{ℕ, _+_, _-_, _*_, _^_, _≤_, _<_}
+use Prim.Native.Nat.{ℕ, _+_, _-_, _/_, _≤_, _<_}
+use native.Mathlib.Nat.{mul-div-cancel}
 use native.Mathlib.Omega.{arith}
 use borrow.Author.Tests.{eq-eqb, ne-eqb}
 use lib.ListN.{length}
 use Rattle.format.specs.Layout.{maxLevels, headerLength}
 use Rattle.format.specs.Layout as at
 use Rattle.format.specs.TreeReading.{lastLevel}
+use Rattle.format.specs.LayoutLaws.{full-step}
 use Rattle.layout.specs.declared.header.Header.{Header}
-use Rattle.layout.specs.HeaderFields.{HeaderOf, full-is}
+use Rattle.layout.specs.HeaderFields.{HeaderOf}
 use Rattle.check_links.specs.LevelAsked.{partLength, roomBelow}
 
 module _ (t : List ℕ) (h : Header) (k : HeaderOf t h) where
@@ -33,6 +35,15 @@ module _ (t : List ℕ) (h : Header) (k : HeaderOf t h) where
   pub table-there : (l : ℕ) → l < h .settings .levels → (l < maxLevels) × (headerLength ≤ length t)
   table-there l i = (omega (arith, levels-is, k .facts .bounds .levels-high), k .facts .long)
 
+  pub arity-pos : 0 < h .settings .arity
+  arity-pos = omega (arith, k .arity-is, k .facts .bounds .arity-low)
+
+  -- The block length one level down.
+  pub full-below : (l b : ℕ) → b ≡ at.fullLength t l → l + 1 < h .settings .levels → b / h .settings .arity ≡ at.fullLength t (l + 1)
+  full-below l b e above =
+      let pos : 0 < at.settings t .arity = omega (arith, k .facts .bounds .arity-low) in
+      rw (k .arity-is, e, full-step t (k .facts) l (omega (arith, levels-is))) (mul-div-cancel (at.fullLength t (l + 1)) pos)
+
   module _ (l : ℕ) where
     pub part-last : l ≡ h .settings .levels - 1 → 1 ≡ partLength t l
     unfolding partLength
@@ -43,13 +54,13 @@ module _ (t : List ℕ) (h : Header) (k : HeaderOf t h) where
     room-last e = rw (eq-eqb l (lastLevel t) (e ∙ last-is)) leaves-is
 
     module _ (n : l ≡ h .settings .levels - 1 → ⊥) where
-      pub part-above : (b : ℕ) → b ≡ h .settings .leaf * h .settings .arity ^ (h .settings .levels - 1 - (l + 1)) → b ≡ partLength t l
-      unfolding partLength
-      part-above b e = rw (ne-eqb l (lastLevel t) (λ q. n (q ∙ sym last-is))) (full-is t h k (l + 1) b e)
-
       pub room-above : (c : ℕ) → c ≡ at.levelCount t (l + 1) → c ≡ roomBelow t l
       unfolding roomBelow
       room-above c e = rw (ne-eqb l (lastLevel t) (λ q. n (q ∙ sym last-is))) e
 
       pub below-in : l < h .settings .levels → l + 1 < h .settings .levels
       below-in i = let m : l ≢ h .settings .levels - 1 = n in omega arith
+
+      pub part-above : (b : ℕ) → b ≡ at.fullLength t l → l < h .settings .levels → b / h .settings .arity ≡ partLength t l
+      unfolding partLength
+      part-above b e i = rw (ne-eqb l (lastLevel t) (λ q. n (q ∙ sym last-is))) (full-below l b e (below-in i))

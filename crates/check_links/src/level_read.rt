@@ -3,6 +3,7 @@ use layout::header::Header;
 use layout::record;
 ghost use mathlib.Core.Path.{_≡_};
 ghost use Prim.Native.Nat.{_<_};
+ghost use Rattle.format.specs.Layout as at;
 ghost use Rattle.layout.specs.HeaderFields.{HeaderOf};
 ghost use Rattle.check_links.specs.LevelAsked.{LevelOf, partLength, roomBelow};
 
@@ -25,9 +26,9 @@ pub struct Level {
     pub room: u32,
 }
 
-// The level with the given number.
-pub fn level_of(t: &[u8], h: Header, number: u32) -> Level
-    requires { ⌜ HeaderOf (now t) h × (number < h .settings .levels) ⌝ }
+// The level with the given number, whose full blocks have the given length.
+pub fn level_of(t: &[u8], h: Header, number: u32, full: u32) -> Level
+    requires { ⌜ HeaderOf (now t) h × (number < h .settings .levels) × (full ≡ at.fullLength (now t) number) ⌝ }
     ensures { λ r. ⌜ LevelOf (now (t .entry)) r × (r .number ≡ number) ⌝ }
 {
     Level {
@@ -36,20 +37,20 @@ pub fn level_of(t: &[u8], h: Header, number: u32) -> Level
         size: h.record_size,
         length: h.text_length,
         count: record::level_count(t, number),
-        full: h.settings.block_length(number),
-        part: part_length(t, h, number),
+        full,
+        part: part_length(t, h, number, full),
         room: room_below(t, h, number),
     }
 }
 
-fn part_length(t: &[u8], h: Header, number: u32) -> u32
-    requires { ⌜ HeaderOf (now t) h × (number < h .settings .levels) ⌝ }
+fn part_length(t: &[u8], h: Header, number: u32, full: u32) -> u32
+    requires { ⌜ HeaderOf (now t) h × (number < h .settings .levels) × (full ≡ at.fullLength (now t) number) ⌝ }
     ensures { λ r. ⌜ r ≡ partLength (now (t .entry)) number ⌝ }
 {
     if number == h.settings.levels - 1 {
         return 1;
     }
-    h.settings.block_length(number + 1)
+    full / h.settings.arity
 }
 
 fn room_below(t: &[u8], h: Header, number: u32) -> u32

@@ -18,14 +18,16 @@ pub fn links_right(t: &[u8], h: Header) -> bool
     requires { ⌜ HeaderOf (now t) h ⌝ }
     ensures { λ r. ⌜ r ≡ linksOk (now (t .entry)) ⌝ }
 {
-    if !starts_right(t, level_read::level_of(t, h, 0)) {
+    let mut full = h.top_length;
+    if !starts_right(t, level_read::level_of(t, h, 0, full)) {
         return false;
     }
     let mut l: u32 = 0;
     while l < h.settings.levels {
-        if !level_right(t, level_read::level_of(t, h, l)) {
+        if !level_right(t, level_read::level_of(t, h, l, full)) {
             return false;
         }
+        full = full / h.settings.arity;
         l += 1;
     }
     true

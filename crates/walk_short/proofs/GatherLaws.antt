@@ -4,14 +4,15 @@ use mathlib.Core.Option.{Option, none, some}
 use mathlib.Core.Bool.{Bool, true, false, _&&_}
 use mathlib.Core.Path.{_≡_, refl, sym, ap, _∙_}
 use mathlib.Core.Logic.{_⊎_, inl, inr}
-use Prim.Native.Nat.{ℕ, _+_, _-_, _/_, _%_, _≤_, _<_}
+use Prim.Native.Nat.{ℕ, _+_, _-_, _*_, _^_, _/_, _%_, _≤_, _<_}
 use native.Mathlib.Omega.{arith}
 use native.Mathlib.Nat.{add-mul}
 use borrow.Author.Tests.{lt-ltb, le-ltb, le-leb, lt-leb, ltb-true, ltb-false}
 use lib.Dec.{ltb}
 use lib.ListN.{length, length-append}
 use Rattle.text.specs.ListLaws.{lt-or-ge, and-left, and-right}
-use Rattle.format.specs.Layout.{maxLeaf, wordAt, leafAt, countedCountAt}
+use Rattle.format.specs.Layout.{maxLeaf, maxCounted, fieldBytes, wordAt, leafAt, countedCountAt}
+use Rattle.format.specs.SizeLaws.{maxRecord}
 use Rattle.format.specs.Layout as at
 use Rattle.format.specs.TreeReading.{Visit, keptBlock, targetBlock, targetPlace, Short, led, byEdges, inLeaf}
 use Rattle.format.specs.LayoutLaws.{Readable, size-high, full-pos}
@@ -31,7 +32,8 @@ use Rattle.walk_short.specs.declared.gather.Gathered.{Gathered}
 use Rattle.walk_short.specs.declared.gather.Gathered.the-variants.{At, Broken}
 use Rattle.walk_short.specs.declared.gather.Land.{Land}
 use Rattle.walk_short.specs.declared.gather.Land.the-variants as land
-use Rattle.walk_short.specs.Gathered.{gathered, downTo, pointedTo, landing, Crossing}
+use Rattle.walk_short.specs.Gathered.{gathered, packed, unpacked, downTo, pointedTo, landing, Crossing}
+use Rattle.walk_short.proofs.PackedLaws.{unpacked-is}
 
 -- Blocks entered before are counted with those entered after.
 pub gathered-led : (vs : List Visit) (n k : ℕ) (r : Option Short) → length vs ≡ k → gathered (n + k) r ≡ gathered n (led vs r)
@@ -83,6 +85,26 @@ module _ (t : List ℕ) (size level b o entered : ℕ) (k : Crossing t size leve
       let next : e + size ≡ at.edgesAt t level (i + 1) = omega (arith, edges-next i, k .on .size-is) in
       rw (margins.edges-give t level i o more, next, is, k .on .b-is, leaf-word m m-is)
 
+  -- The number of blocks, of bytes in the last edge, and the place of the first of them are small.
+  pub over-small : (m e : ℕ) → m ≡ wordAt t leafAt → e ≤ 2 ^ 32 * maxRecord + 2 ^ 32 + fieldBytes maxCounted
+      → (entered + 2 < 32) × (b - o < 512) × (e + (m + m - (b - o)) < 281474976710656)
+  over-small m e m-is few = (
+    omega (arith, k .few, k .on .level-in, facts .bounds .levels-high),
+    omega (arith, leaf-few m m-is .0, leaf-few m m-is .1),
+    omega (arith, leaf-few m m-is .0),
+  )
+
+  pub over-packed : (i e m : ℕ) → i + 1 < at.levelCount t level → e ≡ at.edgesAt t level i → m ≡ wordAt t leafAt
+      → (x : ℕ) → x ≡ packed 1 (entered + 2) (b - o) (e + (m + m - (b - o))) → unpacked t x ≡ gathered entered (byEdges t level i o)
+  over-packed i e m more is m-is x x-is =
+      let f = e + (m + m - (b - o)) in
+      let few = leaf-few m m-is in
+      let next : f + (b - o) + at.recordSize t - (at.settings t .leaf + at.settings t .leaf) ≡ e + size =
+      omega (arith, few .1, leaf-word m m-is, k .on .size-is) in
+      unpacked-is t 1 (entered + 2) (b - o) f x (omega arith) (omega (arith, k .few, k .on .level-in, facts .bounds .levels-high))
+      (omega (arith, few .0, few .1)) x-is
+      ∙ ap (λ (n : ℕ). At (record { entered = entered + 2; from = f; size = b - o; next = n })) next ∙ over-at i e m more is m-is
+
 -- A span in the leaf bytes.
 module _ (t : List ℕ) (x : Shape)
     (k : Shapes t x) (level i o len entered link : ℕ) (kept : keptBlock t level i ≡ true) (link-is : link ≡ at.link t level i) where
@@ -98,6 +120,10 @@ module _ (t : List ℕ) (x : Shape)
   leaf-at near =
       let in-leaves : at.link t level i + o + len ≤ at.leafCount t = omega (arith, k .count-is) in
       rw (kept, le-leb (at.link t level i + o + len) (at.leafCount t) in-leaves, link-is, k .offset-is)
+
+  pub leaf-packed : link + o + len ≤ x .«leaf_count» → entered + 1 < 32 → len < 512
+      → (r : ℕ) → r ≡ packed 0 (entered + 1) len (x .«leaf_offset» + (link + o)) → unpacked t r ≡ gathered entered (inLeaf t level i o len)
+  leaf-packed near few short r r-is = unpacked-is t 0 (entered + 1) len (x .«leaf_offset» + (link + o)) r (omega arith) few short r-is ∙ leaf-at near
 
 pub leaf-none : (t : List ℕ) (level i o len entered : ℕ) → keptBlock t level i ≡ false → Broken ≡ gathered entered (inLeaf t level i o len)
 unfolding gathered inLeaf

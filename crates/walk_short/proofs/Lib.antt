@@ -1,2 +1,3 @@
+pub mod PackedLaws
 pub mod GatherLaws
 pub mod WholeLaws

@@ -20,6 +20,7 @@ use Rattle.theory_paths.specs.Shift.{target-small}
 use Rattle.layout.specs.declared.header.Header.{Header}
 use Rattle.layout.specs.declared.place.BlockNumber.{BlockNumber}
 use Rattle.layout.specs.declared.place.BlockPlace.{BlockPlace}
+use Rattle.layout.specs.declared.place.BlockPosition.{BlockPosition}
 use Rattle.layout.specs.HeaderFields.{HeaderOf}
 use Rattle.walk_steps.specs.Steps.{OnLevel}
 use Rattle.walk_steps.proofs.StepLaws.{b-small}
@@ -300,6 +301,17 @@ module _ (t : List ℕ) (h : Header) (k : HeaderOf t h) where
         within-tree two len low short (at.settings t .levels - 1)
             0 (p / at.fullLength t 0) (p % at.fullLength t 0) (omega (arith, k .facts .bounds .levels-low)) (mod-lt p (full-pos t (k .facts) 0)) r 0 same,
       )
+
+  -- The same from the block of level 0 that contains the place.
+  module _ (p len : ℕ) (s : BlockPosition)
+      (s-is : s ≡ record { block = record { 0 = p / h .«top_length» }; place = record { 0 = p % h .«top_length» } }) where
+    pub spot-asks : len ≤ h .settings .leaf → Walking t (h .«record_size») 0 (h .«top_length») (s .place .0) len 0
+    spot-asks short = rw s-is (top-asks p len short)
+
+    pub spot-by : at.layout t ≡ 2 → 1 ≤ len → len ≤ h .settings .leaf → (r : Gathered)
+        → r ≡ gathered 0 (shortFrom t (at.settings t .levels - 1 - 0) 0 (s .block .0 + 0) (s .place .0) len)
+        → (r ≡ gathered 0 (shortOf t p len)) × InRange t len r
+    spot-by two low short r e = top-by p len two low short r (rw s-is at e)
 
 -- The two parts that a walk finds, within the tree.
 pub parts-in : (t : List ℕ) (x : ℕ) (found : Gathered) (q : Parts) → found ≡ At q → InRange t x found

@@ -4,7 +4,7 @@ use mathlib.Core.Option.{Option, none, some}
 use mathlib.Core.Bool.{cond}
 use Prim.Native.Nat.{ℕ, _+_, _-_, _*_, _/_, _%_, _≤_, _<_}
 use lib.ListN.{length}
-use lib.Dec.{leb}
+use lib.Dec.{leb, eqb}
 use Rattle.format.specs.Layout as at
 use Rattle.format.specs.TreeReading.{keptBlock, pointingBlock, targetBlock, targetPlace}
 use Rattle.format.specs.TreeReading as format
@@ -19,7 +19,24 @@ unfoldable pub gathered : ℕ → Option format.Short → Gathered
 gathered entered none = Broken
 gathered entered (some q) = At (record { entered = entered + length (q .visits); from = q .from; size = q .size; next = q .next })
 
+-- The result as one number.
+abbrev pub packed : ℕ → ℕ → ℕ → ℕ → ℕ
+packed crossing entered size from = 1 + (crossing + 2 * (entered + 32 * (size + 512 * from)))
+
 module _ (t : List ℕ) where
+  -- What a number stands for. The second part of a span that crosses a border is in the first edge of the next block.
+  unfoldable pub unpacked : ℕ → Gathered
+  unpacked x =
+      let rest = (x - 1) / 2 in
+      let upper = rest / 32 in
+      let m = at.settings t .leaf in
+      cond (eqb x 0) Broken (At (record {
+        entered = rest % 32;
+        from = upper / 512;
+        size = upper % 512;
+        next = cond (eqb ((x - 1) % 2) 0) 0 (upper / 512 + upper % 512 + at.recordSize t - (m + m));
+      }))
+
   -- The step from kept block i to its children, of c bytes each.
   unfoldable pub downTo : ℕ → ℕ → ℕ → ℕ → ℕ → Land
   downTo l c i o n = land.Down (record { 0 = at.link t l i }) (o / c) (record { 0 = o % c }) n

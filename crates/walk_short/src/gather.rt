@@ -1,4 +1,5 @@
 // The walk of a short span: it descends while one block contains the span, and takes the bytes at a border from two edges.
+use crate::packed;
 use layout::header;
 use layout::header::Header;
 use layout::place::BlockNumber;
@@ -13,15 +14,15 @@ use walk_steps::BlockKind;
 use walk_steps::fields;
 ghost use mathlib.Core.Bool.{true, _&&_};
 ghost use mathlib.Core.Path.{_≡_};
-ghost use Prim.Native.Nat.{_+_, _-_, _*_, _/_, _%_, _≤_, _<_};
+ghost use Prim.Native.Nat.{_+_, _-_, _*_, _≤_, _<_};
 ghost use lib.Dec.{ltb};
-ghost use Rattle.format.specs.Layout.{maxText, maxLevels};
+ghost use Rattle.format.specs.Layout.{maxText, maxLeaf, maxLevels};
 ghost use Rattle.format.specs.Layout as at;
 ghost use Rattle.format.specs.TreeReading.{keptBlock, byEdges, inLeaf, shortFrom, shortOf};
 ghost use Rattle.layout.specs.HeaderFields.{HeaderOf};
 ghost use Rattle.format.specs.LayoutLaws.{Readable};
 ghost use Rattle.walk_steps.specs.Steps.{OnLevel, Pointing};
-ghost use Rattle.walk_short.specs.Gathered.{gathered, downTo, pointedTo, landing, Crossing, Walking, InRange};
+ghost use Rattle.walk_short.specs.Gathered.{gathered, unpacked, downTo, pointedTo, landing, Crossing, Walking, InRange};
 
 // Where the bytes of a span are in the tree: `size` of them from `from` on, the others from `next` on; and the number of blocks entered.
 pub struct Parts {
@@ -59,25 +60,20 @@ fn over(
     ahead: BlockOffset,
     place: BlockPlace,
     entered: u32,
-) -> Gathered
+) -> u64
     requires { ⌜ Crossing (now t) size (on .level) (on .b) (place .0) entered ⌝ }
-    ensures { λ r. ⌜ r ≡ gathered entered (byEdges (now (t .entry)) (on .level) (ahead .first .0 + ahead .steps) (place .0)) ⌝ }
+    ensures { λ r. ⌜ unpacked (now (t .entry)) r ≡ gathered entered (byEdges (now (t .entry)) (on .level) (ahead .first .0 + ahead .steps) (place .0)) ⌝ }
 {
     let count = record::level_count(t, on.level) as u64;
     let number = ahead.first.0 as u64 + ahead.steps as u64;
     if count <= number + 1 {
-        return Gathered::Broken;
+        return 0;
     }
     let m = word::read(t, header::LEAF_AT);
     let counted = word::read(t, header::COUNTED_COUNT_AT);
     let left = on.b - place.0;
     let edges = record::edges(t, size, counted, on.level, BlockNumber(number as u32));
-    Gathered::At(Parts {
-        entered: entered + 2,
-        from: edges + (m + m - left) as usize,
-        size: left,
-        next: edges + size as usize,
-    })
+    packed::pack(1, entered + 2, left, edges + (m + m - left) as usize)
 }
 
 // A span in a kept block of the last level: its leaf bytes.
@@ -88,36 +84,26 @@ fn leaf_part(
     block: BlockNumber,
     span: Stretch,
     entered: u32,
-) -> Gathered
+) -> u64
     requires { ⌜ (Readable (now t)) × (size ≡ at.recordSize (now t)) × (level < at.settings (now t) .levels)
-        × (keptBlock (now t) level (block .0) ≡ true) × (entered ≤ 2 * maxLevels) ⌝ }
-    ensures { λ r. ⌜ r ≡ gathered entered (inLeaf (now (t .entry)) level (block .0) (span .place .0) (span .len)) ⌝ }
+        × (keptBlock (now t) level (block .0) ≡ true) × (entered ≤ 2 * maxLevels) × (span .len ≤ maxLeaf) ⌝ }
+    ensures { λ r. ⌜ unpacked (now (t .entry)) r ≡ gathered entered (inLeaf (now (t .entry)) level (block .0) (span .place .0) (span .len)) ⌝ }
 {
     let shape = fields::shape_of(t);
     let link = record::link(t, size, level, block);
     let end = link.0 as u64 + span.place.0 as u64 + span.len as u64;
     if (shape.leaf_count as u64) < end {
-        return Gathered::Broken;
+        return 0;
     }
-    Gathered::At(Parts {
-        entered: entered + 1,
-        from: shape.leaf_offset as usize + (link.0 as usize + span.place.0 as usize),
-        size: span.len,
-        next: 0,
-    })
+    let from = shape.leaf_offset as usize + (link.0 as usize + span.place.0 as usize);
+    packed::pack(0, entered + 1, span.len, from)
 }
 
 // A span in a block of the last level, where no block points.
-fn last(
-    t: &[u8],
-    size: u32,
-    on: LevelAt,
-    ahead: BlockOffset,
-    span: Stretch,
-    entered: u32,
-) -> Gathered
-    requires { ⌜ (OnLevel (now t) size (on .level) (on .b)) × (entered ≤ 2 * maxLevels) ⌝ }
-    ensures { λ r. ⌜ r ≡ gathered entered (inLeaf (now (t .entry)) (on .level) (ahead .first .0 + ahead .steps) (span .place .0) (span .len)) ⌝ }
+fn last(t: &[u8], size: u32, on: LevelAt, ahead: BlockOffset, span: Stretch, entered: u32) -> u64
+    requires { ⌜ (OnLevel (now t) size (on .level) (on .b)) × (entered ≤ 2 * maxLevels) × (span .len ≤ maxLeaf) ⌝ }
+    ensures { λ r. ⌜ unpacked (now (t .entry)) r
+        ≡ gathered entered (inLeaf (now (t .entry)) (on .level) (ahead .first .0 + ahead .steps) (span .place .0) (span .len)) ⌝ }
 {
     let next = walk_steps::classify_next(t, size, on, ahead, span.place);
     match next {
@@ -128,8 +114,8 @@ fn last(
             };
             leaf_part(t, size, on.level, i, there, entered)
         }
-        BlockKind::Points(_, _) => Gathered::Broken,
-        BlockKind::Off => Gathered::Broken,
+        BlockKind::Points(_, _) => 0,
+        BlockKind::Off => 0,
     }
 }
 
@@ -210,20 +196,20 @@ fn settle(t: &[u8], size: u32, on: LevelAt, c: u32, ahead: BlockOffset, span: St
     }
 }
 
-// The walk from the block some steps after another; the levels left fall.
-pub fn gather(
-    t: &[u8],
+// The walk from the block some steps after another, as one number; the levels left fall.
+fn gather_packed(
+    t: &&[u8],
     size: u32,
     on: LevelAt,
     ahead: BlockOffset,
     span: Stretch,
     entered: u32,
-) -> Gathered
-    requires { ⌜ Walking (now t) size (on .level) (on .b) (span .place .0) (span .len) entered ⌝ }
-    ensures { λ r. ⌜ r ≡ gathered entered (shortFrom (now (t .entry)) (at.settings (now (t .entry)) .levels - 1 - on .level) (on .level)
-        (ahead .first .0 + ahead .steps) (span .place .0) (span .len)) ⌝ }
+) -> u64
+    requires { ⌜ Walking (now (now t)) size (on .level) (on .b) (span .place .0) (span .len) entered ⌝ }
+    ensures { λ r. ⌜ unpacked (now (now (t .entry))) r ≡ gathered entered (shortFrom (now (now (t .entry)))
+        (at.settings (now (now (t .entry))) .levels - 1 - on .level) (on .level) (ahead .first .0 + ahead .steps) (span .place .0) (span .len)) ⌝ }
 {
-    let tree = fields::reborrow(t);
+    let tree = *t;
     if on.b < span.place.0 + span.len {
         return over(tree, size, on, ahead, span.place, entered);
     }
@@ -235,8 +221,8 @@ pub fn gather(
     let c = walk_steps::quotient(on.b, shape.arity);
     let land = settle(tree, size, on, c, ahead, span);
     match land {
-        Land::Down(first, steps, place, n) => gather(
-            tree,
+        Land::Down(first, steps, place, n) => gather_packed(
+            t,
             size,
             LevelAt { level: down, b: c },
             BlockOffset { first, steps },
@@ -254,8 +240,26 @@ pub fn gather(
             p,
             entered + 1,
         ),
-        Land::Off => Gathered::Broken,
+        Land::Off => 0,
     }
+}
+
+// The walk from the block some steps after another.
+pub fn gather(
+    t: &[u8],
+    size: u32,
+    on: LevelAt,
+    ahead: BlockOffset,
+    span: Stretch,
+    entered: u32,
+) -> Gathered
+    requires { ⌜ (Walking (now t) size (on .level) (on .b) (span .place .0) (span .len) entered) × (at.layout (now t) ≡ 2) ⌝ }
+    ensures { λ r. ⌜ r ≡ gathered entered (shortFrom (now (t .entry)) (at.settings (now (t .entry)) .levels - 1 - on .level) (on .level)
+        (ahead .first .0 + ahead .steps) (span .place .0) (span .len)) ⌝ }
+{
+    let code = gather_packed(&t, size, on, ahead, span, entered);
+    let m = word::read(t, header::LEAF_AT);
+    packed::unpack(t, size, m, code)
 }
 
 // The walk from a place of the text.
@@ -264,18 +268,16 @@ pub fn from_text(t: &[u8], h: Header, p: TextPlace, len: u32) -> Gathered
     ensures { λ r. ⌜ (r ≡ gathered 0 (shortOf (now (t .entry)) (p .0) len)) × InRange (now (t .entry)) len r ⌝ }
 {
     let b = h.top_length;
-    gather(
-        t,
+    let spot = walk_steps::top_spot(p, b);
+    let first = spot.block;
+    let place = spot.place;
+    let code = gather_packed(
+        &t,
         h.record_size,
         LevelAt { level: 0, b },
-        BlockOffset {
-            first: BlockNumber(p.0 / b),
-            steps: 0,
-        },
-        Stretch {
-            place: BlockPlace(p.0 % b),
-            len,
-        },
+        BlockOffset { first, steps: 0 },
+        Stretch { place, len },
         0,
-    )
+    );
+    packed::unpack(t, h.record_size, h.settings.leaf, code)
 }

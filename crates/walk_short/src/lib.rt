@@ -1,2 +1,3 @@
 // The walk of a short span; edges give the bytes where it crosses a border.
 pub mod gather;
+mod packed;

@@ -14,10 +14,10 @@ pointing-skip-spec =
     laws.no-gap _ _ _ _ _ (w .pre .1) (w .pre .2) (w .pre .3) _ (c .before .before .gap .ensures) (c .if1 .taken))
     (λ c κs. facts.plain-there _ _ _ _ _ (c .before .before .before .before .pre .1) 2 (omega arith))
     (λ c. search needs)
-    (λ c κs. let w = c .before .before .before .before .before .before in (
+    (λ c κs. let j = c .before .before in let e = j .before in let w = e .before .before .before .before in (
       w .pre .0,
-      laws.gap-there _ _ _ _ _ (w .pre .1)
-          (w .pre .2) (w .pre .3) _ (c .before .before .before .before .gap .ensures) (c .before .before .if1 .left) _ (c .before .link .ensures),
+      laws.points-above _ _ _ _ _ (w .pre .1) (w .pre .2) (w .pre .3),
+      laws.gap-there _ _ _ _ _ (w .pre .1) (w .pre .2) (w .pre .3) _ (e .before .before .gap .ensures) (e .if1 .left) _ (j .link .ensures),
     ))
-    (λ c. let w = c .before .before .before .before .before in let v = w .before .before in laws.gap-is _ _ _ _ _ (v .pre .1)
-    (v .pre .2) (v .pre .3) _ (w .gap .ensures) (c .before .before .before .if1 .left) _ (c .before .before .link .ensures) _ (c .up-to .ensures)))
+    (λ c. let j = c .before .before .before in let e = j .before in let w = e .before .before .before .before in
+    laws.gap-is _ _ _ _ _ (w .pre .1) (w .pre .2) (w .pre .3) _ (e .before .before .gap .ensures) (e .if1 .left) _ (j .link .ensures) _ (c .up-to .ensures)))

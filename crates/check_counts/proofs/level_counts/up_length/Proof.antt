@@ -1,15 +1,12 @@
-use borrow.Author.Needs.{needs}
-use borrow.Author.Tests.{ne-eqb, eq-eqb}
+use native.Mathlib.Omega.{arith}
+use Rattle.check_counts.proofs.LevelCountsLaws as laws
 use Rattle.check_counts.proofs.level_counts.up_length.Statement.{statement}
 use Rattle.check_counts.proofs.level_counts.up_length.Tie as tie
-use Rattle.check_counts.specs.PrefixTargets.{upFrom}
 
 pub up-length-spec : {M : Type 1} → statement M
-unfolding upFrom
 up-length-spec =
     tie.close
     (tie.spec
-    (λ c. rw (eq-eqb _ 0 (c .if1 .taken)))
-    (λ c. search needs)
-    (λ c κs. search needs)
-    (λ c. rw (ne-eqb _ 0 (c .before .if1 .left)) (c .block-length .ensures)))
+    (λ c. laws.up-top _ _ (c .before .pre .1) _ (c .if1 .taken))
+    (λ c. let w = c .before .before in omega (arith, laws.up-small _ _ (w .pre .1) _ _ (w .pre .0)))
+    (λ c. let w = c .before .before in laws.up-under _ _ (w .pre .1) _ _ (w .pre .0) (w .pre .2) (c .before .if1 .left)))

@@ -18,11 +18,14 @@ in-leaves-spec =
     (λ c. search needs)
     (λ c. let w = c .before .before .before .before .before .before in
     omega (arith, w .pre .0 .tree .facts .long, w .pre .0 .tree .facts .bounds .counted-high, w .pre .0 .number-in))
-    (λ c κs. let s = c .before .before .before .before in let w = s .before .before in laws.leaves-fit _ _ _ _ _ _ _ (w .pre .0) (w .pre .1) (w .pre .2)
-    (c .before .before .before .link .ensures) _ (shapes _ _ (s .shape-of .ensures) .offset-is))
+    (λ c κs. let s = c .before .before .before .before in let w = s .before .before in (
+      laws.leaves-fit _ _ _ _ _ _ _ (w .pre .0) (w .pre .1) (w .pre .2)
+          (c .before .before .before .link .ensures) _ (shapes _ _ (s .shape-of .ensures) .offset-is),
+      laws.leaves-few _ _ _ _ _ _ _ (w .pre .0) (w .pre .1) (w .pre .2) (c .before .before .before .link .ensures),
+    ))
     (λ c. search needs)
     (λ c. let s = c .before .before .before .before .before in let w = s .before .before in (
       laws.leaves-are _ _ _ _ _ _ _ (w .pre .0) (w .pre .1) (w .pre .2) (c .before .before .before .before .link .ensures)
-          _ (shapes _ _ (s .shape-of .ensures) .offset-is) _ (c .count-in .ensures .0),
-      c .count-in .ensures .1,
+          _ (shapes _ _ (s .shape-of .ensures) .offset-is) _ (c .leaf-count .ensures .0),
+      c .leaf-count .ensures .1,
     )))

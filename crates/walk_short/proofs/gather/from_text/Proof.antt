@@ -1,4 +1,6 @@
+use mathlib.Core.Path.{_∙_}
 use native.Mathlib.Omega.{arith}
+use Rattle.walk_short.proofs.PackedLaws as packing
 use Rattle.walk_short.proofs.WholeLaws as laws
 use Rattle.walk_short.proofs.gather.from_text.Statement.{statement}
 use Rattle.walk_short.proofs.gather.from_text.Tie as tie
@@ -7,7 +9,9 @@ pub from-text-spec : {M : Type 1} → statement M
 from-text-spec =
     tie.close
     (tie.spec
-    (λ c. omega (arith, laws.top-pos _ _ (c .before .before .pre .0)))
-    (λ c. omega (arith, laws.top-pos _ _ (c .before .before .before .pre .0)))
-    (λ c κs. laws.top-asks _ _ (c .before .before .before .pre .0) _ _ (c .before .before .before .pre .3))
-    (λ c. let p = c .before .before .before .before .pre in laws.top-by _ _ (p .0) _ _ (p .1) (p .2) (p .3) _ (c .gather .ensures)))
+    (λ c κs. laws.top-pos _ _ (c .before .pre .0))
+    (λ c κs. let s = c .before .before .before in let p = s .before .before .pre in laws.spot-asks _ _ (p .0) _ _ _ (s .top-spot .ensures) (p .3))
+    (λ c κs. let p = c .before .before .before .before .before .before .pre in
+    packing.unpack-asks _ (p .0 .facts) (p .1) _ _ (p .0 .size-is) (p .0 .leaf-is))
+    (λ c. let g = c .before in let s = g .before .before .before .before in let p = s .before .before .pre in
+    laws.spot-by _ _ (p .0) _ _ _ (s .top-spot .ensures) (p .1) (p .2) (p .3) _ (c .unpack .ensures ∙ g .gather-packed .ensures)))

@@ -1,7 +1,9 @@
+use mathlib.Core.Path.{refl, _∙_}
 use borrow.Author.Needs.{needs}
 use native.Mathlib.Omega.{arith}
 use Rattle.layout.specs.Record.{field-in}
 use Rattle.walk_steps.proofs.StepLaws.{kept-in, shapes}
+use Rattle.walk_short.proofs.PackedLaws.{unpacked-none}
 use Rattle.walk_short.proofs.GatherLaws as laws
 use Rattle.walk_short.proofs.gather.leaf_part.Statement.{statement}
 use Rattle.walk_short.proofs.gather.leaf_part.Tie as tie
@@ -19,12 +21,15 @@ leaf-part-spec =
     (λ c. search needs)
     (λ c. search needs)
     (λ c. let w = c .before .before .before .before .before in let p = w .before .before .before .pre in
-    laws.leaf-past _ _ (shapes _ _ (w .before .shape-of .ensures)) _ _ _ _ _ _ (p .3) (w .link .ensures) (c .if1 .taken))
+    unpacked-none _ _ refl ∙ laws.leaf-past _ _ (shapes _ _ (w .before .shape-of .ensures)) _ _ _ _ _ _ (p .3) (w .link .ensures) (c .if1 .taken))
     (λ c. search needs)
     (λ c. search needs)
     (λ c. search needs)
     (λ c. search needs)
     (λ c. search needs)
     (λ c. search needs)
-    (λ c. let w = c .before .before .before .before .before .before .before .before in let p = w .before .before .before .pre in
-    laws.leaf-at _ _ (shapes _ _ (w .before .shape-of .ensures)) _ _ _ _ _ _ (p .3) (w .link .ensures) (c .before .before .before .if1 .left)))
+    (λ c κs. let w = c .before .before .before .before .before .before .before .before in let p = w .before .before .before .pre in
+    (omega arith, omega (arith, p .4), omega (arith, p .5), omega (arith, w .before .shape-of .ok, w .link .ok)))
+    (λ c. let e = c .before .before .before .before in let w = e .before .before .before .before .before in let p = w .before .before .before .pre in
+    laws.leaf-packed _ _ (shapes _ _ (w .before .shape-of .ensures)) _ _ _ _ _ _ (p .3) (w .link .ensures) (e .if1 .left)
+    (omega (arith, p .4)) (omega (arith, p .5)) _ (c .pack .ensures)))

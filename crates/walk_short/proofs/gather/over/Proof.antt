@@ -1,5 +1,7 @@
+use mathlib.Core.Path.{refl, _∙_}
 use borrow.Author.Needs.{needs}
 use native.Mathlib.Omega.{arith}
+use Rattle.walk_short.proofs.PackedLaws.{unpacked-none}
 use Rattle.walk_short.proofs.GatherLaws as laws
 use Rattle.walk_short.proofs.gather.over.Statement.{statement}
 use Rattle.walk_short.proofs.gather.over.Tie as tie
@@ -14,7 +16,8 @@ over-spec =
     (λ c. search needs)
     (λ c. search needs)
     (λ c. search needs)
-    (λ c. laws.over-none _ _ _ _ _ _ (c .before .before .before .before .before .pre) _ (omega (arith, c .before .before .before .level-count .ensures)))
+    (λ c. unpacked-none _ _ refl
+    ∙ laws.over-none _ _ _ _ _ _ (c .before .before .before .before .before .pre) _ (omega (arith, c .before .before .before .level-count .ensures)))
     (λ c κs. let w = c .before .before .before .before .before in omega (arith, w .pre .on .facts .long))
     (λ c κs. let w = c .before .before .before .before .before .before in omega (arith, w .pre .on .facts .long))
     (λ c. search needs)
@@ -28,6 +31,8 @@ over-spec =
     omega (arith, laws.leaf-few _ _ _ _ _ _ (w .pre) _ (r .read .ensures) .1))
     (λ c. search needs)
     (λ c. search needs)
-    (λ c. search needs)
-    (λ c. let r = c .before .before .before .before in let w = r .before .before .before .before .before .before in laws.over-at _ _ _ _ _ _ (w .pre)
-    _ _ _ (omega (arith, r .before .before .before .before .level-count .ensures, r .before .if1 .left)) (c .edges .ensures .0) (r .read .ensures)))
+    (λ c κs. let r = c .before .before .before .before in let w = r .before .before .before .before .before .before in
+    let z = laws.over-small _ _ _ _ _ _ (w .pre) _ _ (r .read .ensures) (c .edges .ensures .1) in (omega arith, z .0, z .1, z .2))
+    (λ c. let e = c .before in let r = e .before .before .before .before in let w = r .before .before .before .before .before .before in
+    laws.over-packed _ _ _ _ _ _ (w .pre) _ _ _ (omega (arith, r .before .before .before .before .level-count .ensures, r .before .if1 .left))
+    (e .edges .ensures .0) (r .read .ensures) _ (c .pack .ensures)))
