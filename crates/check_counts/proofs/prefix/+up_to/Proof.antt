@@ -1,10 +1,10 @@
 use mathlib.Core.List.{List}
 use mathlib.Core.Path.{_≡_, sym, _∙_}
-use Prim.Native.Nat.{ℕ, _+_, _-_, _<_}
+use Prim.Native.Nat.{ℕ, _+_, _-_}
 use borrow.Author.Needs.{needs}
 use native.Mathlib.Omega.{arith}
 use borrow.Fn.Kinds.{In}
-use borrow.Fn.PlainCycle.{Measures, is, falls, and}
+use borrow.Fn.PlainCycle.{Measures}
 use Rattle.format.specs.Layout as at
 use Rattle.check_counts.proofs.CountsHeader as facts
 use Rattle.check_counts.proofs.PrefixLaws as laws
@@ -16,6 +16,7 @@ use Rattle.check_counts.proofs.prefix.in_last.Reads as in-last-reads
 use Rattle.check_counts.proofs.prefix.step.Reads as step-reads
 use Rattle.walk_steps.proofs.fields.shape_of.Reads as shape-of-reads
 use Rattle.walk_steps.proofs.quotient.Reads as quotient-reads
+use Rattle.walk_steps.proofs.CycleClaims.{at-measure, below-measure}
 use Rattle.walk_steps.proofs.StepLaws.{Shapes, shapes}
 use Rattle.check_counts.proofs.prefix.+up_to.{statement}
 use Rattle.check_counts.proofs.prefix.+up_to.Tie.{close}
@@ -26,10 +27,10 @@ abbrev μ-up-to : Measures 2 up-to-kinds.ps ℕ
 
 -- The measure is t at the entry, and below t at the call.
 abbrev up-to-at : ℕ → In 2 up-to-kinds.ps
-up-to-at t = and 2 up-to-kinds.ps (is 2 up-to-kinds.ps μ-up-to t) up-to.Pre
+up-to-at t = at-measure up-to-kinds.ps μ-up-to up-to.Pre t
 
 abbrev up-to-below : ℕ → In 2 up-to-kinds.ps
-up-to-below t = and 2 up-to-kinds.ps (falls 2 up-to-kinds.ps _<_ μ-up-to t) up-to.Pre
+up-to-below t = below-measure up-to-kinds.ps μ-up-to up-to.Pre t
 
 abbrev levels : List ℕ → ℕ
 levels t = at.settings t .levels

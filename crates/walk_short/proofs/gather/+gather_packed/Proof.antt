@@ -4,7 +4,7 @@ use Prim.Native.Nat.{ℕ, _+_, _-_, _*_, _≤_, _<_}
 use native.Mathlib.Omega.{arith}
 use borrow.Author.Needs.{needs}
 use borrow.Fn.Kinds.{In}
-use borrow.Fn.PlainCycle.{Measures, is, falls, and}
+use borrow.Fn.PlainCycle.{Measures}
 use Rattle.walk_short.proofs.gather.gather_packed.Reads as gather
 use Rattle.walk_short.proofs.gather.gather_packed.Kinds as gather-kinds
 use Rattle.walk_short.proofs.gather.+gather_packed.Lts-gather_packed as gather-lts
@@ -13,6 +13,7 @@ use Rattle.walk_short.proofs.gather.over.Reads as over-reads
 use Rattle.walk_short.proofs.gather.settle.Reads as settle-reads
 use Rattle.walk_steps.proofs.fields.shape_of.Reads as shape-of-reads
 use Rattle.walk_steps.proofs.quotient.Reads as quotient-reads
+use Rattle.walk_steps.proofs.CycleClaims.{at-measure, below-measure}
 use Rattle.walk_steps.proofs.StepLaws.{Shapes, shapes}
 use Rattle.format.specs.Layout.{maxLevels}
 use Rattle.format.specs.Layout as at
@@ -27,10 +28,10 @@ abbrev μ-gather : Measures 2 gather-kinds.ps ℕ
 
 -- The measure is t at the entry, and below t at the call.
 abbrev gather-at : ℕ → In 2 gather-kinds.ps
-gather-at t = and 2 gather-kinds.ps (is 2 gather-kinds.ps μ-gather t) gather.Pre
+gather-at t = at-measure gather-kinds.ps μ-gather gather.Pre t
 
 abbrev gather-below : ℕ → In 2 gather-kinds.ps
-gather-below t = and 2 gather-kinds.ps (falls 2 gather-kinds.ps _<_ μ-gather t) gather.Pre
+gather-below t = below-measure gather-kinds.ps μ-gather gather.Pre t
 
 abbrev levels : List ℕ → ℕ
 levels t = at.settings t .levels
