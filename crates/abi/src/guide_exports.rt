@@ -1,7 +1,9 @@
 // The calls on guides: size, make, check; find, row and rows by their first bytes with a guide. Any bytes may be given as a guide.
+use crate::figures::next_row;
+use crate::figures::put_u32;
+use crate::figures::put_u64;
 use query_guide::GuideWordsAnswer;
 use query_guided::FindGuidedAnswer;
-use query_row_filter::NextRowAnswer;
 use query_rows::RowAnswer;
 ghost use mathlib.Core.Path.{_≡_};
 ghost use Rattle.query_guide.specs.Guides.{guideRefusal, guideWordsAnswer, makeGuideAnswer, makeGuideBuffer};
@@ -18,14 +20,8 @@ pub extern "C" fn bt_guide_words(tree: &[u8], words: &mut u64) -> u32
 {
     let size = query_guide::guide_words(tree);
     match size {
-        GuideWordsAnswer::Words(n) => {
-            *words = n;
-            0
-        }
-        GuideWordsAnswer::Refused(number) => {
-            *words = 0;
-            number
-        }
+        GuideWordsAnswer::Words(n) => put_u64(words, n, 0),
+        GuideWordsAnswer::Refused(number) => put_u64(words, 0, number),
     }
 }
 
@@ -37,14 +33,8 @@ pub extern "C" fn bt_make_guide(tree: &[u8], table: &mut [u8], words: &mut u64) 
 {
     let size = build_guide::make_guide(tree, table);
     match size {
-        GuideWordsAnswer::Words(n) => {
-            *words = n;
-            0
-        }
-        GuideWordsAnswer::Refused(number) => {
-            *words = 0;
-            number
-        }
+        GuideWordsAnswer::Words(n) => put_u64(words, n, 0),
+        GuideWordsAnswer::Refused(number) => put_u64(words, 0, number),
     }
 }
 
@@ -71,24 +61,19 @@ pub extern "C" fn bt_find_guided(
         (now (steps .exit)) ⌝ }
 {
     if 255 < byte {
-        *place = 0;
-        *entered = 0;
         *steps = 0;
-        return query_rank::uncounted::uncounted(tree, 0);
+        let number = query_rank::uncounted::uncounted(tree, 0);
+        return put_u32(place, 0, put_u32(entered, 0, number));
     }
     let found = query_guided::find_guided(tree, guide, byte as u8, j);
     match found {
         FindGuidedAnswer::At(at, path, walked) => {
-            *place = at.0;
-            *entered = path;
             *steps = walked;
-            0
+            put_u32(place, at.0, put_u32(entered, path, 0))
         }
         FindGuidedAnswer::Refused(number) => {
-            *place = 0;
-            *entered = 0;
             *steps = 0;
-            number
+            put_u32(place, 0, put_u32(entered, 0, number))
         }
     }
 }
@@ -107,14 +92,8 @@ pub extern "C" fn bt_row_guided(
 {
     let copied = query_rows::row_guided(tree, guide, q, buffer);
     match copied {
-        RowAnswer::Bytes(size) => {
-            *len = size;
-            0
-        }
-        RowAnswer::Refused(number) => {
-            *len = 0;
-            number
-        }
+        RowAnswer::Bytes(size) => put_u32(len, size, 0),
+        RowAnswer::Refused(number) => put_u32(len, 0, number),
     }
 }
 
@@ -131,22 +110,6 @@ pub extern "C" fn bt_next_with_prefix_guided(
         (queryRefusal (now (tree .entry)) 16 (patternOk (now (prefix .entry)))) (startsWith (now (prefix .entry)))
         (now (mark .entry)) (record { refusal = r; row = now (row .exit); mark = now (mark .exit) }) ⌝ }
 {
-    let at = *mark;
-    let answer = query_prefix::next_with_prefix_guided(tree, guide, prefix, at);
-    match answer {
-        NextRowAnswer::Row(q) => {
-            *row = q;
-            *mark = q;
-            0
-        }
-        NextRowAnswer::Nothing(m) => {
-            *row = 0;
-            *mark = m;
-            0
-        }
-        NextRowAnswer::Refused(number) => {
-            *row = 0;
-            number
-        }
-    }
+    let answer = query_prefix::next_with_prefix_guided(tree, guide, prefix, *mark);
+    next_row(answer, mark, row)
 }

@@ -10,6 +10,12 @@ bt-byte-spec =
     (λ c κs. search needs)
     (λ c. search needs)
     (λ c. search needs)
+    (λ c κs. search needs)
+    (λ c κs. search needs)
     (λ c. search needs)
-    (λ c. laws.byte-answered _ _ (c .before .before .before .byte .ensures) _ _ (c .before .answer .given .1))
-    (λ c. laws.byte-refused _ _ (c .before .before .before .byte .ensures) _ (c .before .answer2 .given .1)))
+    (λ c κs. search needs)
+    (λ c κs. search needs)
+    (λ c. let p = c .put-u322 .ensures in let q = c .before .put-u32 .ensures in
+    rw (p .0, p .1, q .0, q .1) (laws.byte-answered _ _ (c .before .before .before .before .before .before .before .byte .ensures) _ _ (c .before .before .before .before .before .answer .given .1)))
+    (λ c. let p = c .put-u324 .ensures in let q = c .before .put-u323 .ensures in
+    rw (p .0, p .1, q .0, q .1) (laws.byte-refused _ _ (c .before .before .before .before .before .before .before .byte .ensures) _ (c .before .before .before .before .before .answer2 .given .1))))

@@ -9,8 +9,12 @@ bt-list-spec =
     (tie.spec
     (λ c κs. search needs)
     (λ c. search needs)
+    (λ c κs. search needs)
     (λ c. search needs)
+    (λ c κs. search needs)
     (λ c. search needs)
-    (λ c. let l = c .before .before .before .before .before .list .ensures in (laws.list-answered _ _ (l .0 .answers) _ (c .before .listed .given .1), l .1))
+    (λ c. let m = c .before .before .before .before .before .before .before .list .ensures in let p = c .put-u32 .ensures in
+    (rw (p .0, p .1) (laws.list-answered _ _ (m .0 .answers) _ (c .before .before .before .listed .given .1)), m .1))
     (λ c. search needs)
-    (λ c. let l = c .before .before .before .before .before .list .ensures in (laws.list-refused _ _ (l .0 .answers) _ (c .before .listed2 .given .1), l .1)))
+    (λ c. let m = c .before .before .before .before .before .before .before .list .ensures in let p = c .put-u322 .ensures in
+    (rw (p .0, p .1) (laws.list-refused _ _ (m .0 .answers) _ (c .before .before .before .listed2 .given .1)), m .1)))

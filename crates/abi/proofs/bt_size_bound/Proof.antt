@@ -9,6 +9,8 @@ bt-size-bound-spec =
     (tie.spec
     (λ c κs. search needs)
     (λ c. search needs)
+    (λ c κs. search needs)
     (λ c. search needs)
-    (λ c. laws.size-bound-answered _ _ (c .before .before .before .size-bound .ensures .answers) _ (c .before .room .given .1))
-    (λ c. laws.size-bound-refused _ _ (c .before .before .before .size-bound .ensures .answers) _ (c .before .room2 .given .1)))
+    (λ c κs. search needs)
+    (λ c. let p = c .put-u64 .ensures in rw (p .0, p .1) (laws.size-bound-answered _ _ (c .before .before .before .before .before .size-bound .ensures .answers) _ (c .before .before .before .room .given .1)))
+    (λ c. let p = c .put-u642 .ensures in rw (p .0, p .1) (laws.size-bound-refused _ _ (c .before .before .before .before .before .size-bound .ensures .answers) _ (c .before .before .before .room2 .given .1))))

@@ -9,6 +9,8 @@ bt-places-words-spec =
     (tie.spec
     (λ c κs. search needs)
     (λ c. search needs)
+    (λ c κs. search needs)
     (λ c. search needs)
-    (λ c. laws.room-answered _ _ (c .before .before .before .places-words .ensures .answers) _ (c .before .room .given .1))
-    (λ c. laws.room-refused _ _ (c .before .before .before .places-words .ensures .answers) _ (c .before .room2 .given .1)))
+    (λ c κs. search needs)
+    (λ c. let p = c .put-u32 .ensures in rw (p .0, p .1) (laws.room-answered _ _ (c .before .before .before .before .before .places-words .ensures .answers) _ (c .before .before .before .room .given .1)))
+    (λ c. let p = c .put-u322 .ensures in rw (p .0, p .1) (laws.room-refused _ _ (c .before .before .before .before .before .places-words .ensures .answers) _ (c .before .before .before .room2 .given .1))))

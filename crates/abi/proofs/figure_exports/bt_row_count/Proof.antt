@@ -9,6 +9,8 @@ bt-row-count-spec =
     (tie.spec
     (λ c κs. search needs)
     (λ c. search needs)
+    (λ c κs. search needs)
     (λ c. search needs)
-    (λ c. laws.count-answered _ _ (c .before .before .before .row-count .ensures .answers) _ (c .before .count .given .1))
-    (λ c. laws.count-refused _ _ (c .before .before .before .row-count .ensures .answers) _ (c .before .count2 .given .1)))
+    (λ c κs. search needs)
+    (λ c. let p = c .put-u64 .ensures in rw (p .0, p .1) (laws.count-answered _ _ (c .before .before .before .before .before .row-count .ensures .answers) _ (c .before .before .before .count .given .1)))
+    (λ c. let p = c .put-u642 .ensures in rw (p .0, p .1) (laws.count-refused _ _ (c .before .before .before .before .before .row-count .ensures .answers) _ (c .before .before .before .count2 .given .1))))

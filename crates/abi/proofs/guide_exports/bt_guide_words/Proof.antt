@@ -9,6 +9,8 @@ bt-guide-words-spec =
     (tie.spec
     (λ c κs. search needs)
     (λ c. search needs)
+    (λ c κs. search needs)
     (λ c. search needs)
-    (λ c. laws.size-answered _ _ (c .before .before .before .guide-words .ensures .0) _ (c .before .size .given .1))
-    (λ c. laws.size-refused _ _ (c .before .before .before .guide-words .ensures .0) _ (c .before .size2 .given .1)))
+    (λ c κs. search needs)
+    (λ c. let p = c .put-u64 .ensures in rw (p .0, p .1) (laws.size-answered _ _ (c .before .before .before .before .before .guide-words .ensures .0) _ (c .before .before .before .size .given .1)))
+    (λ c. let p = c .put-u642 .ensures in rw (p .0, p .1) (laws.size-refused _ _ (c .before .before .before .before .before .guide-words .ensures .0) _ (c .before .before .before .size2 .given .1))))
