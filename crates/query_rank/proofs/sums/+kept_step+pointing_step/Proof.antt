@@ -11,15 +11,15 @@ use Rattle.query_rank.proofs.sums.+kept_step+pointing_step.Lts-kept_ste
 use Rattle.query_rank.proofs.sums.pointing_step.Reads as pointing-step
 use Rattle.query_rank.proofs.sums.pointing_step.Kinds as pointing-step-kinds
 use Rattle.query_rank.proofs.sums.+kept_step+pointing_step.Lts-pointing_step as pointing-step-lts
-use Rattle.query_rank.proofs.sums.across.Reads as across-reads
-use Rattle.query_rank.proofs.sums.down.Reads as down-reads
-use Rattle.query_rank.proofs.sums.leaf.Reads as leaf-reads
-use Rattle.walk_steps.proofs.child.Reads as child-reads
-use Rattle.walk_steps.proofs.fields.shape_of.Reads as shape-of-reads
-use Rattle.walk_steps.proofs.fields.reborrow.Reads as whole-reads
-use Rattle.walk_steps.proofs.resolve_target.Reads as land-reads
-use Rattle.walk_steps.proofs.classify_block.Reads as look-reads
-use Rattle.walk_steps.proofs.quotient.Reads as quotient-reads
+use Rattle.query_rank.proofs.sums.across.Reads as across
+use Rattle.query_rank.proofs.sums.down.Reads as down
+use Rattle.query_rank.proofs.sums.leaf.Reads as leaf
+use Rattle.walk_steps.proofs.child.Reads as child
+use Rattle.walk_steps.proofs.fields.shape_of.Reads as shape
+use Rattle.walk_steps.proofs.fields.reborrow.Reads as whole
+use Rattle.walk_steps.proofs.resolve_target.Reads as target
+use Rattle.walk_steps.proofs.classify_block.Reads as kind
+use Rattle.walk_steps.proofs.quotient.Reads as quotient
 use Rattle.format.specs.Layout as at
 use Rattle.walk_steps.proofs.CycleClaims.{at-measure, below-measure}
 use Rattle.walk_steps.proofs.StepLaws.{Shapes, shapes-on}
@@ -28,11 +28,14 @@ use Rattle.query_rank.proofs.SumsLaws as laws
 use Rattle.query_rank.proofs.sums.+kept_step+pointing_step.{statement}
 use Rattle.query_rank.proofs.sums.+kept_step+pointing_step.Tie.{close}
 
+abbrev levels : List ℕ → ℕ
+levels t = at.settings t .levels
+
 abbrev μ-kept-step : Measures 1 kept-step-kinds.ps ℕ
-μ-kept-step κs a = 2 * (at.settings (a .0 .now) .levels - 1 - a .1 .1 .1 .0 .level)
+μ-kept-step κs a = 2 * (levels (a .0 .now) - 1 - a .1 .1 .1 .0 .level)
 
 abbrev μ-pointing-step : Measures 1 pointing-step-kinds.ps ℕ
-μ-pointing-step κs a = 2 * (at.settings (a .0 .now) .levels - 1 - a .1 .1 .1 .0 .level) + 1
+μ-pointing-step κs a = 2 * (levels (a .0 .now) - 1 - a .1 .1 .1 .0 .level) + 1
 
 abbrev kept-step-at : ℕ → In 1 kept-step-kinds.ps
 kept-step-at t = at-measure kept-step-kinds.ps μ-kept-step kept-step.Pre t
@@ -40,51 +43,44 @@ kept-step-at t = at-measure kept-step-kinds.ps μ-kept-step kept-step.Pre t
 abbrev pointing-step-at : ℕ → In 1 pointing-step-kinds.ps
 pointing-step-at t = at-measure pointing-step-kinds.ps μ-pointing-step pointing-step.Pre t
 
-abbrev levels : List ℕ → ℕ
-levels t = at.settings t .levels
+abbrev kept-step-below : ℕ → In 1 kept-step-kinds.ps
+kept-step-below t = below-measure kept-step-kinds.ps μ-kept-step kept-step.Pre t
+
+abbrev pointing-step-below : ℕ → In 1 pointing-step-kinds.ps
+pointing-step-below t = below-measure pointing-step-kinds.ps μ-pointing-step pointing-step.Pre t
 
 abbrev kept-claims : ℕ → kept-step-lts.Claims
 kept-claims t = (
-  whole-reads.Asked,
-  whole-reads.Learnt,
-  shape-of-reads.Asked,
-  shape-of-reads.Learnt,
-  leaf-reads.Asked,
-  leaf-reads.Learnt,
-  quotient-reads.Asked,
-  quotient-reads.Learnt,
-  child-reads.Asked,
-  child-reads.Learnt,
-  down-reads.Asked,
-  down-reads.Learnt,
-  below-measure pointing-step-kinds.ps μ-pointing-step pointing-step.Pre t,
+  whole.Asked,
+  whole.Learnt,
+  shape.Asked,
+  shape.Learnt,
+  leaf.Asked,
+  leaf.Learnt,
+  quotient.Asked,
+  quotient.Learnt,
+  child.Asked,
+  child.Learnt,
+  down.Asked,
+  down.Learnt,
+  pointing-step-below t,
   pointing-step.Post,
 )
 
 abbrev pointing-claims : ℕ → pointing-step-lts.Claims
-pointing-claims t = (
-  whole-reads.Asked,
-  whole-reads.Learnt,
-  look-reads.Asked,
-  look-reads.Learnt,
-  below-measure kept-step-kinds.ps μ-kept-step kept-step.Pre t,
-  kept-step.Post,
-  land-reads.Asked,
-  land-reads.Learnt,
-  across-reads.Asked,
-  across-reads.Learnt,
-)
+pointing-claims t =
+    (whole.Asked, whole.Learnt, kind.Asked, kind.Learnt, kept-step-below t, kept-step.Post, target.Asked, target.Learnt, across.Asked, across.Learnt)
 
 -- Above the last level: what was read of the tree, and the size of the blocks below.
 module _ {t : ℕ} (e : kept-step-lts.Else1 (kept-claims t) (kept-step-at t) kept-step.Post) where
+  abbrev S : kept-step-lts.Start (kept-claims t) (kept-step-at t) kept-step.Post
+  S = e .before .before .before .before .before .before
+
   abbrev s : kept-step-lts.After-shape-of (kept-claims t) (kept-step-at t) kept-step.Post
   s = e .before .before .before
 
   abbrev w : kept-step-lts.After-reborrow (kept-claims t) (kept-step-at t) kept-step.Post
   w = s .before
-
-  abbrev S : kept-step-lts.Start (kept-claims t) (kept-step-at t) kept-step.Post
-  S = w .before .before
 
   x : Shapes (S .args .t .now) (s .shape-of .result)
   x = shapes-on _ _ _ (w .reborrow .ensures) (s .shape-of .ensures)
@@ -97,11 +93,11 @@ module _ {t : ℕ} (e : kept-step-lts.Else1 (kept-claims t) (kept-step-at t) kep
 
 -- After the look at a block.
 module _ {t : ℕ} (m : pointing-step-lts.After-classify-block (pointing-claims t) (pointing-step-at t) pointing-step.Post) where
+  abbrev from : pointing-step-lts.Start (pointing-claims t) (pointing-step-at t) pointing-step.Post
+  from = m .before .before .before
+
   abbrev tree : pointing-step-lts.After-reborrow (pointing-claims t) (pointing-step-at t) pointing-step.Post
   tree = m .before
-
-  abbrev from : pointing-step-lts.Start (pointing-claims t) (pointing-step-at t) pointing-step.Post
-  from = tree .before .before
 
 pub +kept-step+pointing-step-spec : {M : Type 1} → statement M
 +kept-step+pointing-step-spec =
