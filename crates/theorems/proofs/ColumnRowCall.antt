@@ -76,18 +76,15 @@ module _ (κs : Lfts 2) (t : Borrowed) (w a : ℕ) (buffer after : Borrowed) whe
     column-numbers =
         not-zero (5 ∷ 6 ∷ 7 ∷ 20 ∷ 10 ∷ 13 ∷ 14 ∷ []) n (c .0 .numbered) (rw column-answers (column-one (now t) w a (length (now buffer))))
 
-    -- What is left in the buffer, by the number.
-    column-left : now after ≡ cond (eqb n 14) (replicate w 0 ++ drop w (now buffer)) (now buffer)
-    unfolding rowByColumnsBuffer
-    column-left = c .1 ∙ rw (← column-answers, ne-eqb n 0 (λ e. omega (arith, c .0 .numbered)))
-
     -- Refusal 14 leaves w zeros.
     pub column-zeros : n ≡ 14 → now after ≡ replicate w 0 ++ drop w (now buffer)
-    column-zeros e = column-left ∙ rw (eq-eqb n 14 e)
+    unfolding rowByColumnsBuffer
+    column-zeros e = c .1 ∙ rw (← column-answers, e)
 
     -- Any other refusal leaves the buffer unchanged.
     pub column-unchanged : (n ≡ 14 → ⊥) → now after ≡ now buffer
-    column-unchanged e = column-left ∙ rw (ne-eqb n 14 e)
+    unfolding rowByColumnsBuffer
+    column-unchanged e = c .1 ∙ rw (← column-answers, ne-eqb n 0 (λ z. omega (arith, c .0 .numbered)), ne-eqb n 14 e)
 
 -- Any tree that the check accepts, and the one text that fits it.
 module _ (t : Borrowed) (v : checkResult (now t) ≡ 0) where

@@ -64,11 +64,11 @@ find-no (found.Refused m) n s = ap (λ (x : Answer). found.Refused (x .number)) 
 
 -- Any tree that the check accepts, and the one text that fits it.
 module _ (t : Borrowed) (v : checkResult (now t) ≡ 0) where
-  abbrev T : List ℕ
-  T = textOf (now t)
-
   abbrev S : Settings
   S = at.settings (now t)
+
+  abbrev T : List ℕ
+  T = textOf (now t)
 
   pub accepted-answers : FindAnswers t S T
   unfolding foundFor
