@@ -1,10 +1,9 @@
 // The calls on guides: size, make, check; find, row and rows by their first bytes with a guide. Any bytes may be given as a guide.
-use crate::figures::next_row;
+use crate::figures::put_next_row;
+use crate::figures::put_row;
 use crate::figures::put_u32;
-use crate::figures::put_u64;
-use query_guide::GuideWordsAnswer;
+use crate::figures::put_words;
 use query_guided::FindGuidedAnswer;
-use query_rows::RowAnswer;
 ghost use mathlib.Core.Path.{_≡_};
 ghost use Rattle.query_guide.specs.Guides.{guideRefusal, guideWordsAnswer, makeGuideAnswer, makeGuideBuffer};
 ghost use Rattle.query_guided.specs.Guided.{FindGuidedAnswers};
@@ -19,10 +18,7 @@ pub extern "C" fn bt_guide_words(tree: &[u8], words: &mut u64) -> u32
     ensures { λ r. ⌜ answerWith r (now (words .exit)) 0 ≡ guideWordsAnswer (now (tree .entry)) ⌝ }
 {
     let size = query_guide::guide_words(tree);
-    match size {
-        GuideWordsAnswer::Words(n) => put_u64(words, n, 0),
-        GuideWordsAnswer::Refused(number) => put_u64(words, 0, number),
-    }
+    put_words(size, words)
 }
 
 // Writes the guide of a tree to the start of a table and returns its number of words.
@@ -32,10 +28,7 @@ pub extern "C" fn bt_make_guide(tree: &[u8], table: &mut [u8], words: &mut u64) 
     ensures { λ _. ⌜ now (table .exit) ≡ makeGuideBuffer (now (tree .entry)) (now (table .entry)) ⌝ }
 {
     let size = build_guide::make_guide(tree, table);
-    match size {
-        GuideWordsAnswer::Words(n) => put_u64(words, n, 0),
-        GuideWordsAnswer::Refused(number) => put_u64(words, 0, number),
-    }
+    put_words(size, words)
 }
 
 // Questions 5 to 9 for the tree, then 24 for the guide.
@@ -91,10 +84,7 @@ pub extern "C" fn bt_row_guided(
         (guideRefusal (now (tree .entry)) (now (guide .entry))) q (now (buffer .entry)) r (now (len .exit)) (now (buffer .exit)) ⌝ }
 {
     let copied = query_rows::row_guided(tree, guide, q, buffer);
-    match copied {
-        RowAnswer::Bytes(size) => put_u32(len, size, 0),
-        RowAnswer::Refused(number) => put_u32(len, 0, number),
-    }
+    put_row(copied, len)
 }
 
 // Moves the mark to the next row that starts with the prefix and returns that row, 0 for none. If refused, the mark is unchanged.
@@ -111,5 +101,5 @@ pub extern "C" fn bt_next_with_prefix_guided(
         (now (mark .entry)) (record { refusal = r; row = now (row .exit); mark = now (mark .exit) }) ⌝ }
 {
     let answer = query_prefix::next_with_prefix_guided(tree, guide, prefix, *mark);
-    next_row(answer, mark, row)
+    put_next_row(answer, mark, row)
 }

@@ -8,7 +8,8 @@ pub mod guide_exports;
 pub mod licence_exports;
 pub mod without_edges_exports;
 
-use crate::figures::next_row;
+use crate::figures::put_next_row;
+use crate::figures::put_row;
 use crate::figures::put_u32;
 use crate::figures::put_u64;
 use list_lines::ListAnswer;
@@ -17,7 +18,6 @@ use query_access::SpanAnswer;
 use query_access::read_by_header::RunRangeAnswer;
 use query_places::PlacesAnswer;
 use query_rank::CountAnswer;
-use query_rows::RowAnswer;
 use query_select::FindAnswer;
 use text::TextPlace;
 use tree::BuildAnswer;
@@ -218,10 +218,7 @@ pub extern "C" fn bt_row(tree: &[u8], q: u32, buffer: &mut [u8], len: &mut u32) 
     ensures { λ r. ⌜ RowBy (now (tree .entry)) (checkResult (now (tree .entry))) q (now (buffer .entry)) r (now (len .exit)) (now (buffer .exit)) ⌝ }
 {
     let copied = query_rows::row(tree, q, buffer);
-    match copied {
-        RowAnswer::Bytes(size) => put_u32(len, size, 0),
-        RowAnswer::Refused(number) => put_u32(len, 0, number),
-    }
+    put_row(copied, len)
 }
 
 // Writes all places of a pattern and returns their number.
@@ -244,7 +241,7 @@ pub extern "C" fn bt_next_match(tree: &[u8], ranges: &[u8], mark: &mut u32, row:
         (now (tree .entry)) (now (ranges .entry)) (now (mark .entry)) (record { refusal = r; row = now (row .exit); mark = now (mark .exit) }) ⌝ }
 {
     let answer = query_key_match::next_match(tree, ranges, *mark);
-    next_row(answer, mark, row)
+    put_next_row(answer, mark, row)
 }
 
 // Moves the mark to the next row that starts with the prefix and returns that row, 0 for none. If refused, the mark is unchanged.
@@ -260,7 +257,7 @@ pub extern "C" fn bt_next_with_prefix(
         (startsWith (now (prefix .entry))) (now (mark .entry)) (record { refusal = r; row = now (row .exit); mark = now (mark .exit) }) ⌝ }
 {
     let answer = query_prefix::next_with_prefix(tree, prefix, *mark);
-    next_row(answer, mark, row)
+    put_next_row(answer, mark, row)
 }
 
 // Writes a line for each level of a tree.

@@ -8,4 +8,4 @@ bt-next-with-prefix-spec =
     (tie.spec
     (λ c κs. search needs)
     (λ c κs. search needs)
-    (λ c. rw (c .next-row .ensures) (c .before .before .before .next-with-prefix .ensures .answers)))
+    (λ c. rw (c .put-next-row .ensures) (c .before .before .before .next-with-prefix .ensures .answers)))

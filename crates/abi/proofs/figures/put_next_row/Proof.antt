@@ -1,10 +1,10 @@
 use borrow.Author.Needs.{needs}
 use Rattle.abi.proofs.NextRowExportsLaws as laws
-use Rattle.abi.proofs.figures.next_row.Statement.{statement}
-use Rattle.abi.proofs.figures.next_row.Tie as tie
+use Rattle.abi.proofs.figures.put_next_row.Statement.{statement}
+use Rattle.abi.proofs.figures.put_next_row.Tie as tie
 
-pub next-row-spec : {M : Type 1} → statement M
-next-row-spec =
+pub put-next-row-spec : {M : Type 1} → statement M
+put-next-row-spec =
     tie.close
     (tie.spec
     (λ c. search needs)
