@@ -16,20 +16,11 @@ use Rattle.format.specs.LayoutLaws.{header-facts}
 use Rattle.format.specs.FindAnswerLaws.{FindAnswers}
 use Rattle.theory_counts.specs.CountsLocal.{byteOf}
 use Rattle.theory_counts.specs.Ranks as tally
-use Rattle.query_rank.specs.declared.CountAnswer.{CountAnswer}
-use Rattle.query_rank.specs.declared.CountAnswer.the-variants as count
 use Rattle.query_select.specs.declared.FindAnswer.{FindAnswer}
 use Rattle.query_select.specs.declared.FindAnswer.the-variants as found
-use Rattle.query_rank.specs.Counts.{countReply, uncountedRefusal}
+use Rattle.query_rank.specs.Counts.{uncountedRefusal}
 use Rattle.query_select.specs.Found.{findReply}
 use Rattle.text.specs.declared.TextPlace.{TextPlace}
-
-module _ (r : CountAnswer) (s : Answer) (is : replied (countReply r) ≡ s) where
-  pub count-answered : (times entered : ℕ) → r ≡ count.Times times entered → answerWith 0 times entered ≡ s
-  count-answered times entered e = sym (ap (λ (x : CountAnswer). replied (countReply x)) e) ∙ is
-
-  pub count-refused : (q : ℕ) → r ≡ count.Refused q → answerWith q 0 0 ≡ s
-  count-refused q e = sym (ap (λ (x : CountAnswer). replied (countReply x)) e) ∙ is
 
 module _ (t : List ℕ) (byte j : ℕ) (r : FindAnswer) (k : FindAnswers t byte j (replied (findReply r))) where
   pub find-answered : (place : TextPlace) (entered : ℕ) → r ≡ found.At place entered → FindAnswers t byte j (answerWith 0 (place .0) entered)

@@ -79,7 +79,8 @@ fn block_in(
 fn fill_scanned(out: &mut [u8], words: &[u32], text: &[u8], counted: &[u8], level: Level) -> u32
     requires { ⌜ LevelReady (recordSettingsOf (level .settings) (now counted)) (now text) (now out) level
         × TableGivesMarking (recordSettingsOf (level .settings) (now counted)) (now text) (level .number) (now words) ⌝ }
-    ensures { λ r. ⌜ LevelFilled (recordSettingsOf (level .settings) (now (counted .entry))) (now (text .entry)) (now (out .entry)) (now (out .exit)) level r ⌝ }
+    ensures { λ r. ⌜ LevelFilled (recordSettingsOf (level .settings) (now (counted .entry))) (now (text .entry)) (now (out .entry)) (now (out .exit))
+        level r ⌝ }
 {
     let mut left = Pair::Apart;
     let mut link: u32 = 0;

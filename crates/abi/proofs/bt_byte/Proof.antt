@@ -1,4 +1,5 @@
 use borrow.Author.Needs.{needs}
+use Rattle.query_access.specs.ReadAnswers.{byteReply}
 use Rattle.abi.proofs.ExportsLaws as laws
 use Rattle.abi.proofs.bt_byte.Statement.{statement}
 use Rattle.abi.proofs.bt_byte.Tie as tie
@@ -15,7 +16,7 @@ bt-byte-spec =
     (λ c. search needs)
     (λ c κs. search needs)
     (λ c κs. search needs)
-    (λ c. let p = c .put-u322 .ensures in let q = c .before .put-u32 .ensures in
-    rw (p .0, p .1, q .0, q .1) (laws.byte-answered _ _ (c .before .before .before .before .before .before .before .byte .ensures) _ _ (c .before .before .before .before .before .answer .given .1)))
-    (λ c. let p = c .put-u324 .ensures in let q = c .before .put-u323 .ensures in
-    rw (p .0, p .1, q .0, q .1) (laws.byte-refused _ _ (c .before .before .before .before .before .before .before .byte .ensures) _ (c .before .before .before .before .before .answer2 .given .1))))
+    (λ c. let p = c .put-u322 .ensures in let q = c .before .put-u32 .ensures in let w = c .before .before .before .before .before in
+    rw (p .0, p .1, q .0, q .1) (laws.reply-is byteReply _ _ _ (w .before .before .byte .ensures) (w .answer .given .1)))
+    (λ c. let p = c .put-u324 .ensures in let q = c .before .put-u323 .ensures in let w = c .before .before .before .before .before in
+    rw (p .0, p .1, q .0, q .1) (laws.reply-is byteReply _ _ _ (w .before .before .byte .ensures) (w .answer2 .given .1))))

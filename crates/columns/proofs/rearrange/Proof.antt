@@ -1,7 +1,7 @@
 use mathlib.Core.Path.{sym, _∙_}
 use borrow.Author.Needs.{needs}
 use Rattle.columns.specs.ColumnLaws.{width-low}
-use Rattle.columns.proofs.ColumnsWritten.{let-through, leaves-refused, by-rows, by-columns, leaves-rows, leaves-columns, either}
+use Rattle.columns.proofs.ColumnsWritten.{let-through, leaves-refused, by-rows, by-columns, leaves-rows, leaves-columns, either-way}
 use Rattle.columns.proofs.rearrange.Statement.{statement}
 use Rattle.columns.proofs.rearrange.Tie as tie
 
@@ -10,7 +10,8 @@ rearrange-spec =
     tie.close
     (tie.spec
     (λ c κs. search needs)
-    (λ c. let k = leaves-refused _ _ _ _ (c .before .refusal .ensures) (c .if1 .taken) in (k .0, either (c .before .before .before .before .args .back) _ _ _ (k .2) (k .1)))
+    (λ c. let k = leaves-refused _ _ _ _ (c .before .refusal .ensures) (c .if1 .taken) in
+    (k .0, either-way (c .before .before .before .before .args .back) _ _ _ (k .2) (k .1)))
     (λ c. let a = c .before .before .before .before .args in
     width-low _ _ (let-through _ (a .text .now) (a .out .now) (sym (c .before .refusal .ensures) ∙ c .if1 .left) .0))
     (λ c κs. let e = c .before .before in let a = e .before .before .before .before .args in

@@ -15,6 +15,9 @@ bt-open-on-spec =
     (λ c κs. search needs)
     (λ c. search needs)
     (λ c κs. search needs)
-    (λ c. let p = c .put-u32 .ensures in let z = laws.open-is _ _ _ _ (c .before .before .before .before .open-on .ensures) _ (c .before .before .enum-told .given .1) in (p .0 ∙ z .0, p .1 ∙ z .1))
-    (λ c. let p = c .put-u322 .ensures in let z = laws.open-is _ _ _ _ (c .before .before .before .before .open-on .ensures) _ (c .before .before .enum-told2 .given .1) in (p .0 ∙ z .0, p .1 ∙ z .1))
-    (λ c. let p = c .put-u323 .ensures in let z = laws.open-is _ _ _ _ (c .before .before .before .before .before .open-on .ensures) _ (c .before .before .before .opened .given .1) in (p .0 ∙ z .0, p .1 ∙ z .1)))
+    (λ c. let p = c .put-u32 .ensures in let w = c .before .before in
+    let z = laws.open-is _ _ _ _ (w .before .before .open-on .ensures) _ (w .enum-told .given .1) in (p .0 ∙ z .0, p .1 ∙ z .1))
+    (λ c. let p = c .put-u322 .ensures in let w = c .before .before in
+    let z = laws.open-is _ _ _ _ (w .before .before .open-on .ensures) _ (w .enum-told2 .given .1) in (p .0 ∙ z .0, p .1 ∙ z .1))
+    (λ c. let p = c .put-u323 .ensures in let w = c .before .before .before in
+    let z = laws.open-is _ _ _ _ (w .before .before .open-on .ensures) _ (w .opened .given .1) in (p .0 ∙ z .0, p .1 ∙ z .1)))
