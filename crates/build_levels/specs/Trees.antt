@@ -61,8 +61,8 @@ module _ (S : Settings) (T : List ℕ) where
     pub total-is : total ≡ sumBelow (level .count) (widthOf S T (level .number))
 
   -- The records of a level were written, and only bytes of the tree.
-  abbrev pub LevelFilled : List ℕ → List ℕ → Level → ℕ → Type 0
-  LevelFilled before after level total = WritesOnlyTree (treeOf S T) before after × LevelWritten after level total
+  abbrev pub LevelDone : List ℕ → List ℕ → Level → ℕ → Type 0
+  LevelDone before after level total = WritesOnlyTree (treeOf S T) before after × LevelWritten after level total
 
   -- A step to the level with this number: it is ready, or the tree does not fit.
   pub record StepIs (out : List ℕ) (s : code.Settings) (number : ℕ) (step : Step) : Type 0 where
