@@ -2,17 +2,14 @@
 -- the same with a guide. The theorems about repeated calls are in `Theorems` of their crate.
 use mathlib.Core.List.{List, [], _∷_}
 use mathlib.Core.Path.{_≡_, refl}
-use mathlib.Core.Logic.{_⊎_, inl, inr}
 use Prim.Native.Nat.{ℕ}
 use contract.Lifetimes.{Lfts}
 use denote.Ref.{now}
 use Rattle.format.specs.Layout as at
 use Rattle.format.specs.TreeReading.{textOf, headerResult, checkResult}
 use Rattle.format.specs.CheckResultLaws.{accepted-header}
-use Rattle.format.specs.Answers.{isCounted}
 use Rattle.query_places.specs.Places.{patternOk}
 use Rattle.query_row_filter.specs.declared.NextRowAnswer.the-variants as answer
-use Rattle.query_row_filter.specs.AllowedRows.{newlineRefusal, queryRefusal}
 use Rattle.query_guide.specs.Guides.{guideRefusal}
 use Rattle.query_guide.proofs.GuideList.{guide-checked}
 use Rattle.query_prefix.proofs.Theorems.{IsPrefixAnswer}

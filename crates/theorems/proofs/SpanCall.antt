@@ -1,13 +1,13 @@
 -- span(tree, place, length, buffer): bytes copied from a place on, with the blocks that a short span enters.
 use mathlib.Core.List.{List, [], _∷_, _++_}
-use mathlib.Core.Bool.{true, cond, Bool}
+use mathlib.Core.Bool.{true, Bool}
 use mathlib.Core.Path.{_≡_, _∙_, refl}
 use Prim.Native.Nat.{ℕ, suc, _+_, _≤_, _<_}
 use native.Mathlib.Omega.{arith}
 use contract.Lifetimes.{Lfts}
 use denote.Ref.{now}
 use lib.ListN.{length, drop, replicate}
-use lib.Dec.{eqb, leb}
+use lib.Dec.{leb}
 use lib.Seq.{drop-at}
 use borrow.Author.Tests.{eq-eqb, ne-eqb, leb-true, le-leb, lt-leb}
 use Rattle.text.specs.declared.TextPlace.{TextPlace}
