@@ -1,4 +1,4 @@
--- Count, find and row: their answers by variants, also for a number above 255.
+-- Count, find and row: their answers as numbers, also for a number above 255.
 use mathlib.Core.List.{List}
 use mathlib.Core.Bool.{Bool, true, false, cond}
 use mathlib.Core.Path.{_≡_, refl, sym, ap, subst, _∙_}
@@ -9,31 +9,18 @@ use lib.ListN.{getD, take, drop}
 use lib.Seq.{getD-take, getD-drop}
 use lib.Dec.{leb, eqb}
 use Rattle.format.specs.Layout.{maxCounted, countedAt}
-use Rattle.format.specs.Answers.{Answer, refused, unless, replied, answerWith, isCounted, numberOfByte, countAnswer, findRefusal}
+use Rattle.format.specs.Answers.{Answer, refused, unless, replied, answerWith, isCounted, numberOfByte, countAnswer, findRefusal, RowBy}
 use Rattle.format.specs.Layout as at
 use Rattle.format.specs.TreeReading.{ask, headerResult}
 use Rattle.format.specs.LayoutLaws.{header-facts}
 use Rattle.format.specs.FindAnswerLaws.{FindAnswers}
-use Rattle.format.specs.RowRefusalLaws.{RowAnswers}
 use Rattle.theory_counts.specs.CountsLocal.{byteOf}
 use Rattle.theory_counts.specs.Ranks as tally
-use Rattle.query_rank.specs.declared.CountAnswer.{CountAnswer}
-use Rattle.query_rank.specs.declared.CountAnswer.the-variants as count
 use Rattle.query_select.specs.declared.FindAnswer.{FindAnswer}
 use Rattle.query_select.specs.declared.FindAnswer.the-variants as found
-use Rattle.query_rows.specs.declared.RowAnswer.{RowAnswer}
-use Rattle.query_rows.specs.declared.RowAnswer.the-variants as row
-use Rattle.query_rank.specs.Counts.{countReply, uncountedRefusal}
+use Rattle.query_rank.specs.Counts.{uncountedRefusal}
 use Rattle.query_select.specs.Found.{findReply}
-use Rattle.query_rows.specs.RowAnswers.{rowReply}
 use Rattle.text.specs.declared.TextPlace.{TextPlace}
-
-module _ (r : CountAnswer) (s : Answer) (is : replied (countReply r) ≡ s) where
-  pub count-answered : (times entered : ℕ) → r ≡ count.Times times entered → answerWith 0 times entered ≡ s
-  count-answered times entered e = sym (ap (λ (x : CountAnswer). replied (countReply x)) e) ∙ is
-
-  pub count-refused : (q : ℕ) → r ≡ count.Refused q → answerWith q 0 0 ≡ s
-  count-refused q e = sym (ap (λ (x : CountAnswer). replied (countReply x)) e) ∙ is
 
 module _ (t : List ℕ) (byte j : ℕ) (r : FindAnswer) (k : FindAnswers t byte j (replied (findReply r))) where
   pub find-answered : (place : TextPlace) (entered : ℕ) → r ≡ found.At place entered → FindAnswers t byte j (answerWith 0 (place .0) entered)
@@ -42,13 +29,10 @@ module _ (t : List ℕ) (byte j : ℕ) (r : FindAnswer) (k : FindAnswers t byte 
   pub find-refused : (q : ℕ) → r ≡ found.Refused q → FindAnswers t byte j (answerWith q 0 0)
   find-refused q e = subst (λ (x : FindAnswer). FindAnswers t byte j (replied (findReply x))) e k
 
-module _ (t : List ℕ) (q : ℕ) (buffer after : List ℕ) (r : RowAnswer)
-    (k : RowAnswers t q buffer (replied (rowReply r) .number) (replied (rowReply r) .value) after) where
-  pub row-answered : (size : ℕ) → r ≡ row.Bytes size → RowAnswers t q buffer 0 size after
-  row-answered size e = subst (λ (x : RowAnswer). RowAnswers t q buffer (replied (rowReply x) .number) (replied (rowReply x) .value) after) e k
-
-  pub row-refused : (number : ℕ) → r ≡ row.Refused number → RowAnswers t q buffer number 0 after
-  row-refused number e = subst (λ (x : RowAnswer). RowAnswers t q buffer (replied (rowReply x) .number) (replied (rowReply x) .value) after) e k
+-- A row by its number and length.
+pub row-by : (t : List ℕ) (ok q : ℕ) (buffer after : List ℕ) (s : Answer) (number size : ℕ) → answerWith number size 0 ≡ s
+    → RowBy t ok q buffer (s .number) (s .value) after → RowBy t ok q buffer number size after
+row-by t ok q buffer after s number size e k = subst (λ (x : Answer). RowBy t ok q buffer (x .number) (x .value) after) (sym e) k
 
 -- For a number above 255.
 

@@ -8,28 +8,24 @@ use native.Mathlib.Omega.{arith}
 use borrow.Author.Tests.{eqb-true}
 use lib.Dec.{eqb}
 use Rattle.format.specs.Layout.{maxText}
-use Rattle.format.specs.Answers.{Answer, replied, answerWith, byteAnswer, runOf, runAnswer, spanAnswer}
+use Rattle.format.specs.Answers.{Answer, Reply, replied, byteAnswer, runOf, runAnswer, spanAnswer}
 use Rattle.format.specs.AnswerLaws.{unless-passes}
 use Rattle.format.specs.Layout as at
 use Rattle.format.specs.TreeReading.{Path, pathOf, headerResult}
 use Rattle.format.specs.LayoutLaws.{header-facts}
 use Rattle.theory_paths.specs.Shift.{left-most}
-use Rattle.query_access.specs.declared.ByteAnswer.{ByteAnswer}
-use Rattle.query_access.specs.declared.ByteAnswer.the-variants as answer
 use Rattle.query_access.specs.declared.SpanAnswer.{SpanAnswer}
 use Rattle.query_access.specs.declared.SpanAnswer.the-variants as copied
-use Rattle.query_access.specs.ReadAnswers.{byteReply, spanReply, IsSpanAnswer}
+use Rattle.query_access.specs.ReadAnswers.{spanReply, IsSpanAnswer}
 use Rattle.build_by_search.specs.declared.BuildAnswer.{BuildAnswer}
 use Rattle.build_by_search.specs.declared.BuildAnswer.the-variants as built
 use Rattle.build_by_search.specs.BuildAnswer.{buildReply}
-use Rattle.build_size_bound.specs.declared.SizeBoundAnswer.{SizeBoundAnswer}
-use Rattle.build_size_bound.specs.declared.SizeBoundAnswer.the-variants as room
-use Rattle.build_size_bound.specs.SizeBound.{sizeBoundReply}
-use Rattle.list_lines.specs.declared.ListAnswer.{ListAnswer}
-use Rattle.list_lines.specs.declared.ListAnswer.the-variants as listed
-use Rattle.list_lines.specs.ListedLines.{listReply}
 
--- build and enough
+-- The reply of an answer that is known.
+pub reply-is : {R : Type 0} (reply : R → Reply) (r x : R) (s : Answer) → replied (reply r) ≡ s → r ≡ x → replied (reply x) ≡ s
+reply-is reply r x s is e = sym (ap (λ y. replied (reply y)) e) ∙ is
+
+-- build
 
 module _ (r : BuildAnswer) (number size : ℕ) (n-is : replied (buildReply r) .number ≡ number) (s-is : replied (buildReply r) .value ≡ size) where
   pub build-answered : (n : ℕ) → r ≡ built.Size n → (0 ≡ number) × (n ≡ size)
@@ -45,31 +41,6 @@ module _ (r : BuildAnswer) (number size : ℕ) (n-is : replied (buildReply r) .n
         ∙ n-is,
     sym (ap (λ (x : BuildAnswer). replied (buildReply x) .value) e) ∙ s-is,
   )
-
-module _ (r : SizeBoundAnswer) (s : Answer) (is : replied (sizeBoundReply r) ≡ s) where
-  pub size-bound-answered : (n : ℕ) → r ≡ room.Bytes n → answerWith 0 n 0 ≡ s
-  size-bound-answered n e = sym (ap (λ (x : SizeBoundAnswer). replied (sizeBoundReply x)) e) ∙ is
-
-  pub size-bound-refused : (q : ℕ) → r ≡ room.Refused q → answerWith q 0 0 ≡ s
-  size-bound-refused q e = sym (ap (λ (x : SizeBoundAnswer). replied (sizeBoundReply x)) e) ∙ is
-
--- List.
-
-module _ (r : ListAnswer) (s : Answer) (is : replied (listReply r) ≡ s) where
-  pub list-answered : (n : ℕ) → r ≡ listed.Bytes n → answerWith 0 n 0 ≡ s
-  list-answered n e = sym (ap (λ (x : ListAnswer). replied (listReply x)) e) ∙ is
-
-  pub list-refused : (q : ℕ) → r ≡ listed.Refused q → answerWith q 0 0 ≡ s
-  list-refused q e = sym (ap (λ (x : ListAnswer). replied (listReply x)) e) ∙ is
-
--- Byte.
-
-module _ (r : ByteAnswer) (s : Answer) (is : replied (byteReply r) ≡ s) where
-  pub byte-answered : (value entered : ℕ) → r ≡ answer.Byte value entered → answerWith 0 value entered ≡ s
-  byte-answered value entered e = sym (ap (λ (x : ByteAnswer). replied (byteReply x)) e) ∙ is
-
-  pub byte-refused : (q : ℕ) → r ≡ answer.Refused q → answerWith q 0 0 ≡ s
-  byte-refused q e = sym (ap (λ (x : ByteAnswer). replied (byteReply x)) e) ∙ is
 
 -- run: no longer than the longest text
 

@@ -1,4 +1,5 @@
 // The order of two trees' texts, exported to C.
+use crate::figures::put_u32;
 use query_compare::CompareAnswer;
 ghost use mathlib.Core.Path.{_≡_};
 ghost use Rattle.query_compare.specs.OrderAnswers.{compareAnswer, firstGiven};
@@ -17,30 +18,17 @@ pub extern "C" fn bt_compare(
     ensures { λ _. ⌜ now (first .exit) ≡ firstGiven (compareAnswer (now (one .entry)) (now (other .entry)) .value) ⌝ }
 {
     let compared = query_compare::compare(one, other);
+    *first = 1;
     match compared {
-        CompareAnswer::Before(length) => {
-            *order = 1;
-            *shared = length;
-            *first = 1;
-            0
-        }
-        CompareAnswer::Same(length) => {
-            *order = 2;
-            *shared = length;
-            *first = 1;
-            0
-        }
+        CompareAnswer::Before(length) => put_u32(order, 1, put_u32(shared, length, 0)),
+        CompareAnswer::Same(length) => put_u32(order, 2, put_u32(shared, length, 0)),
         CompareAnswer::After(length) => {
-            *order = 3;
-            *shared = length;
             *first = 2;
-            0
+            put_u32(order, 3, put_u32(shared, length, 0))
         }
         CompareAnswer::Refused(number) => {
-            *order = 0;
-            *shared = 0;
             *first = 0;
-            number
+            put_u32(order, 0, put_u32(shared, 0, number))
         }
     }
 }

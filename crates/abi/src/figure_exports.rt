@@ -1,4 +1,6 @@
 // The figures of a tree that a caller needs before reading its text; and the version of the library.
+use crate::figures::put_u32;
+use crate::figures::put_u64;
 use query_places::PlacesWordsAnswer;
 use query_rows::RowCountAnswer;
 use query_rows::RowLengthAnswer;
@@ -33,14 +35,8 @@ pub extern "C" fn bt_row_count(tree: &[u8], rows: &mut u64) -> u32
 {
     let count = query_rows::row_count(tree);
     match count {
-        RowCountAnswer::Rows(n) => {
-            *rows = n;
-            0
-        }
-        RowCountAnswer::Refused(number) => {
-            *rows = 0;
-            number
-        }
+        RowCountAnswer::Rows(n) => put_u64(rows, n, 0),
+        RowCountAnswer::Refused(number) => put_u64(rows, 0, number),
     }
 }
 
@@ -51,14 +47,8 @@ pub extern "C" fn bt_row_length(tree: &[u8], q: u32, len: &mut u32) -> u32
 {
     let length = query_rows::row_length(tree, q);
     match length {
-        RowLengthAnswer::Bytes(n) => {
-            *len = n;
-            0
-        }
-        RowLengthAnswer::Refused(number) => {
-            *len = 0;
-            number
-        }
+        RowLengthAnswer::Bytes(n) => put_u32(len, n, 0),
+        RowLengthAnswer::Refused(number) => put_u32(len, 0, number),
     }
 }
 
@@ -69,13 +59,7 @@ pub extern "C" fn bt_places_words(tree: &[u8], len: u32, words: &mut u32) -> u32
 {
     let room = query_places::places_words(tree, len);
     match room {
-        PlacesWordsAnswer::Words(n) => {
-            *words = n;
-            0
-        }
-        PlacesWordsAnswer::Refused(number) => {
-            *words = 0;
-            number
-        }
+        PlacesWordsAnswer::Words(n) => put_u32(words, n, 0),
+        PlacesWordsAnswer::Refused(number) => put_u32(words, 0, number),
     }
 }

@@ -1,8 +1,9 @@
 // The calls on guides: size, make, check; find, row and rows by their first bytes with a guide. Any bytes may be given as a guide.
-use query_guide::GuideWordsAnswer;
+use crate::figures::put_next_row;
+use crate::figures::put_row;
+use crate::figures::put_u32;
+use crate::figures::put_words;
 use query_guided::FindGuidedAnswer;
-use query_row_filter::NextRowAnswer;
-use query_rows::RowAnswer;
 ghost use mathlib.Core.Path.{_≡_};
 ghost use Rattle.query_guide.specs.Guides.{guideRefusal, guideWordsAnswer, makeGuideAnswer, makeGuideBuffer};
 ghost use Rattle.query_guided.specs.Guided.{FindGuidedAnswers};
@@ -17,16 +18,7 @@ pub extern "C" fn bt_guide_words(tree: &[u8], words: &mut u64) -> u32
     ensures { λ r. ⌜ answerWith r (now (words .exit)) 0 ≡ guideWordsAnswer (now (tree .entry)) ⌝ }
 {
     let size = query_guide::guide_words(tree);
-    match size {
-        GuideWordsAnswer::Words(n) => {
-            *words = n;
-            0
-        }
-        GuideWordsAnswer::Refused(number) => {
-            *words = 0;
-            number
-        }
-    }
+    put_words(size, words)
 }
 
 // Writes the guide of a tree to the start of a table and returns its number of words.
@@ -36,16 +28,7 @@ pub extern "C" fn bt_make_guide(tree: &[u8], table: &mut [u8], words: &mut u64) 
     ensures { λ _. ⌜ now (table .exit) ≡ makeGuideBuffer (now (tree .entry)) (now (table .entry)) ⌝ }
 {
     let size = build_guide::make_guide(tree, table);
-    match size {
-        GuideWordsAnswer::Words(n) => {
-            *words = n;
-            0
-        }
-        GuideWordsAnswer::Refused(number) => {
-            *words = 0;
-            number
-        }
-    }
+    put_words(size, words)
 }
 
 // Questions 5 to 9 for the tree, then 24 for the guide.
@@ -71,24 +54,19 @@ pub extern "C" fn bt_find_guided(
         (now (steps .exit)) ⌝ }
 {
     if 255 < byte {
-        *place = 0;
-        *entered = 0;
         *steps = 0;
-        return query_rank::uncounted::uncounted(tree, 0);
+        let number = query_rank::uncounted::uncounted(tree, 0);
+        return put_u32(place, 0, put_u32(entered, 0, number));
     }
     let found = query_guided::find_guided(tree, guide, byte as u8, j);
     match found {
         FindGuidedAnswer::At(at, path, walked) => {
-            *place = at.0;
-            *entered = path;
             *steps = walked;
-            0
+            put_u32(place, at.0, put_u32(entered, path, 0))
         }
         FindGuidedAnswer::Refused(number) => {
-            *place = 0;
-            *entered = 0;
             *steps = 0;
-            number
+            put_u32(place, 0, put_u32(entered, 0, number))
         }
     }
 }
@@ -106,16 +84,7 @@ pub extern "C" fn bt_row_guided(
         (guideRefusal (now (tree .entry)) (now (guide .entry))) q (now (buffer .entry)) r (now (len .exit)) (now (buffer .exit)) ⌝ }
 {
     let copied = query_rows::row_guided(tree, guide, q, buffer);
-    match copied {
-        RowAnswer::Bytes(size) => {
-            *len = size;
-            0
-        }
-        RowAnswer::Refused(number) => {
-            *len = 0;
-            number
-        }
-    }
+    put_row(copied, len)
 }
 
 // Moves the mark to the next row that starts with the prefix and returns that row, 0 for none. If refused, the mark is unchanged.
@@ -131,22 +100,6 @@ pub extern "C" fn bt_next_with_prefix_guided(
         (queryRefusal (now (tree .entry)) 16 (patternOk (now (prefix .entry)))) (startsWith (now (prefix .entry)))
         (now (mark .entry)) (record { refusal = r; row = now (row .exit); mark = now (mark .exit) }) ⌝ }
 {
-    let at = *mark;
-    let answer = query_prefix::next_with_prefix_guided(tree, guide, prefix, at);
-    match answer {
-        NextRowAnswer::Row(q) => {
-            *row = q;
-            *mark = q;
-            0
-        }
-        NextRowAnswer::Nothing(m) => {
-            *row = 0;
-            *mark = m;
-            0
-        }
-        NextRowAnswer::Refused(number) => {
-            *row = 0;
-            number
-        }
-    }
+    let answer = query_prefix::next_with_prefix_guided(tree, guide, prefix, *mark);
+    put_next_row(answer, mark, row)
 }

@@ -3,18 +3,21 @@ mod column_exports;
 pub mod compare_exports;
 mod digest_exports;
 pub mod figure_exports;
+mod figures;
 pub mod guide_exports;
 pub mod licence_exports;
 pub mod without_edges_exports;
 
+use crate::figures::put_next_row;
+use crate::figures::put_row;
+use crate::figures::put_u32;
+use crate::figures::put_u64;
 use list_lines::ListAnswer;
 use query_access::ByteAnswer;
 use query_access::SpanAnswer;
 use query_access::read_by_header::RunRangeAnswer;
 use query_places::PlacesAnswer;
 use query_rank::CountAnswer;
-use query_row_filter::NextRowAnswer;
-use query_rows::RowAnswer;
 use query_select::FindAnswer;
 use text::TextPlace;
 use tree::BuildAnswer;
@@ -51,14 +54,8 @@ pub extern "C" fn bt_build(
 {
     let built = tree::build(text, leaf, arity, levels, counted, out);
     match built {
-        BuildAnswer::Size(n) => {
-            *size = n;
-            0
-        }
-        BuildAnswer::Refused(number) => {
-            *size = 0;
-            number
-        }
+        BuildAnswer::Size(n) => put_u32(size, n, 0),
+        BuildAnswer::Refused(number) => put_u32(size, 0, number),
     }
 }
 
@@ -87,16 +84,8 @@ pub extern "C" fn bt_build_scanned(
 {
     let scanned = tree::build_scanned(text, leaf, arity, levels, counted, work, out);
     match scanned {
-        BuildScannedAnswer::Size(n, w) => {
-            *size = n;
-            *windows = w;
-            0
-        }
-        BuildScannedAnswer::Refused(number) => {
-            *size = 0;
-            *windows = 0;
-            number
-        }
+        BuildScannedAnswer::Size(n, w) => put_u32(size, n, put_u32(windows, w, 0)),
+        BuildScannedAnswer::Refused(number) => put_u32(size, 0, put_u32(windows, 0, number)),
     }
 }
 
@@ -122,14 +111,8 @@ pub extern "C" fn bt_size_bound(
 {
     let room = tree::size_bound(n, leaf, arity, levels, counted);
     match room {
-        SizeBoundAnswer::Bytes(bytes) => {
-            *size = bytes;
-            0
-        }
-        SizeBoundAnswer::Refused(number) => {
-            *size = 0;
-            number
-        }
+        SizeBoundAnswer::Bytes(bytes) => put_u64(size, bytes, 0),
+        SizeBoundAnswer::Refused(number) => put_u64(size, 0, number),
     }
 }
 
@@ -148,16 +131,8 @@ pub extern "C" fn bt_byte(tree: &[u8], place: u32, value: &mut u32, entered: &mu
 {
     let answer = query_access::byte(tree, TextPlace(place));
     match answer {
-        ByteAnswer::Byte(byte, blocks) => {
-            *value = byte as u32;
-            *entered = blocks;
-            0
-        }
-        ByteAnswer::Refused(number) => {
-            *value = 0;
-            *entered = 0;
-            number
-        }
+        ByteAnswer::Byte(byte, blocks) => put_u32(value, byte as u32, put_u32(entered, blocks, 0)),
+        ByteAnswer::Refused(number) => put_u32(value, 0, put_u32(entered, 0, number)),
     }
 }
 
@@ -170,16 +145,12 @@ pub extern "C" fn bt_run_range(tree: &[u8], place: u32, offset: &mut u64, len: &
 {
     let ran = query_access::run_range(tree, TextPlace(place));
     match ran {
-        RunRangeAnswer::At(part) => {
-            *offset = part.from as u64;
-            *len = part.length as u32;
-            0
-        }
-        RunRangeAnswer::Refused(number) => {
-            *offset = 0;
-            *len = 0;
-            number
-        }
+        RunRangeAnswer::At(part) => put_u64(
+            offset,
+            part.from as u64,
+            put_u32(len, part.length as u32, 0),
+        ),
+        RunRangeAnswer::Refused(number) => put_u64(offset, 0, put_u32(len, 0, number)),
     }
 }
 
@@ -198,14 +169,8 @@ pub extern "C" fn bt_span(
 {
     let copied = query_access::span(tree, TextPlace(place), len, buffer);
     match copied {
-        SpanAnswer::Bytes(_, blocks) => {
-            *entered = blocks;
-            0
-        }
-        SpanAnswer::Refused(number) => {
-            *entered = 0;
-            number
-        }
+        SpanAnswer::Bytes(_, blocks) => put_u32(entered, blocks, 0),
+        SpanAnswer::Refused(number) => put_u32(entered, 0, number),
     }
 }
 
@@ -221,22 +186,13 @@ pub extern "C" fn bt_count(
     ensures { λ r. ⌜ answerWith r (now (times .exit)) (now (entered .exit)) ≡ countAnswer (now (tree .entry)) byte i ⌝ }
 {
     if 255 < byte {
-        *times = 0;
-        *entered = 0;
-        return query_rank::uncounted::uncounted(tree, i);
+        let number = query_rank::uncounted::uncounted(tree, i);
+        return put_u64(times, 0, put_u32(entered, 0, number));
     }
     let counted = query_rank::count(tree, byte as u8, i);
     match counted {
-        CountAnswer::Times(count, visits) => {
-            *times = count;
-            *entered = visits;
-            0
-        }
-        CountAnswer::Refused(number) => {
-            *times = 0;
-            *entered = 0;
-            number
-        }
+        CountAnswer::Times(count, visits) => put_u64(times, count, put_u32(entered, visits, 0)),
+        CountAnswer::Refused(number) => put_u64(times, 0, put_u32(entered, 0, number)),
     }
 }
 
@@ -246,22 +202,13 @@ pub extern "C" fn bt_find(tree: &[u8], byte: u32, j: u32, place: &mut u32, enter
     ensures { λ r. ⌜ FindBy (now (tree .entry)) (checkResult (now (tree .entry))) byte j (answerWith r (now (place .exit)) (now (entered .exit))) ⌝ }
 {
     if 255 < byte {
-        *place = 0;
-        *entered = 0;
-        return query_rank::uncounted::uncounted(tree, 0);
+        let number = query_rank::uncounted::uncounted(tree, 0);
+        return put_u32(place, 0, put_u32(entered, 0, number));
     }
     let found = query_select::find(tree, byte as u8, j);
     match found {
-        FindAnswer::At(at, path) => {
-            *place = at.0;
-            *entered = path;
-            0
-        }
-        FindAnswer::Refused(number) => {
-            *place = 0;
-            *entered = 0;
-            number
-        }
+        FindAnswer::At(at, path) => put_u32(place, at.0, put_u32(entered, path, 0)),
+        FindAnswer::Refused(number) => put_u32(place, 0, put_u32(entered, 0, number)),
     }
 }
 
@@ -271,16 +218,7 @@ pub extern "C" fn bt_row(tree: &[u8], q: u32, buffer: &mut [u8], len: &mut u32) 
     ensures { λ r. ⌜ RowBy (now (tree .entry)) (checkResult (now (tree .entry))) q (now (buffer .entry)) r (now (len .exit)) (now (buffer .exit)) ⌝ }
 {
     let copied = query_rows::row(tree, q, buffer);
-    match copied {
-        RowAnswer::Bytes(size) => {
-            *len = size;
-            0
-        }
-        RowAnswer::Refused(number) => {
-            *len = 0;
-            number
-        }
-    }
+    put_row(copied, len)
 }
 
 // Writes all places of a pattern and returns their number.
@@ -291,14 +229,8 @@ pub extern "C" fn bt_places(tree: &[u8], pattern: &[u8], table: &mut [u32], numb
 {
     let written = query_places::places(tree, pattern, table);
     match written {
-        PlacesAnswer::Number(n) => {
-            *number = n;
-            0
-        }
-        PlacesAnswer::Refused(q) => {
-            *number = 0;
-            q
-        }
+        PlacesAnswer::Number(n) => put_u32(number, n, 0),
+        PlacesAnswer::Refused(q) => put_u32(number, 0, q),
     }
 }
 
@@ -308,24 +240,8 @@ pub extern "C" fn bt_next_match(tree: &[u8], ranges: &[u8], mark: &mut u32, row:
     ensures { λ r. ⌜ MatchOutcome
         (now (tree .entry)) (now (ranges .entry)) (now (mark .entry)) (record { refusal = r; row = now (row .exit); mark = now (mark .exit) }) ⌝ }
 {
-    let at = *mark;
-    let shown = query_key_match::next_match(tree, ranges, at);
-    match shown {
-        NextRowAnswer::Row(q) => {
-            *row = q;
-            *mark = q;
-            0
-        }
-        NextRowAnswer::Nothing(m) => {
-            *row = 0;
-            *mark = m;
-            0
-        }
-        NextRowAnswer::Refused(number) => {
-            *row = 0;
-            number
-        }
-    }
+    let answer = query_key_match::next_match(tree, ranges, *mark);
+    put_next_row(answer, mark, row)
 }
 
 // Moves the mark to the next row that starts with the prefix and returns that row, 0 for none. If refused, the mark is unchanged.
@@ -340,24 +256,8 @@ pub extern "C" fn bt_next_with_prefix(
         (queryRefusal (now (tree .entry)) 16 (patternOk (now (prefix .entry))))
         (startsWith (now (prefix .entry))) (now (mark .entry)) (record { refusal = r; row = now (row .exit); mark = now (mark .exit) }) ⌝ }
 {
-    let at = *mark;
-    let answer = query_prefix::next_with_prefix(tree, prefix, at);
-    match answer {
-        NextRowAnswer::Row(q) => {
-            *row = q;
-            *mark = q;
-            0
-        }
-        NextRowAnswer::Nothing(m) => {
-            *row = 0;
-            *mark = m;
-            0
-        }
-        NextRowAnswer::Refused(number) => {
-            *row = 0;
-            number
-        }
-    }
+    let answer = query_prefix::next_with_prefix(tree, prefix, *mark);
+    put_next_row(answer, mark, row)
 }
 
 // Writes a line for each level of a tree.
@@ -368,13 +268,7 @@ pub extern "C" fn bt_list(tree: &[u8], out: &mut [u8], len: &mut u32) -> u32
 {
     let listed = list_lines::list(tree, out);
     match listed {
-        ListAnswer::Bytes(n) => {
-            *len = n;
-            0
-        }
-        ListAnswer::Refused(number) => {
-            *len = 0;
-            number
-        }
+        ListAnswer::Bytes(n) => put_u32(len, n, 0),
+        ListAnswer::Refused(number) => put_u32(len, 0, number),
     }
 }

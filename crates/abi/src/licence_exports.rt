@@ -1,4 +1,5 @@
 // The calls on the days of a licence, exported to C. A day is eight digits.
+use crate::figures::put_u32;
 use licence::DaysLeftAnswer;
 use licence::OpenOnAnswer;
 ghost use mathlib.Core.Bool.{cond};
@@ -13,18 +14,9 @@ pub extern "C" fn bt_open_on(first: &[u8], last: &[u8], today: &[u8], is_open: &
 {
     let opened = licence::open_on(first, last, today);
     match opened {
-        OpenOnAnswer::Open => {
-            *is_open = 1;
-            0
-        }
-        OpenOnAnswer::Closed => {
-            *is_open = 0;
-            0
-        }
-        OpenOnAnswer::Refused(number) => {
-            *is_open = 0;
-            number
-        }
+        OpenOnAnswer::Open => put_u32(is_open, 1, 0),
+        OpenOnAnswer::Closed => put_u32(is_open, 0, 0),
+        OpenOnAnswer::Refused(number) => put_u32(is_open, 0, number),
     }
 }
 

@@ -1,4 +1,5 @@
 // The export of `without_edges`.
+use crate::figures::put_u64;
 use build_without_edges::WithoutEdgesAnswer;
 ghost use mathlib.Core.Path.{_≡_};
 ghost use Rattle.build_without_edges.specs.WithoutEdgesAnswers.{withoutEdgesRefusal, withoutEdgesSize, withoutEdgesBuffer};
@@ -12,13 +13,7 @@ pub extern "C" fn bt_without_edges(tree: &[u8], out: &mut [u8], size: &mut u64) 
 {
     let answer = build_without_edges::without_edges(tree, out);
     match answer {
-        WithoutEdgesAnswer::Size(n) => {
-            *size = n as u64;
-            0
-        }
-        WithoutEdgesAnswer::Refused(number) => {
-            *size = 0;
-            number
-        }
+        WithoutEdgesAnswer::Size(n) => put_u64(size, n as u64, 0),
+        WithoutEdgesAnswer::Refused(number) => put_u64(size, 0, number),
     }
 }

@@ -103,11 +103,11 @@ sum-add (suc k) f g = omega (arith, sum-add k f g)
 
 module _ (seed : ℕ) (T out cs : List ℕ) (level : Level)
     (r : LevelReady (recordSettingsOf (level .settings) cs) T out level) (k : level .number + 1 < level .settings .levels) (some : 1 ≤ level .count) where
-  abbrev S : Settings
-  S = recordSettingsOf (level .settings) cs
-
   abbrev l : ℕ
   l = level .number
+
+  abbrev S : Settings
+  S = recordSettingsOf (level .settings) cs
 
   abbrev it : Items
   it = itemsSay (length T) (recordBytes S) level seed

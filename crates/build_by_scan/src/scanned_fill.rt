@@ -13,12 +13,10 @@ use layout::place::Link;
 ghost use mathlib.Core.Path.{_≡_};
 ghost use Prim.Native.Nat.{_+_, _*_, _≤_, _<_};
 ghost use lib.ListN.{length};
-ghost use Rattle.format.specs.Blocks.{treeOf};
 ghost use Rattle.format.specs.Layout.{maxText, pieces};
 ghost use Rattle.build_marking.specs.MarkingRule.{Next, pairOf};
-ghost use Rattle.build_records.specs.WritesOnlyTree.{WritesOnlyTree};
 ghost use Rattle.build_records.specs.State.{recordSettingsOf, On, BlockIs};
-ghost use Rattle.build_levels.specs.Trees.{LevelReady, LevelWritten};
+ghost use Rattle.build_levels.specs.Trees.{LevelReady, LevelDone};
 ghost use Rattle.build_by_scan.specs.ScanAnswers.{windowsAt};
 ghost use Rattle.build_by_scan.specs.ItemTable.{TableGivesMarking};
 
@@ -81,9 +79,7 @@ fn block_in(
 fn fill_scanned(out: &mut [u8], words: &[u32], text: &[u8], counted: &[u8], level: Level) -> u32
     requires { ⌜ LevelReady (recordSettingsOf (level .settings) (now counted)) (now text) (now out) level
         × TableGivesMarking (recordSettingsOf (level .settings) (now counted)) (now text) (level .number) (now words) ⌝ }
-    ensures { λ _. ⌜ WritesOnlyTree (treeOf (recordSettingsOf (level .settings) (now (counted .entry))) (now (text .entry))) (now (out .entry))
-        (now (out .exit)) ⌝ }
-    ensures { λ r. ⌜ LevelWritten (recordSettingsOf (level .settings) (now (counted .entry))) (now (text .entry)) (now (out .exit)) level r ⌝ }
+    ensures { λ r. ⌜ LevelDone (recordSettingsOf (level .settings) (now (counted .entry))) (now (text .entry)) (now (out .entry)) (now (out .exit)) level r ⌝ }
 {
     let mut left = Pair::Apart;
     let mut link: u32 = 0;
@@ -136,9 +132,8 @@ pub fn put_level(
 ) -> LevelPut
     requires { ⌜ LevelReady (recordSettingsOf (level .settings) (now counted)) (now text) (now out) level × (level .number + 1 < level .settings .levels)
         × (4 * pieces (length (now text)) (level .settings .leaf) ≤ length (now words)) ⌝ }
-    ensures { λ _. ⌜ WritesOnlyTree (treeOf (recordSettingsOf (level .settings) (now (counted .entry))) (now (text .entry))) (now (out .entry))
-        (now (out .exit)) ⌝ }
-    ensures { λ r. ⌜ LevelWritten (recordSettingsOf (level .settings) (now (counted .entry))) (now (text .entry)) (now (out .exit)) level (r .below) ⌝ }
+    ensures { λ r. ⌜ LevelDone (recordSettingsOf (level .settings) (now (counted .entry))) (now (text .entry)) (now (out .entry)) (now (out .exit)) level
+        (r .below) ⌝ }
     ensures { λ r. ⌜ (r .windows ≡ windowsAt (recordSettingsOf (level .settings) (now (counted .entry))) (now (text .entry)) (level .number))
         × (r .windows ≤ 4 * maxText) ⌝ }
 {

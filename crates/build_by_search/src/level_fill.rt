@@ -6,17 +6,13 @@ use build_records::level_written::Level;
 use build_records::record_written;
 use layout::place::BlockNumber;
 use layout::place::Link;
-ghost use Rattle.format.specs.Blocks.{treeOf};
-ghost use Rattle.build_records.specs.WritesOnlyTree.{WritesOnlyTree};
 ghost use Rattle.build_records.specs.State.{recordSettingsOf};
-ghost use Rattle.build_levels.specs.Trees.{LevelReady, LevelWritten};
+ghost use Rattle.build_levels.specs.Trees.{LevelReady, LevelDone};
 
 // Writes the records of a level whose starts have been written. Returns the number of blocks of the next level, or of leaf bytes.
 pub fn fill_level(out: &mut [u8], text: &[u8], counted: &[u8], level: Level) -> u32
     requires { ⌜ LevelReady (recordSettingsOf (level .settings) (now counted)) (now text) (now out) level ⌝ }
-    ensures { λ _. ⌜ WritesOnlyTree (treeOf (recordSettingsOf (level .settings) (now (counted .entry))) (now (text .entry))) (now (out .entry))
-        (now (out .exit)) ⌝ }
-    ensures { λ r. ⌜ LevelWritten (recordSettingsOf (level .settings) (now (counted .entry))) (now (text .entry)) (now (out .exit)) level r ⌝ }
+    ensures { λ r. ⌜ LevelDone (recordSettingsOf (level .settings) (now (counted .entry))) (now (text .entry)) (now (out .entry)) (now (out .exit)) level r ⌝ }
 {
     let mut left = Pair::Apart;
     let mut link: u32 = 0;

@@ -23,23 +23,14 @@ use Rattle.build_levels.specs.Head.{pairWritten, unusedWritten}
 use Rattle.build_records.specs.RecordPlaces.{recordPlace}
 use Rattle.build_records.specs.State.{recordSettingsOf, LevelIs, RecordsUpTo, Below, placeAt}
 use Rattle.build_levels.specs.LeafBytesWritten.{Leafing}
-use Rattle.build_levels.specs.Trees.{nextOf, LevelReady, LevelWritten, StepIs, TreeComplete}
+use Rattle.build_levels.specs.Trees.{nextAt, nextOf, LevelReady, LevelWritten, StepIs, TreeComplete}
 use Rattle.build_records.proofs.Growth.{grown-then, within-grown, within-part, within-join}
 use Rattle.build_levels.proofs.LevelZeroLaws.{divided, step-ready, step-none}
 use Rattle.build_levels.proofs.HeaderWrittenLaws.{level-grown, level-within, end-grown, end-within}
 use Rattle.build_records.proofs.StateLaws.{place-is, place-end, offset-low, table-inside, RecordFew, record-few}
 
 pub next-made : (level : Level) (count p : ℕ) (cs : List ℕ) → p ≡ recordPlace (level .table) (level .count) (recordSettingsOf (level .settings) cs)
-    → record {
-      settings = level .settings;
-      number = level .number + 1;
-      above = level .size;
-      size = level .below;
-      below = level .below / level .settings .arity;
-      count = count;
-      table = p;
-    }
-    ≡ nextOf level count cs
+    → nextAt level count p ≡ nextOf level count cs
 next-made level count p cs e = rw e
 
 -- The preconditions of writing the words of a level in the header.

@@ -13,7 +13,7 @@ use Rattle.layout.specs.declared.settings.Settings as code
 use Rattle.build_records.specs.declared.level_written.Level.{Level}
 use Rattle.build_levels.specs.declared.level_step.Step.{Step}
 use Rattle.build_levels.specs.declared.level_step.Step.the-variants.{To, Full}
-use Rattle.build_records.specs.WritesOnlyTree.{AgreesOn}
+use Rattle.build_records.specs.WritesOnlyTree.{WritesOnlyTree, AgreesOn}
 use Rattle.build_records.specs.RecordPlaces.{recordPlace}
 use Rattle.build_records.specs.State.{recordSettingsOf, LevelIs, RecordsUpTo}
 
@@ -29,17 +29,21 @@ levelFirstOf s n = record {
   table = headerLength;
 }
 
--- The level below another, with its number of blocks.
-abbrev pub nextOf : Level → ℕ → List ℕ → Level
-nextOf level count cs = record {
+-- The level below another, with its number of blocks and its table.
+abbrev pub nextAt : Level → ℕ → ℕ → Level
+nextAt level count table = record {
   settings = level .settings;
   number = level .number + 1;
   above = level .size;
   size = level .below;
   below = level .below / level .settings .arity;
   count = count;
-  table = recordPlace (level .table) (level .count) (recordSettingsOf (level .settings) cs);
+  table = table;
 }
+
+-- The same with the table after that of the level above.
+abbrev pub nextOf : Level → ℕ → List ℕ → Level
+nextOf level count cs = nextAt level count (recordPlace (level .table) (level .count) (recordSettingsOf (level .settings) cs))
 
 module _ (S : Settings) (T : List ℕ) where
   -- Everything above a level is written, with the words of the levels above it in the header, and the starts of its blocks.
@@ -55,6 +59,10 @@ module _ (S : Settings) (T : List ℕ) where
     pub body : AgreesOn (treeOf S T) out headerLength (offset S T (suc (level .number)))
     pub header : AgreesOn (treeOf S T) out 0 (countAt (level .number))
     pub total-is : total ≡ sumBelow (level .count) (widthOf S T (level .number))
+
+  -- The records of a level were written, and only bytes of the tree.
+  abbrev pub LevelDone : List ℕ → List ℕ → Level → ℕ → Type 0
+  LevelDone before after level total = WritesOnlyTree (treeOf S T) before after × LevelWritten after level total
 
   -- A step to the level with this number: it is ready, or the tree does not fit.
   pub record StepIs (out : List ℕ) (s : code.Settings) (number : ℕ) (step : Step) : Type 0 where

@@ -18,12 +18,25 @@ use Rattle.theory_built.specs.BuiltRecords.{parentOf, kindOf, linkOf, gapOf, sk
 use Rattle.theory_built.specs.BuiltTargets.{placeOf, targetOf, PointsTo, points-to}
 use Rattle.build_records.specs.declared.level_written.Level.{Level}
 use Rattle.build_records.specs.declared.level_written.Stretch.{Stretch}
+use Rattle.build_records.specs.declared.record_written.Block.{Block}
 use Rattle.build_records.specs.RecordPlaces.{recordPlace}
 use Rattle.build_records.specs.State.{LevelIs, recordSettingsOf, On, StretchIs, BlockIs}
 use Rattle.build_marking.specs.TargetSearch.{parentAnswer, Sorted, Between}
 use Rattle.build_records.proofs.RecordsRead.{start-fits, start-read}
 use Rattle.build_records.proofs.StateLaws.{record-few}
 use Rattle.build_records.proofs.Widths.{points-above}
+
+-- The values of a record, from the block's own bytes, its parent and the five numbers that its kind decides.
+abbrev block-with : Stretch → ℕ → ℕ → ℕ → ℕ → ℕ → Block
+block-with own up kind link from gap = record {
+  start = own .start;
+  length = own .length;
+  parent = record { 0 = up };
+  kind = kind;
+  link = record { 0 = link };
+  from = record { 0 = from };
+  gap = record { 0 = gap };
+}
 
 module _ (S : Settings) (T out : List ℕ) (level : Level) (i : ℕ) (w : On S T out level i) where
   abbrev l : ℕ
@@ -67,15 +80,7 @@ module _ (S : Settings) (T out : List ℕ) (level : Level) (i : ℕ) (w : On S T
     up-right = up-is ∙ parent-by l (own .start .0) (lev .above-is) ∙ ap (parentOf S T l) (own-is .start-is)
 
     pub kept-is : (link : ℕ) → keptAt S T l i ≡ true → link ≡ sumBelow i (widthOf S T l)
-        → BlockIs S T l i (record {
-          start = own .start;
-          length = own .length;
-          parent = record { 0 = up };
-          kind = 0;
-          link = record { 0 = link };
-          from = record { 0 = 0 };
-          gap = record { 0 = 0 };
-        })
+        → BlockIs S T l i (block-with own up 0 link 0 0)
     unfolding kindOf linkOf gapOf skipOf
     kept-is link k e = record {
       start-is = own-is .start-is;
@@ -145,15 +150,7 @@ module _ (S : Settings) (T out : List ℕ) (level : Level) (i : ℕ) (w : On S T
         from-le = omega (arith, from-is, b .from)
 
         pub pointing-is : (own : Stretch) → StretchIs S T l i own → (up : ℕ) → up ≡ parentAnswer (level .number) (level .above) (own .start .0)
-            → BlockIs S T l i (record {
-              start = own .start;
-              length = own .length;
-              parent = record { 0 = up };
-              kind = 1;
-              link = record { 0 = r };
-              from = record { 0 = from };
-              gap = record { 0 = p - from };
-            })
+            → BlockIs S T l i (block-with own up 1 r from (p - from))
         unfolding kindOf linkOf gapOf skipOf
         pointing-is own own-is up up-is = record {
           start-is = own-is .start-is;

@@ -176,7 +176,7 @@ module _ (S : Settings) (T out : List ℕ) (level next : Level) (i : ℕ) (w : B
                 inside : (j : ℕ) → j < n → to + j * recordBytes S + 4 ≤ length (treeOf S T)
                 inside j h = omega (arith, child-fits j h, table-inside S T (lev .taken) (suc l) up)
 
-                pub children-grown : WritesOnlyTree (treeOf S T) out new
+                children-grown : WritesOnlyTree (treeOf S T) out new
                 children-grown = rw new-right (starts-grown (treeOf S T) out to (recordBytes S) (own .start .0) (next .size) n stands fits inside n
                     (omega arith))
 
@@ -184,7 +184,7 @@ module _ (S : Settings) (T out : List ℕ) (level next : Level) (i : ℕ) (w : B
                 child-started j h = rw (← to-child j, new-right)
                     (starts-within (treeOf S T) out to (recordBytes S) (own .start .0) (next .size) n stands fits inside n (omega arith) j h)
 
-                pub children-started : Started S T new (suc l) 0 (sumBelow (i + 1) (widthOf S T l))
+                children-started : Started S T new (suc l) 0 (sumBelow (i + 1) (widthOf S T l))
                 children-started = record { starts = λ x _ h. go x h (lt-or-ge x sum) }
                   where
                     go : (x : ℕ) → x < sumBelow (i + 1) (widthOf S T l)
@@ -195,6 +195,9 @@ module _ (S : Settings) (T out : List ℕ) (level next : Level) (i : ℕ) (w : B
                         let e : sum + (x - sum) ≡ x = omega arith in
                         let k : x - sum < n = omega (arith, sumBelow-suc i (widthOf S T l), n-right) in
                         rw e at (child-started (x - sum) k)
+
+                pub children-written : WritesOnlyTree (treeOf S T) out new × Started S T new (suc l) 0 (sumBelow (i + 1) (widthOf S T l))
+                children-written = (children-grown, children-started)
 
 -- The loop over the blocks.
 

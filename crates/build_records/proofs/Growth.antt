@@ -10,23 +10,9 @@ use native.Mathlib.Decide.{ℕ-discrete}
 use Rattle.text.specs.ListLaws.{lt-or-ge, below-suc}
 use Rattle.format.specs.Layout.{wordAt, wordBytes, setWord}
 use Rattle.format.specs.WordLaws.{putThree, length-setWord, getD-setWord-other, setWord-eq}
-use Rattle.theory_built.specs.BuiltBytes.{BytesAt, stands-word}
+use Rattle.theory_built.specs.BuiltBytes.{BytesAt, stands-word, written-word}
 use Rattle.byte_slices.specs.ByteSlices.{bytesWritten}
 use Rattle.build_records.specs.WritesOnlyTree.{WritesOnlyTree, AgreesOn}
-
-record-length-wordBytes : (v : ℕ) → length (wordBytes v) ≡ 4
-unfolding wordBytes
-record-length-wordBytes v = refl
-
--- The bytes of a word that was written.
-written-stands : (t : List ℕ) (i v : ℕ) → i + 4 ≤ length t → BytesAt (setWord t i v) i v
-written-stands t i v fits r l =
-    let head : length (take i t) ≡ i = length-take-le i t (omega arith) in
-    let e : i + r ≡ length (take i t) + r = omega arith in
-    let m : length (take i t) + r < length (take i t ++ wordBytes v) = rw (length-append (take i t) (wordBytes v), record-length-wordBytes v) (omega arith) in
-    rw (setWord-eq t i v fits, e)
-    (List·getD-append (take i t ++ wordBytes v) (drop (i + 4) t) 0 (length (take i t) + r) m
-    ∙ getD-append-add (take i t) (wordBytes v) r 0)
 
 within-word : (D t : List ℕ) (i v : ℕ) → AgreesOn D t i (i + 4) → BytesAt D i v → BytesAt t i v
 within-word D t i v w s r l = w .right (i + r) (omega arith) (omega arith) ∙ s r l
@@ -67,7 +53,7 @@ module _ (D : List ℕ) where
     word-right k l m =
         let e : k ≡ i + (k - i) = omega arith in
         let r : k - i < 4 = omega arith in
-        ap (λ (x : ℕ). getD (setWord t i v) x 0) e ∙ written-stands t i v fits (k - i) r ∙ sym (s (k - i) r) ∙ sym (ap (λ (x : ℕ). getD D x 0) e)
+        ap (λ (x : ℕ). getD (setWord t i v) x 0) e ∙ written-word t i v fits (k - i) r ∙ sym (s (k - i) r) ∙ sym (ap (λ (x : ℕ). getD D x 0) e)
 
     pub word-within : AgreesOn D (setWord t i v) i (i + 4)
     word-within = record { right = word-right }

@@ -23,16 +23,10 @@ fn last(word: &[u8]) -> u32
     if check::same(word, b"column") {
         return 4;
     }
-    if check::same(word, b"columns") {
+    if check::same(word, b"columns") || check::same(word, b"rows") {
         return 3;
     }
-    if check::same(word, b"rows") {
-        return 3;
-    }
-    if check::same(word, b"digest") {
-        return 2;
-    }
-    if check::same(word, b"digest_text") {
+    if check::same(word, b"digest") || check::same(word, b"digest_text") {
         return 2;
     }
     if check::same(word, b"without_edges") {

@@ -78,6 +78,10 @@ module _ (w n room : ℕ) where
   unfolding refusalOf
   not-refused e h = rw (e, le-leb n room h)
 
+pub either-way : (back : Bool) (x y z : List ℕ) → z ≡ x → z ≡ y → z ≡ cond back x y
+either-way true x y z e f = e
+either-way false x y z e f = f
+
 -- What is not refused.
 module _ (w : ℕ) (T out : List ℕ) where
   pub let-through : refusalOf w (length T) (length out) ≡ 0 → (widthOk w (length T) ≡ true) × (length T ≤ length out)

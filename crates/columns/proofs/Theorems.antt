@@ -96,9 +96,8 @@ pub back-and-there : (κs κ : Lfts 2) (text rearranged : Lent) (w : ℕ) (out a
     → (r ≡ 0) × (now left ≡ now text ++ drop (length (now text)) (now back))
 back-and-there κs κ text rearranged w out after back left r a is b room =
     let k = from-columns κs text w out after 0 a in
-    let ok = k .passed refl .0 in
-    back-by w _ _ _ _ _ k (uncolumns-length w (now text) ok) is (columns w) (columns-uncolumns w (now text) ok) _ _ r
-    (to-columns κ rearranged w back left r b) room
+    back-by w _ _ _ _ _ k (uncolumns-length w (now text) (k .passed refl .0)) is (columns w) (columns-uncolumns w (now text) (k .passed refl .0))
+    _ _ r (to-columns κ rearranged w back left r b) room
 
 -- The empty text is rearranged to itself: any width above 0 is accepted, and nothing is written.
 pub empty-stays : (w : ℕ) (T out U after : List ℕ) (r : ℕ) → Rearranges w T out U after r → T ≡ [] → U ≡ [] → 0 < w → (r ≡ 0) × (after ≡ out)

@@ -1,5 +1,6 @@
 // Rearranges a text of rows of one width by columns (matrix transposition), and back.
 ghost use mathlib.Core.List.{_++_};
+ghost use mathlib.Core.Bool.{cond};
 ghost use mathlib.Core.Path.{_≡_};
 ghost use Prim.Native.Nat.{_*_, _≤_, _<_};
 ghost use lib.ListN.{length, drop};
@@ -11,13 +12,7 @@ pub fn to_columns(text: &[u8], width: u32, out: &mut [u8]) -> u32
     ensures { λ r. ⌜ r ≡ columnsRefusal width (now (text .entry)) (now (out .entry)) ⌝ }
     ensures { λ _. ⌜ now (out .exit) ≡ columnsBuffer width (now (text .entry)) (now (out .entry)) ⌝ }
 {
-    let number = refusal(text.len(), width, out.len());
-    if number != 0 {
-        return number;
-    }
-    let w = width as usize;
-    transpose(text, text.len() / w, w, out);
-    0
+    rearrange(text, width, out, false)
 }
 
 // Writes a text that is by columns back by rows: questions 20 and 21.
@@ -25,12 +20,26 @@ pub fn from_columns(text: &[u8], width: u32, out: &mut [u8]) -> u32
     ensures { λ r. ⌜ r ≡ columnsRefusal width (now (text .entry)) (now (out .entry)) ⌝ }
     ensures { λ _. ⌜ now (out .exit) ≡ uncolumnsBuffer width (now (text .entry)) (now (out .entry)) ⌝ }
 {
+    rearrange(text, width, out, true)
+}
+
+// Both rearrangements: `back` writes by rows what is by columns.
+fn rearrange(text: &[u8], width: u32, out: &mut [u8], back: bool) -> u32
+    ensures { λ r. ⌜ r ≡ columnsRefusal width (now (text .entry)) (now (out .entry)) ⌝ }
+    ensures { λ _. ⌜ now (out .exit) ≡ cond back (uncolumnsBuffer width (now (text .entry)) (now (out .entry)))
+        (columnsBuffer width (now (text .entry)) (now (out .entry))) ⌝ }
+{
     let number = refusal(text.len(), width, out.len());
     if number != 0 {
         return number;
     }
     let w = width as usize;
-    transpose(text, w, text.len() / w, out);
+    let rows = text.len() / w;
+    if back {
+        transpose(text, w, rows, out);
+        return 0;
+    }
+    transpose(text, rows, w, out);
     0
 }
 

@@ -261,6 +261,41 @@ module _ (ranges : List ℕ) (ok : rangesOk ranges ≡ true) where
     at-end-is : isWhole ranges (runFrom (keyAutomaton ranges) (Code 0) row) ≡ matches ranges row
     at-end-is = code-run ranges 0 row (omega arith) ∙ bool-same good (matches ranges row) good-to good-from
 
+-- What holds of every state that a step can lead to holds after any bytes, if it holds before them.
+module _ (ranges : List ℕ) (P : KeyState → Type 0)
+    (wrong : P Wrong) (ended : P Ended) (code : (k : ℕ) → P (Code (k + 1))) (cuts : (i : ℕ) → i ≤ cutCount ranges → P (Cuts i)) where
+  after-code : (k x : ℕ) → P (inCode k x)
+  unfolding inCode
+  after-code k x = by (eqb 32 x) (eqb k 0) (leb maxCode k)
+    where
+      by : (a b c : Bool) → P (cond a (cond b Wrong (Cuts 0)) (cond c Wrong (Code (k + 1))))
+      by true true c = wrong
+      by true false c = cuts 0 (omega arith)
+      by false b true = wrong
+      by false b false = code k
+
+  after-cuts : (i x : ℕ) → P (inCuts ranges i x)
+  unfolding inCuts
+  after-cuts i x = by (ltb i (cutCount ranges)) (cutFits ranges i x) (eqb 13 x) refl
+    where
+      by : (a b c : Bool) → ltb i (cutCount ranges) ≡ a → P (cond a (cond b (Cuts (i + 1)) Wrong) (cond c Ended Wrong))
+      by true true c e = cuts (i + 1) (omega (arith, ltb-true i (cutCount ranges) e))
+      by true false c e = wrong
+      by false b true e = ended
+      by false b false e = wrong
+
+  after-step : (f : KeyState) (x : ℕ) → P (stepOf ranges f x)
+  unfolding stepOf
+  after-step (Code k) x = after-code k x
+  after-step (Cuts i) x = after-cuts i x
+  after-step Ended x = wrong
+  after-step Wrong x = wrong
+
+  after-run : (f : KeyState) (xs : List ℕ) → P f → P (runFrom (keyAutomaton ranges) f xs)
+  unfolding runFrom
+  after-run f [] h = h
+  after-run f (x ∷ xs) h = after-run (stepOf ranges f x) xs (after-step f x)
+
 -- One byte 13 before the byte 10 that ends a row.
 module _ (ranges : List ℕ) where
   -- No more cuts than there are ranges.
@@ -270,37 +305,8 @@ module _ (ranges : List ℕ) where
   Few Ended = Unit {0}
   Few Wrong = Unit {0}
 
-  few-code : (k x : ℕ) → Few (inCode k x)
-  unfolding inCode
-  few-code k x = by (eqb 32 x) (eqb k 0) (leb maxCode k)
-    where
-      by : (a b c : Bool) → Few (cond a (cond b Wrong (Cuts 0)) (cond c Wrong (Code (k + 1))))
-      by true true c = tt
-      by true false c = omega arith
-      by false b true = tt
-      by false b false = tt
-
-  few-cuts : (i x : ℕ) → Few (inCuts ranges i x)
-  unfolding inCuts
-  few-cuts i x = by (ltb i (cutCount ranges)) (cutFits ranges i x) (eqb 13 x) refl
-    where
-      by : (a b c : Bool) → ltb i (cutCount ranges) ≡ a → Few (cond a (cond b (Cuts (i + 1)) Wrong) (cond c Ended Wrong))
-      by true true c e = omega (arith, ltb-true i (cutCount ranges) e)
-      by true false c e = tt
-      by false b true e = tt
-      by false b false e = tt
-
-  few-step : (f : KeyState) (x : ℕ) → Few (stepOf ranges f x)
-  unfolding stepOf
-  few-step (Code k) x = few-code k x
-  few-step (Cuts i) x = few-cuts i x
-  few-step Ended x = tt
-  few-step Wrong x = tt
-
   few-run : (f : KeyState) (xs : List ℕ) → Few f → Few (runFrom (keyAutomaton ranges) f xs)
-  unfolding runFrom
-  few-run f [] h = h
-  few-run f (x ∷ xs) h = few-run (stepOf ranges f x) xs (few-step f x)
+  few-run f xs h = after-run ranges Few tt tt (λ k. tt) (λ i few. few) f xs h
 
   -- A row that a byte 10 ends is read to the same, but for one byte 13 after all cuts.
   same-code : (k x : ℕ) → isDone ranges (inCode k x) ≡ isWhole ranges (inCode k x)
@@ -370,37 +376,11 @@ module _ (ranges : List ℕ) where
   Started Ended = Unit {0}
   Started Wrong = Unit {0}
 
-  started-code : (k x : ℕ) → Started (inCode k x)
-  unfolding inCode
-  started-code k x = by (eqb 32 x) (eqb k 0) (leb maxCode k)
-    where
-      by : (a b c : Bool) → Started (cond a (cond b Wrong (Cuts 0)) (cond c Wrong (Code (k + 1))))
-      by true true c = tt
-      by true false c = tt
-      by false b true = tt
-      by false b false = omega arith
-
-  started-cuts : (i x : ℕ) → Started (inCuts ranges i x)
-  unfolding inCuts
-  started-cuts i x = by (ltb i (cutCount ranges)) (cutFits ranges i x) (eqb 13 x)
-    where
-      by : (a b c : Bool) → Started (cond a (cond b (Cuts (i + 1)) Wrong) (cond c Ended Wrong))
-      by true true c = tt
-      by true false c = tt
-      by false b true = tt
-      by false b false = tt
-
-  started-step : (f : KeyState) (x : ℕ) → Started (stepOf ranges f x)
-  unfolding stepOf
-  started-step (Code k) x = started-code k x
-  started-step (Cuts i) x = started-cuts i x
-  started-step Ended x = tt
-  started-step Wrong x = tt
-
-  started-run : (f : KeyState) (xs : List ℕ) → Started f → Started (runFrom (keyAutomaton ranges) f xs)
+  started-run : (x : ℕ) (xs : List ℕ) → Started (runFrom (keyAutomaton ranges) (Code 0) (x ∷ xs))
   unfolding runFrom
-  started-run f [] h = h
-  started-run f (x ∷ xs) h = started-run (stepOf ranges f x) xs (started-step f x)
+  started-run x xs =
+      let one : (k : ℕ) → 1 ≤ k + 1 = λ k. omega arith in
+      after-run ranges Started tt tt one (λ i few. tt) (stepOf ranges (Code 0) x) xs (after-step ranges Started tt tt one (λ i few. tt) (Code 0) x)
 
   started-none : (f : KeyState) → Started f → isNone f ≡ false
   unfolding isNone
@@ -416,7 +396,7 @@ module _ (ranges : List ℕ) where
     at-newline-is = newline-trimmed (keyAutomaton ranges) (matches ranges)
         (at-end-is ranges ok) refl (λ ys z b e. step-13 ranges (runFrom (keyAutomaton ranges) (Code 0) ys) z b (few-run ranges (Code 0) ys tt) e);
     no-byte-first = refl;
-    no-byte-then = λ x xs. started-none (runFrom (keyAutomaton ranges) (Code 0) (x ∷ xs)) (started-run (stepOf ranges (Code 0) x) xs (started-step (Code 0) x));
+    no-byte-then = λ x xs. started-none (runFrom (keyAutomaton ranges) (Code 0) (x ∷ xs)) (started-run x xs);
     empty-rejected = sym (at-end-is ranges ok []);
   }
 

@@ -1,11 +1,11 @@
 -- Rows by columns of a rearranged text, from valid and damaged trees, computed from the definitions.
 use mathlib.Core.List.{List, [], _∷_, _++_}
 use mathlib.Core.Path.{_≡_, refl}
-use Prim.Native.Nat.{ℕ, _+_}
-use lib.ListN.{replicate, take, drop}
+use Prim.Native.Nat.{ℕ}
+use lib.ListN.{replicate, take}
 use Rattle.text.specs.Text.{tabulate, concat, sumBelow, countBelow, allBelow, sameList, stretch, leftmost, firstFrom, countIn}
 use Rattle.columns.specs.Columns.{transposed, columns, widthOk}
-use Rattle.format.specs.Layout.{wordAt, wordsBytes, wordBytes, blockLength, pieces, recordLength, lengthOk, sizesOk, countedOk, rising, risingAfter}
+use Rattle.format.specs.Layout.{wordAt, wordsBytes, wordBytes, setWord, blockLength, pieces, recordLength, lengthOk, sizesOk, countedOk, rising, risingAfter}
 use Rattle.format.specs.Blocks.{treeOf, header, leafBytes, levelPairs, recordBytes, levelBytes, recordIn, recordOf, target, occurrence, width, isKept}
 use Rattle.format.specs.Blocks.{startsAt, cut, keptByPairs, firstPairAt, pairAt, lengthOf, startOf}
 use Rattle.format.specs.Layout.{edgesOf, filledOut}
@@ -23,13 +23,9 @@ column-row-book = 65 ∷ 66 ∷ 49 ∷ 10 ∷ 65 ∷ 66 ∷ 50 ∷ 10 ∷ 65 ∷
 column-row-tree : List ℕ
 column-row-tree = treeOf (record { leaf = 2; arity = 2; levels = 2; counted = [] }) (columns 4 column-row-book)
 
--- The tree with another word at i.
-column-row-with : List ℕ → ℕ → ℕ → List ℕ
-column-row-with t i w = take i t ++ wordBytes w ++ drop (i + 4) t
-
 -- The kind of its level 0 block 2, places 8 to 11, is none.
 column-row-broken : List ℕ
-column-row-broken = column-row-with column-row-tree 144 2
+column-row-broken = setWord column-row-tree 144 2
 
 -- A buffer of 238.
 lent : ℕ → List ℕ
@@ -54,14 +50,14 @@ pub record ColumnRowMarked : Type 0 where
   before : (rowByColumnsAnswer column-row-broken 5 0 6 ≡ column-row-answered 20 0) × (rowByColumnsAnswer column-row-broken 4 3 6 ≡ column-row-answered 10 0)
       × (rowByColumnsAnswer column-row-broken 4 0 3 ≡ column-row-answered 13 0)
   -- One that breaks elsewhere is not seen.
-  elsewhere : (rowByColumnsAnswer (column-row-with column-row-tree 104 2) 12 0 12 ≡ column-row-answered 14 0)
-      × (rowByColumnsAnswer (column-row-with column-row-tree 104 2) 1 11 1 ≡ column-row-answered 0 1)
+  elsewhere : (rowByColumnsAnswer (setWord column-row-tree 104 2) 12 0 12 ≡ column-row-answered 14 0)
+      × (rowByColumnsAnswer (setWord column-row-tree 104 2) 1 11 1 ≡ column-row-answered 0 1)
   unread : (rowByColumnsAnswer (take 99 column-row-tree) 0 0 0 ≡ column-row-answered 5 0)
-      × (rowByColumnsAnswer (column-row-with column-row-tree 0 9) 0 0 0 ≡ column-row-answered 6 0)
-      × (rowByColumnsAnswer (column-row-with column-row-tree 4 13) 0 0 0 ≡ column-row-answered 7 0)
+      × (rowByColumnsAnswer (setWord column-row-tree 0 9) 0 0 0 ≡ column-row-answered 6 0)
+      × (rowByColumnsAnswer (setWord column-row-tree 4 13) 0 0 0 ≡ column-row-answered 7 0)
 
 pub column-row-marked : ColumnRowMarked
-unfolding column-row-book column-row-tree column-row-with column-row-broken lent column-row-answered transposed columns widthOk cell cellsHold
+unfolding column-row-book column-row-tree setWord column-row-broken lent column-row-answered transposed columns widthOk cell cellsHold
     rowByColumnsRefusal rowByColumnsBuffer rowByColumnsAnswer tabulate concat sumBelow
     countBelow allBelow sameList wordAt wordsBytes wordBytes stretch leftmost firstFrom countIn blockLength pieces recordLength lengthOk sizesOk
     countedOk rising risingAfter treeOf header leafBytes levelPairs recordBytes edgesOf filledOut levelBytes recordIn recordOf target occurrence width

@@ -1,14 +1,14 @@
 -- Trees of short texts compared, good and damaged ones, computed from the definitions.
 use mathlib.Core.List.{List, [], _∷_, _++_}
 use mathlib.Core.Path.{_≡_, refl}
-use Prim.Native.Nat.{ℕ, _+_}
-use lib.ListN.{replicate, length, take, drop}
+use Prim.Native.Nat.{ℕ}
+use lib.ListN.{replicate, length, take}
 use Rattle.text.specs.Text.{tabulate, concat, sumBelow, countBelow, allBelow, sameList, stretch, leftmost, firstFrom, countIn}
 use Rattle.format.specs.Answers.{refused, byteAnswer}
-use Rattle.format.specs.Layout.{wordAt, wordsBytes, wordBytes, Settings, blockLength, pieces, recordLength, lengthOk, sizesOk, countedOk, rising, risingAfter}
+use Rattle.format.specs.Layout.{wordAt, wordsBytes, wordBytes, setWord, Settings, blockLength, pieces, recordLength, lengthOk, sizesOk, countedOk, rising}
 use Rattle.format.specs.Blocks.{treeOf, header, leafBytes, levelPairs, recordBytes, levelBytes, recordIn, recordOf, target, occurrence, width, isKept}
 use Rattle.format.specs.Blocks.{startsAt, cut, keptByPairs, firstPairAt, pairAt, lengthOf, startOf}
-use Rattle.format.specs.Layout.{edgesOf, filledOut}
+use Rattle.format.specs.Layout.{edgesOf, filledOut, risingAfter}
 use Rattle.format.specs.Layout as at
 use Rattle.format.specs.TreeReading.{pathOf, pathFrom, targetPlace, targetBlock, pointingBlock}
 use Rattle.format.specs.TreeReading.{keptBlock, lands, landBlock, landPlace, landVisits, headerResult}
@@ -61,16 +61,12 @@ compare-older =
     wordsBytes (1 ∷ 20 ∷ 2 ∷ 2 ∷ 2 ∷ 1 ∷ 65 ∷ 5 ∷ 100 ∷ 8 ∷ 240 ∷ []) ++ replicate 48 0 ++ wordsBytes (464 ∷ 16 ∷ compare-words 0 ++ compare-words 1) ++
     take 16 compare-book
 
--- The tree with another word at i.
-compare-with : List ℕ → ℕ → ℕ → List ℕ
-compare-with t i v = take i t ++ wordBytes v ++ drop (i + 4) t
-
 -- The kind of the worked book's last block, and of its first, is 2.
 late : List ℕ
-late = compare-with w 232 2
+late = setWord w 232 2
 
 early : List ℕ
-early = compare-with w 104 2
+early = setWord w 104 2
 
 pub record CompareMarked : Type 0 where
   texts : (standing nine compare-book ≡ before) × (standing compare-book nine ≡ after) × (standing compare-book compare-book ≡ same)
@@ -78,9 +74,9 @@ pub record CompareMarked : Type 0 where
   settings : compareAnswer w w′ ≡ stands same 20
   layouts : (compareAnswer w compare-older ≡ stands same 20) × (compareAnswer compare-older p ≡ stands after 9)
   beginning : (compareAnswer w p ≡ stands after 9) × (compareAnswer p w ≡ stands before 9)
+  unsigned : (compareAnswer high low ≡ stands after 0) × (compareAnswer low high ≡ stands before 0)
   differ : (compareAnswer p x ≡ stands before 8) × (compareAnswer x p ≡ stands after 8)
       × (compareAnswer w x ≡ stands before 8) × (compareAnswer x w ≡ stands after 8)
-  unsigned : (compareAnswer high low ≡ stands after 0) × (compareAnswer low high ≡ stands before 0)
   -- The empty text comes before every other, and no place is read.
   empties : (compareAnswer compare-empty w ≡ stands before 0) × (compareAnswer compare-older compare-empty ≡ stands after 0)
       × (compareAnswer compare-empty empty′ ≡ stands same 0) × (compareAnswer early compare-empty ≡ stands after 0)
@@ -90,11 +86,11 @@ pub record CompareMarked : Type 0 where
   unseen : (compareAnswer late x ≡ stands before 8) × (compareAnswer x late ≡ stands after 8) × (compareAnswer late p ≡ stands after 9)
   -- 5 to 7 of the first, then of the second, before any 14
   unread : (compareAnswer (take 99 w) [] ≡ refused 5) × (compareAnswer w (take 99 w) ≡ refused 5)
-      × (compareAnswer (compare-with w 0 9) (take 99 w) ≡ refused 6)
-      × (compareAnswer early (compare-with w 4 21) ≡ refused 7) × (compareAnswer (compare-with w 4 21) (compare-with w 0 9) ≡ refused 7)
+      × (compareAnswer (setWord w 0 9) (take 99 w) ≡ refused 6)
+      × (compareAnswer early (setWord w 4 21) ≡ refused 7) × (compareAnswer (setWord w 4 21) (setWord w 0 9) ≡ refused 7)
 
 pub compare-marked : CompareMarked
-unfolding nine compare-book compare-two w w′ p x high low compare-empty empty′ compare-words compare-older compare-with late early standing shared byLength
+unfolding nine compare-book compare-two w w′ p x high low compare-empty empty′ compare-words compare-older setWord late early standing shared byLength
     comparedFrom compareAnswer tabulate concat
     sumBelow countBelow allBelow sameList wordAt wordsBytes wordBytes stretch leftmost firstFrom countIn blockLength pieces recordLength lengthOk
     sizesOk countedOk rising risingAfter treeOf header leafBytes levelPairs recordBytes edgesOf filledOut levelBytes recordIn recordOf target
@@ -107,8 +103,8 @@ compare-marked = record {
   settings = refl;
   layouts = (refl, refl);
   beginning = (refl, refl);
-  differ = (refl, refl, refl, refl);
   unsigned = (refl, refl);
+  differ = (refl, refl, refl, refl);
   empties = (refl, refl, refl, refl);
   broken = (refl, refl, refl, refl);
   unseen = (refl, refl, refl);

@@ -1,10 +1,10 @@
 -- Examples, computed from the definitions: a small book's tree, intact and damaged.
 use mathlib.Core.List.{List, [], _∷_, _++_}
 use mathlib.Core.Path.{_≡_, refl}
-use Prim.Native.Nat.{ℕ, _+_}
-use lib.ListN.{replicate, take, drop}
+use Prim.Native.Nat.{ℕ}
+use lib.ListN.{replicate, take}
 use Rattle.text.specs.Text.{tabulate, concat, sumBelow, countBelow, allBelow, sameList, stretch, leftmost, firstFrom, countIn}
-use Rattle.format.specs.Layout.{wordAt, wordsBytes, wordBytes, blockLength, pieces, recordLength, lengthOk, sizesOk, countedOk, rising, risingAfter}
+use Rattle.format.specs.Layout.{wordAt, wordsBytes, wordBytes, setWord, blockLength, pieces, recordLength, lengthOk, sizesOk, countedOk, rising, risingAfter}
 use Rattle.format.specs.Blocks.{treeOf, header, leafBytes, levelPairs, recordBytes, levelBytes, recordIn, recordOf, target, occurrence, width, isKept}
 use Rattle.format.specs.Blocks.{startsAt, cut, keptByPairs, firstPairAt, pairAt, lengthOf, startOf}
 use Rattle.format.specs.Layout.{edgesOf, filledOut}
@@ -23,13 +23,9 @@ digest-book = 65 ∷ 66 ∷ 49 ∷ 10 ∷ 65 ∷ 66 ∷ 50 ∷ 10 ∷ 65 ∷ 67 
 digest-tree : List ℕ
 digest-tree = treeOf (record { leaf = 2; arity = 2; levels = 2; counted = [] }) digest-book
 
--- A tree with another word at byte i.
-digest-with : List ℕ → ℕ → ℕ → List ℕ
-digest-with t i w = take i t ++ wordBytes w ++ drop (i + 4) t
-
 -- The kind of level 0 block 2 (places 8 to 11) is no kind.
 digest-broken : List ℕ
-digest-broken = digest-with digest-tree 144 2
+digest-broken = setWord digest-tree 144 2
 
 -- A buffer of n bytes 238.
 digest-lent : ℕ → List ℕ
@@ -45,11 +41,11 @@ pub record DigestMarked : Type 0 where
   -- 14: zeros in the 32 bytes; 13 comes before it
   damaged : (digestRefusal digest-broken 33 ≡ 14) × (digestBuffer digest-broken (digest-lent 33) ≡ replicate 32 0 ++ 238 ∷ [])
   before : (digestRefusal digest-broken 31 ≡ 13) × (digestBuffer digest-broken (digest-lent 31) ≡ digest-lent 31)
-  unread : (digestRefusal (take 99 digest-tree) 0 ≡ 5) × (digestRefusal (digest-with digest-tree 0 9) 0 ≡ 6)
-      × (digestRefusal (digest-with digest-tree 4 13) 0 ≡ 7)
+  unread : (digestRefusal (take 99 digest-tree) 0 ≡ 5) × (digestRefusal (setWord digest-tree 0 9) 0 ≡ 6)
+      × (digestRefusal (setWord digest-tree 4 13) 0 ≡ 7)
 
 pub digest-marked : DigestMarked
-unfolding digest-book digest-tree digest-with digest-broken digest-lent digestRefusal digestBuffer bufferAfter pathsHold textOf tabulate concat sumBelow
+unfolding digest-book digest-tree setWord digest-broken digest-lent digestRefusal digestBuffer bufferAfter pathsHold textOf tabulate concat sumBelow
     countBelow allBelow sameList
     wordAt wordsBytes wordBytes stretch leftmost firstFrom countIn blockLength pieces recordLength lengthOk sizesOk countedOk rising risingAfter
     treeOf header leafBytes levelPairs recordBytes edgesOf filledOut levelBytes recordIn recordOf target occurrence width isKept startsAt cut

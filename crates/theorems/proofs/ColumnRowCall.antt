@@ -1,13 +1,13 @@
 -- row_by_columns(tree, width, a, buffer): row a, from 0, of the text whose rearrangement the tree is of: all its bytes, copied.
 use mathlib.Core.List.{List, [], _∷_, _++_}
-use mathlib.Core.Bool.{cond, Bool}
+use mathlib.Core.Bool.{Bool}
 use mathlib.Core.Path.{_≡_, _∙_, refl}
 use Prim.Native.Nat.{ℕ, _≤_, _/_}
 use native.Mathlib.Omega.{arith}
 use contract.Lifetimes.{Lfts}
 use denote.Ref.{now}
 use lib.ListN.{length, drop, replicate}
-use lib.Dec.{eqb, leb, ltb}
+use lib.Dec.{leb, ltb}
 use lib.Seq.{drop-at}
 use borrow.Author.Tests.{eq-eqb, ne-eqb, leb-true}
 use Rattle.text.specs.ListLaws.{length-tabulate}
@@ -76,18 +76,15 @@ module _ (κs : Lfts 2) (t : Borrowed) (w a : ℕ) (buffer after : Borrowed) whe
     column-numbers =
         not-zero (5 ∷ 6 ∷ 7 ∷ 20 ∷ 10 ∷ 13 ∷ 14 ∷ []) n (c .0 .numbered) (rw column-answers (column-one (now t) w a (length (now buffer))))
 
-    -- What is left in the buffer, by the number.
-    column-left : now after ≡ cond (eqb n 14) (replicate w 0 ++ drop w (now buffer)) (now buffer)
-    unfolding rowByColumnsBuffer
-    column-left = c .1 ∙ rw (← column-answers, ne-eqb n 0 (λ e. omega (arith, c .0 .numbered)))
-
     -- Refusal 14 leaves w zeros.
     pub column-zeros : n ≡ 14 → now after ≡ replicate w 0 ++ drop w (now buffer)
-    column-zeros e = column-left ∙ rw (eq-eqb n 14 e)
+    unfolding rowByColumnsBuffer
+    column-zeros e = c .1 ∙ rw (← column-answers, e)
 
     -- Any other refusal leaves the buffer unchanged.
     pub column-unchanged : (n ≡ 14 → ⊥) → now after ≡ now buffer
-    column-unchanged e = column-left ∙ rw (ne-eqb n 14 e)
+    unfolding rowByColumnsBuffer
+    column-unchanged e = c .1 ∙ rw (← column-answers, ne-eqb n 0 (λ z. omega (arith, c .0 .numbered)), ne-eqb n 14 e)
 
 -- Any tree that the check accepts, and the one text that fits it.
 module _ (t : Borrowed) (v : checkResult (now t) ≡ 0) where

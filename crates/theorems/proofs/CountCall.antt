@@ -139,10 +139,7 @@ uncounted-numbers κs t i r a =
 -- The answer in each case.
 count-is : (r : CountAnswer) (v e : ℕ) → NeverZero (countReply r) → replied (countReply r) ≡ record { number = 0; value = v; entered = e } → r
     ≡ counted.Times v e
-count-is (counted.Times w m) v e k s =
-    let z : w ≡ v = ap (λ (x : Answer). x .value) s in
-    let y : m ≡ e = ap (λ (x : Answer). x .entered) s in
-    cc
+count-is (counted.Times w m) v e k s = cc (ap (λ (x : Answer). x .value) s, ap (λ (x : Answer). x .entered) s)
 count-is (counted.Refused q) v e k s = absurd (let z : q ≡ 0 = ap (λ (x : Answer). x .number) s in omega arith)
 
 count-no : (r : CountAnswer) (n : ℕ) → replied (countReply r) ≡ refused (suc n) → r ≡ counted.Refused (suc n)

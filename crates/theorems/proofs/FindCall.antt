@@ -50,6 +50,10 @@ module _ (κs : Lfts 1) (t : Borrowed) (byte j : ℕ) where
   find-numbers n a = outcome-numbers (now t) byte j n (a .numbered) (outcome-of _ (a .answers))
 
 -- The answer in each case.
+find-no : (r : FindAnswer) (n : ℕ) → replied (findReply r) ≡ refused (suc n) → r ≡ found.Refused (suc n)
+find-no (found.At p e) n s = absurd (let z : _≡_ {A = ℕ} 0 (suc n) = ap (λ (x : Answer). x .number) s in omega arith)
+find-no (found.Refused m) n s = ap (λ (x : Answer). found.Refused (x .number)) s
+
 find-is : (r : FindAnswer) (v e : ℕ) → NeverZero (findReply r) → replied (findReply r) ≡ record { number = 0; value = v; entered = e }
     → r ≡ found.At (record { 0 = v }) e
 find-is (found.At p m) v e k s =
@@ -58,17 +62,13 @@ find-is (found.At p m) v e k s =
     cc
 find-is (found.Refused q) v e k s = absurd (let z : q ≡ 0 = ap (λ (x : Answer). x .number) s in omega arith)
 
-find-no : (r : FindAnswer) (n : ℕ) → replied (findReply r) ≡ refused (suc n) → r ≡ found.Refused (suc n)
-find-no (found.At p e) n s = absurd (let z : _≡_ {A = ℕ} 0 (suc n) = ap (λ (x : Answer). x .number) s in omega arith)
-find-no (found.Refused m) n s = ap (λ (x : Answer). found.Refused (x .number)) s
-
 -- Any tree that the check accepts, and the one text that fits it.
 module _ (t : Borrowed) (v : checkResult (now t) ≡ 0) where
-  abbrev T : List ℕ
-  T = textOf (now t)
-
   abbrev S : Settings
   S = at.settings (now t)
+
+  abbrev T : List ℕ
+  T = textOf (now t)
 
   pub accepted-answers : FindAnswers t S T
   unfolding foundFor

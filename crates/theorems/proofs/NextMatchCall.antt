@@ -3,16 +3,14 @@
 use mathlib.Core.List.{List, [], _∷_}
 use mathlib.Core.Bool.{true}
 use mathlib.Core.Path.{_≡_, refl}
-use mathlib.Core.Logic.{_⊎_, inl, inr}
 use Prim.Native.Nat.{ℕ}
 use contract.Lifetimes.{Lfts}
 use denote.Ref.{now}
 use Rattle.format.specs.Layout as at
 use Rattle.format.specs.TreeReading.{textOf, headerResult, checkResult}
 use Rattle.format.specs.CheckResultLaws.{accepted-header}
-use Rattle.format.specs.Answers.{isCounted}
 use Rattle.keys.specs.Keys.{rangesOk}
-use Rattle.query_row_filter.specs.AllowedRows.{queryRefusal, newlineRefusal}
+use Rattle.query_row_filter.specs.AllowedRows.{queryRefusal}
 use Rattle.query_key_match.proofs.Theorems.{refusal-is}
 use Rattle.query_key_match.proofs.Theorems as worn-keys
 use Rattle.query_row_filter.specs.declared.NextRowAnswer.the-variants as shown
@@ -20,7 +18,7 @@ use Rattle.theorems.specs.Promises.{CountedIn, MatchAnswers, MatchRefuse
 use Rattle.theorems.specs.PublicFunctions.{next-match-function, show-function}
 use Rattle.theorems.proofs.AcceptedTree.{among-counted, not-counted}
 use Rattle.theorems.proofs.PublicCall.{Call, Borrowed, call}
-use Rattle.theorems.proofs.RefusalNumbers.{OneOf, asks-one, not-zero, of-left, of-right, header-one, then-one}
+use Rattle.theorems.proofs.RefusalNumbers.{OneOf, search-numbers}
 use Rattle.query_key_match.proofs.next_match.Met as next-match-met
 use Rattle.query_key_match.proofs.advance_mark.Met as show-met
 -- What the contract of `next_match` allows: `NextMatch κs tree ranges mark r`; the contract of `advance_mark` is `Moved`.
@@ -35,20 +33,9 @@ show-call = call show-function show-met.met (λ 𝓤 H A mem run κs a. (tt, ref
 
 -- For any bytes.
 
--- The numbers that the questions before the walk can give.
-match-one : (t ranges : List ℕ) → OneOf (5 ∷ 6 ∷ 7 ∷ 19 ∷ 11 ∷ 0 ∷ []) (queryRefusal t 19 (rangesOk ranges))
-unfolding queryRefusal newlineRefusal
-match-one t ranges =
-    then-one (5 ∷ 6 ∷ 7 ∷ []) (19 ∷ 11 ∷ 0 ∷ []) (headerResult t) _ (header-one t)
-    (asks-one ((19, rangesOk ranges) ∷ (11, isCounted t 10) ∷ []))
-
 -- A refusal is 5, 6, 7, 19, 11 or 14.
 pub match-numbers : (κs : Lfts 2) (t ranges : Borrowed) (mark n : ℕ) → NextMatch κs t ranges mark (shown.Refused n) → OneOf (5 ∷ 6 ∷ 7 ∷ 19 ∷ 11 ∷ 14 ∷ []) n
-match-numbers κs t ranges mark n a = go (refusal-is (now t) (now ranges) mark n a)
-  where
-    go : (n ≡ queryRefusal (now t) 19 (rangesOk (now ranges))) ⊎ ((n ≡ 14) × (checkResult (now t) ≡ 0 → ⊥)) → OneOf (5 ∷ 6 ∷ 7 ∷ 19 ∷ 11 ∷ 14 ∷ []) n
-    go (inl e) = of-left (5 ∷ 6 ∷ 7 ∷ 19 ∷ 11 ∷ []) (14 ∷ []) n (not-zero (5 ∷ 6 ∷ 7 ∷ 19 ∷ 11 ∷ []) n (a .numbered) (rw e (match-one (now t) (now ranges))))
-    go (inr h) = of-right (5 ∷ 6 ∷ 7 ∷ 19 ∷ 11 ∷ []) (14 ∷ []) n (inl (h .0))
+match-numbers κs t ranges mark n a = search-numbers (now t) 19 (rangesOk (now ranges)) n (a .numbered) (refusal-is (now t) (now ranges) mark n a)
 
 -- Any tree that the check accepts, and the one text that fits it.
 module _ (t : Borrowed) (v : checkResult (now t) ≡ 0) where

@@ -2,17 +2,14 @@
 -- the same with a guide. The theorems about repeated calls are in `Theorems` of their crate.
 use mathlib.Core.List.{List, [], _∷_}
 use mathlib.Core.Path.{_≡_, refl}
-use mathlib.Core.Logic.{_⊎_, inl, inr}
 use Prim.Native.Nat.{ℕ}
 use contract.Lifetimes.{Lfts}
 use denote.Ref.{now}
 use Rattle.format.specs.Layout as at
 use Rattle.format.specs.TreeReading.{textOf, headerResult, checkResult}
 use Rattle.format.specs.CheckResultLaws.{accepted-header}
-use Rattle.format.specs.Answers.{isCounted}
 use Rattle.query_places.specs.Places.{patternOk}
 use Rattle.query_row_filter.specs.declared.NextRowAnswer.the-variants as answer
-use Rattle.query_row_filter.specs.AllowedRows.{newlineRefusal, queryRefusal}
 use Rattle.query_guide.specs.Guides.{guideRefusal}
 use Rattle.query_guide.proofs.GuideList.{guide-checked}
 use Rattle.query_prefix.proofs.Theorems.{IsPrefixAnswer}
@@ -21,7 +18,7 @@ use Rattle.theorems.specs.Promises.{PrefixAnswers, PrefixRefuses}
 use Rattle.theorems.specs.PublicFunctions.{next-row-with-prefix-function, next-row-with-prefix-guided-function}
 use Rattle.theorems.proofs.AcceptedTree.{among-counted, not-counted}
 use Rattle.theorems.proofs.PublicCall.{Call, Borrowed, call}
-use Rattle.theorems.proofs.RefusalNumbers.{OneOf, asks-one, not-zero, of-left, of-right, header-one, then-one}
+use Rattle.theorems.proofs.RefusalNumbers.{OneOf, search-numbers}
 use Rattle.query_prefix.proofs.next_with_prefix.Met as next-met
 use Rattle.query_prefix.proofs.next_with_prefix_guided.Met as guided-met
 -- What the contracts allow: `NextRowWithPrefix κs tree prefix mark r`, `NextRowWithPrefixGuided κs tree guide prefix mark r`.
@@ -36,21 +33,11 @@ next-row-with-prefix-guided-call = call next-row-with-prefix-guided-function gui
 
 -- For any bytes.
 
--- The numbers that the questions before the walk can give.
-prefix-one : (t prefix : List ℕ) → OneOf (5 ∷ 6 ∷ 7 ∷ 16 ∷ 11 ∷ 0 ∷ []) (queryRefusal t 16 (patternOk prefix))
-unfolding queryRefusal newlineRefusal
-prefix-one t prefix =
-    then-one (5 ∷ 6 ∷ 7 ∷ []) (16 ∷ 11 ∷ 0 ∷ []) (headerResult t) _ (header-one t)
-    (asks-one ((16, patternOk prefix) ∷ (11, isCounted t 10) ∷ []))
-
--- A refusal is one of these, or 14.
+-- A refusal is the number of a question before the walk, or 14.
 refusal-one : (t : List ℕ) (ok : ℕ) (sound : ok ≡ 0 → checkResult t ≡ 0) (prefix : List ℕ) (mark n : ℕ)
     → IsPrefixAnswer t ok prefix mark (answer.Refused n) → OneOf (5 ∷ 6 ∷ 7 ∷ 16 ∷ 11 ∷ 14 ∷ []) n
-refusal-one t ok sound prefix mark n a = go (query-prefix.prefix-refusal t ok sound prefix mark n a)
-  where
-    go : (n ≡ queryRefusal t 16 (patternOk prefix)) ⊎ ((n ≡ 14) × (ok ≡ 0 → ⊥)) → OneOf (5 ∷ 6 ∷ 7 ∷ 16 ∷ 11 ∷ 14 ∷ []) n
-    go (inl e) = of-left (5 ∷ 6 ∷ 7 ∷ 16 ∷ 11 ∷ []) (14 ∷ []) n (not-zero (5 ∷ 6 ∷ 7 ∷ 16 ∷ 11 ∷ []) n (a .numbered) (rw e (prefix-one t prefix)))
-    go (inr h) = of-right (5 ∷ 6 ∷ 7 ∷ 16 ∷ 11 ∷ []) (14 ∷ []) n (inl (h .0))
+refusal-one t ok sound prefix mark n a =
+    search-numbers t 16 (patternOk prefix) n (a .numbered) (query-prefix.prefix-refusal t ok sound prefix mark n a)
 
 -- A refusal is 5, 6, 7, 16, 11 or 14.
 pub prefix-numbers : (κs : Lfts 2) (t prefix : Borrowed) (mark n : ℕ)

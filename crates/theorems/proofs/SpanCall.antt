@@ -1,13 +1,13 @@
 -- span(tree, place, length, buffer): bytes copied from a place on, with the blocks that a short span enters.
 use mathlib.Core.List.{List, [], _∷_, _++_}
-use mathlib.Core.Bool.{true, cond, Bool}
+use mathlib.Core.Bool.{true, Bool}
 use mathlib.Core.Path.{_≡_, _∙_, refl}
 use Prim.Native.Nat.{ℕ, suc, _+_, _≤_, _<_}
 use native.Mathlib.Omega.{arith}
 use contract.Lifetimes.{Lfts}
 use denote.Ref.{now}
 use lib.ListN.{length, drop, replicate}
-use lib.Dec.{eqb, leb}
+use lib.Dec.{leb}
 use lib.Seq.{drop-at}
 use borrow.Author.Tests.{eq-eqb, ne-eqb, leb-true, le-leb, lt-leb}
 use Rattle.text.specs.declared.TextPlace.{TextPlace}
@@ -85,18 +85,15 @@ module _ (κs : Lfts 2) (t : Borrowed) (p : TextPlace) (len : ℕ) (buffer after
     span-numbers =
         not-zero (5 ∷ 6 ∷ 7 ∷ 10 ∷ 13 ∷ 14 ∷ []) n (a .0 .numbered) (rw span-answers (span-one (now t) (p .0) len (length (now buffer))))
 
-    -- What is left in the buffer, by the number.
-    span-left : now after ≡ cond (eqb n 14) (replicate len 0 ++ drop len (now buffer)) (now buffer)
-    unfolding spanBuffer bufferAfter
-    span-left = a .1 ∙ rw (← span-answers, ne-eqb n 0 (λ e. omega (arith, a .0 .numbered)))
-
     -- Refusal 14 leaves zeros in the first `len` bytes.
     pub span-zeros : n ≡ 14 → now after ≡ replicate len 0 ++ drop len (now buffer)
-    span-zeros e = span-left ∙ rw (eq-eqb n 14 e)
+    unfolding spanBuffer bufferAfter
+    span-zeros e = a .1 ∙ rw (← span-answers, e)
 
     -- Any other refusal leaves the buffer unchanged.
     pub span-unchanged : (n ≡ 14 → ⊥) → now after ≡ now buffer
-    span-unchanged e = span-left ∙ rw (ne-eqb n 14 e)
+    unfolding spanBuffer bufferAfter
+    span-unchanged e = a .1 ∙ rw (← span-answers, ne-eqb n 0 (λ z. omega (arith, a .0 .numbered)), ne-eqb n 14 e)
 
 -- Any tree that the check accepts, and the one text that fits it.
 module _ (t : Borrowed) (v : checkResult (now t) ≡ 0) where

@@ -1,16 +1,16 @@
 -- The bytes of the built tree, one by one: which word each belongs to.
 use mathlib.Core.List.{List, [], _∷_, _++_}
 use mathlib.Core.Path.{_≡_, refl, ap, _∙_}
-use Prim.Native.Nat.{ℕ, zero, suc, _+_, _*_, _<_}
+use Prim.Native.Nat.{ℕ, zero, suc, _+_, _*_, _≤_, _<_}
 use native.Mathlib.Omega.{arith}
 use native.Mathlib.Nat.{add-assoc}
-use lib.ListN.{length, getD, List·getD-append}
-use lib.Seq.{getD-append-add}
+use lib.ListN.{length, getD, take, drop, length-append, List·getD-append}
+use lib.Seq.{getD-append-add, length-take-le}
 use Rattle.text.specs.Text.{sumBelow}
 use Rattle.text.specs.ListLaws.{sumBelow-part}
-use Rattle.format.specs.Layout.{wordAt, wordBytes, wordsBytes, Settings, maxLevels, maxCounted, countedAt, pairsAt, headerLength}
+use Rattle.format.specs.Layout.{wordAt, wordBytes, wordsBytes, setWord, Settings, maxLevels, maxCounted, countedAt, pairsAt, headerLength}
 use Rattle.format.specs.Blocks.{treeOf, recordBytes}
-use Rattle.format.specs.WordLaws.{words-cons, length-words, digits}
+use Rattle.format.specs.WordLaws.{words-cons, length-words, digits, setWord-eq}
 use Rattle.theory_built.specs.BlockSizes.{Taken, BuiltBounds, bounds}
 use Rattle.theory_built.specs.Structure.{count}
 use Rattle.theory_built.specs.Pairs.{offset, levelWordsOf, length-levelWordsOf}
@@ -30,6 +30,20 @@ stands-word t i v s small = rw (first, s 1 (omega arith), s 2 (omega arith), s 3
   where
     first : getD t i 0 ≡ getD (wordBytes v) 0 0
     first = ap (λ (k : ℕ). getD t k 0) (let e : i ≡ i + 0 = omega arith in e) ∙ s 0 (omega arith)
+
+length-wordBytes : (v : ℕ) → length (wordBytes v) ≡ 4
+unfolding wordBytes
+length-wordBytes v = refl
+
+-- The bytes of a word that was written.
+pub written-word : (t : List ℕ) (i v : ℕ) → i + 4 ≤ length t → BytesAt (setWord t i v) i v
+written-word t i v fits r l =
+    let head : length (take i t) ≡ i = length-take-le i t (omega arith) in
+    let e : i + r ≡ length (take i t) + r = omega arith in
+    let m : length (take i t) + r < length (take i t ++ wordBytes v) = rw (length-append (take i t) (wordBytes v), length-wordBytes v) (omega arith) in
+    rw (setWord-eq t i v fits, e)
+    (List·getD-append (take i t ++ wordBytes v) (drop (i + 4) t) 0 (length (take i t) + r) m
+    ∙ getD-append-add (take i t) (wordBytes v) r 0)
 
 first-byte : (w : ℕ) (rest : List ℕ) (r : ℕ) → r < 4 → getD (wordBytes w ++ rest) r 0 ≡ getD (wordBytes w) r 0
 unfolding wordBytes

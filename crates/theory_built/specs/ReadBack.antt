@@ -151,25 +151,21 @@ module _ (S : Settings) (T : List ℕ) (h : Taken S T) where
       unfolding recordWords
       count-words = omega arith
 
+      -- A count of the text fits a word.
+      read-count : (f x : ℕ) → f ≤ skipField c → getD (recordAt S T l i) f 0 ≡ x → x ≤ length T → at.field (treeOf S T) l i f ≡ x
+      read-count f x of-record is few = read-field f (omega (arith, count-words)) (rw is (omega (arith, limits .text-high))) ∙ is
+
       pub read-before : at.before (treeOf S T) l i c ≡ beforeOf S T l i (getD (S .counted) c 0)
       unfolding at.before
-      read-before =
-          read-field (beforeField c) (omega (arith, count-words))
-          (rw (record-before S T l i c cl) (omega (arith, before-le S T l i (getD (S .counted) c 0), limits .text-high)))
-          ∙ record-before S T l i c cl
+      read-before = read-count (beforeField c) _ (omega arith) (record-before S T l i c cl) (before-le S T l i (getD (S .counted) c 0))
 
       pub read-inside : at.inside (treeOf S T) l i c ≡ insideOf S T l i (getD (S .counted) c 0)
       unfolding at.inside
-      read-inside =
-          read-field (insideField c) (omega (arith, count-words))
-          (rw (record-inside S T l i c cl) (omega (arith, inside-le S T l i (getD (S .counted) c 0), limits .text-high)))
-          ∙ record-inside S T l i c cl
+      read-inside = read-count (insideField c) _ (omega arith) (record-inside S T l i c cl) (inside-le S T l i (getD (S .counted) c 0))
 
       pub read-skip : at.skip (treeOf S T) l i c ≡ skipOf S T l i (getD (S .counted) c 0)
       unfolding at.skip
-      read-skip =
-          read-field (skipField c) count-words (rw (record-skip S T l i c cl) (omega (arith, skip-le S T l i (getD (S .counted) c 0), limits .text-high)))
-          ∙ record-skip S T l i c cl
+      read-skip = read-count (skipField c) _ (omega arith) (record-skip S T l i c cl) (skip-le S T l i (getD (S .counted) c 0))
 
     pub read-blockLength : at.blockLengthAt (treeOf S T) l i ≡ bytesIn S T l i
     unfolding at.blockLengthAt

@@ -15,24 +15,10 @@ use Rattle.format.specs.WordLaws.{length-setWord, getD-setWord-other, setWord-e
 use Rattle.format.specs.LayoutLaws.{Readable}
 use Rattle.format.specs.Layout as at
 use Rattle.theory_built.specs.Gather.{getD-concat}
-use Rattle.theory_built.specs.BuiltBytes.{BytesAt}
+use Rattle.theory_built.specs.BuiltBytes.{BytesAt, written-word}
 use Rattle.theory_without_edges.specs.WithoutEdges.{edgelessLayout, layout1RecordSize, layout1Offset, offsetsIn, layout1Header}
 use Rattle.theory_without_edges.specs.WithoutEdges.{recordCount, layout1Record, layout1Records, layout1LeafBytes, withoutEdges}
 use Rattle.theory_without_edges.specs.Layout1Sizes as sizes
-
-length-wordBytes : (v : ℕ) → length (wordBytes v) ≡ 4
-unfolding wordBytes
-length-wordBytes v = refl
-
--- A written word is read back.
-pub written-represents : (t : List ℕ) (i v : ℕ) → i + 4 ≤ length t → BytesAt (setWord t i v) i v
-written-represents t i v fits r l =
-    let head : length (take i t) ≡ i = length-take-le i t (omega arith) in
-    let e : i + r ≡ length (take i t) + r = omega arith in
-    let m : length (take i t) + r < length (take i t ++ wordBytes v) = rw (length-append (take i t) (wordBytes v), length-wordBytes v) (omega arith) in
-    rw (setWord-eq t i v fits, e)
-    (List·getD-append (take i t ++ wordBytes v) (drop (i + 4) t) 0 (length (take i t) + r) m
-    ∙ getD-append-add (take i t) (wordBytes v) r 0)
 
 -- Words of equal bytes are equal.
 pub word-same : (t u : List ℕ) (p q : ℕ) → ((r : ℕ) → r < 4 → getD u (p + r) 0 ≡ getD t (q + r) 0) → wordAt u p ≡ wordAt t q
@@ -66,7 +52,7 @@ module _ (t : List ℕ) where
           → BytesAt (setWord (offsetsIn t n h) (offsetAt n) (layout1Offset t n)) (offsetAt l) (layout1Offset t l)
       go (inl y) before =
           λ r m. getD-setWord-other (offsetsIn t n h) (offsetAt n) (layout1Offset t n) (offsetAt l + r) (λ a b. omega arith) ∙ before y r m
-      go (inr y) before = rw y (written-represents (offsetsIn t n h) (offsetAt n) (layout1Offset t n) (omega (arith, sizes.length-offsets t n h)))
+      go (inr y) before = rw y (written-word (offsetsIn t n h) (offsetAt n) (layout1Offset t n) (omega (arith, sizes.length-offsets t n h)))
 
   module _ (k : Readable t) where
     abbrev H : ℕ
@@ -122,7 +108,7 @@ module _ (t : List ℕ) where
         here r l =
             getD-setWord-other (offsetsIn t H marked) leafOffsetAt (layout1Offset t H) (layoutAt + r) (λ a b. omega arith)
             ∙ offsets-other H marked (layoutAt + r) (λ x h a b. omega arith)
-            ∙ written-represents start layoutAt edgelessLayout (omega (arith, long)) r l
+            ∙ written-word start layoutAt edgelessLayout (omega (arith, long)) r l
 
     pub offset-stands : (l : ℕ) → l < H → BytesAt (withoutEdges t) (offsetAt l) (layout1Offset t l)
     unfolding layout1Header
@@ -138,7 +124,7 @@ module _ (t : List ℕ) where
     leaf-offset-stands = in-front leafOffsetAt (layout1Offset t H) (omega arith) here
       where
         here : BytesAt (layout1Header t) leafOffsetAt (layout1Offset t H)
-        here = written-represents (offsetsIn t H marked) leafOffsetAt (layout1Offset t H) (omega (arith, long-offsets))
+        here = written-word (offsetsIn t H marked) leafOffsetAt (layout1Offset t H) (omega (arith, long-offsets))
 
     -- The records: byte x of the words of the j-th.
     pub record-byte : (j x : ℕ) → j < recordCount t → x < layout1RecordSize t

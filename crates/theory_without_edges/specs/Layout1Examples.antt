@@ -29,15 +29,15 @@ layout1-words : Settings → List ℕ → ℕ → List ℕ
 layout1-words S T l = concat (tabulate (length (startsAt S T l)) (recordOf S T l (startsAt S T l)))
 
 -- The trees in layout 1, by hand: the header's words, the records without edges, the leaf bytes.
+layout1-by-hand : List ℕ → ℕ → Settings → List ℕ → List ℕ → List ℕ
+layout1-by-hand words offset S T leaves =
+    wordsBytes words ++ replicate 48 0 ++ wordsBytes (offset ∷ length leaves ∷ layout1-words S T 0 ++ layout1-words S T 1) ++ leaves
+
 layout1-older : List ℕ
-layout1-older =
-    wordsBytes (1 ∷ 20 ∷ 2 ∷ 2 ∷ 2 ∷ 1 ∷ 65 ∷ 5 ∷ 100 ∷ 8 ∷ 240 ∷ []) ++ replicate
-    48 0 ++ wordsBytes (464 ∷ 16 ∷ layout1-words layout1-two layout1-book 0 ++ layout1-words layout1-two layout1-book 1) ++ take 16 layout1-book
+layout1-older = layout1-by-hand (1 ∷ 20 ∷ 2 ∷ 2 ∷ 2 ∷ 1 ∷ 65 ∷ 5 ∷ 100 ∷ 8 ∷ 240 ∷ []) 464 layout1-two layout1-book (take 16 layout1-book)
 
 layout1-older-twelve : List ℕ
-layout1-older-twelve =
-    wordsBytes (1 ∷ 12 ∷ 2 ∷ 2 ∷ 2 ∷ 0 ∷ 0 ∷ 3 ∷ 100 ∷ 4 ∷ 148 ∷ []) ++ replicate
-    48 0 ++ wordsBytes (212 ∷ 8 ∷ layout1-words uncounted layout1-twelve 0 ++ layout1-words uncounted layout1-twelve 1) ++ replicate 8 65
+layout1-older-twelve = layout1-by-hand (1 ∷ 12 ∷ 2 ∷ 2 ∷ 2 ∷ 0 ∷ 0 ∷ 3 ∷ 100 ∷ 4 ∷ 148 ∷ []) 212 uncounted layout1-twelve (replicate 8 65)
 
 pub record Layout1Marked : Type 0 where
   -- 532 and 248 bytes with edges, 480 and 220 without
@@ -51,8 +51,8 @@ pub record Layout1Marked : Type 0 where
   empty : length (withoutEdges (treeOf layout1-two [])) ≡ 100
 
 pub layout1-marked : Layout1Marked
-unfolding layout1-book layout1-twelve layout1-two uncounted layout1-words layout1-older layout1-older-twelve withoutEdges layout1RecordSize layout1Offset
-    offsetsIn layout1Header recordCount
+unfolding layout1-book layout1-twelve layout1-two uncounted layout1-words layout1-by-hand layout1-older layout1-older-twelve withoutEdges
+    layout1RecordSize layout1Offset offsetsIn layout1Header recordCount
     layout1Record layout1Records layout1LeafBytes treeIn headerIn pairsIn levelIn bytesOf sizeIn tabulate concat sumBelow countBelow sameList setWord
     wordAt wordsBytes wordBytes stretch leftmost firstFrom countIn blockLength pieces recordLength treeOf header leafBytes levelPairs recordBytes
     edgesOf filledOut levelBytes recordIn recordOf target occurrence width isKept startsAt cut keptByPairs firstPairAt pairAt lengthOf startOf

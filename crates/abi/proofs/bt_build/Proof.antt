@@ -1,4 +1,5 @@
 use borrow.Author.Needs.{needs}
+use mathlib.Core.Path.{_∙_}
 use Rattle.abi.proofs.ExportsLaws as laws
 use Rattle.abi.proofs.bt_build.Statement.{statement}
 use Rattle.abi.proofs.bt_build.Tie as tie
@@ -9,10 +10,12 @@ bt-build-spec =
     (tie.spec
     (λ c κs. search needs)
     (λ c. search needs)
+    (λ c κs. search needs)
     (λ c. search needs)
+    (λ c κs. search needs)
     (λ c. search needs)
-    (λ c. let w = c .before .before .before .before .before in let z = laws.build-answered
-    _ _ _ (w .build .ensures .0) (w .build .ensures .1 .0) _ (c .before .built .given .1) in (z .0, (z .1, w .build .ensures .1 .1)))
+    (λ c. let w = c .before .before .before .before .before .before .before .build .ensures in let p = c .put-u32 .ensures in
+    let z = laws.build-answered _ _ _ (w .0) (w .1 .0) _ (c .before .before .before .built .given .1) in (p .0 ∙ z .0, (p .1 ∙ z .1, w .1 .1)))
     (λ c. search needs)
-    (λ c. let w = c .before .before .before .before .before in let z = laws.build-refused
-    _ _ _ (w .build .ensures .0) (w .build .ensures .1 .0) _ (c .before .built2 .given .1) in (z .0, (z .1, w .build .ensures .1 .1))))
+    (λ c. let w = c .before .before .before .before .before .before .before .build .ensures in let p = c .put-u322 .ensures in
+    let z = laws.build-refused _ _ _ (w .0) (w .1 .0) _ (c .before .before .before .built2 .given .1) in (p .0 ∙ z .0, (p .1 ∙ z .1, w .1 .1))))

@@ -1,4 +1,5 @@
 use borrow.Author.Needs.{needs}
+use Rattle.build_size_bound.specs.SizeBound.{sizeBoundReply}
 use Rattle.abi.proofs.ExportsLaws as laws
 use Rattle.abi.proofs.bt_size_bound.Statement.{statement}
 use Rattle.abi.proofs.bt_size_bound.Tie as tie
@@ -9,6 +10,10 @@ bt-size-bound-spec =
     (tie.spec
     (λ c κs. search needs)
     (λ c. search needs)
+    (λ c κs. search needs)
     (λ c. search needs)
-    (λ c. laws.size-bound-answered _ _ (c .before .before .before .size-bound .ensures .answers) _ (c .before .room .given .1))
-    (λ c. laws.size-bound-refused _ _ (c .before .before .before .size-bound .ensures .answers) _ (c .before .room2 .given .1)))
+    (λ c κs. search needs)
+    (λ c. let p = c .put-u64 .ensures in let w = c .before .before .before in
+    rw (p .0, p .1) (laws.reply-is sizeBoundReply _ _ _ (w .before .before .size-bound .ensures .answers) (w .room .given .1)))
+    (λ c. let p = c .put-u642 .ensures in let w = c .before .before .before in
+    rw (p .0, p .1) (laws.reply-is sizeBoundReply _ _ _ (w .before .before .size-bound .ensures .answers) (w .room2 .given .1))))

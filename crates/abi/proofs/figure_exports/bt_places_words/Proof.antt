@@ -1,5 +1,6 @@
 use borrow.Author.Needs.{needs}
-use Rattle.abi.proofs.FigureExportsLaws as laws
+use Rattle.query_places.specs.Places.{placesWordsReply}
+use Rattle.abi.proofs.ExportsLaws as laws
 use Rattle.abi.proofs.figure_exports.bt_places_words.Statement.{statement}
 use Rattle.abi.proofs.figure_exports.bt_places_words.Tie as tie
 
@@ -9,6 +10,10 @@ bt-places-words-spec =
     (tie.spec
     (λ c κs. search needs)
     (λ c. search needs)
+    (λ c κs. search needs)
     (λ c. search needs)
-    (λ c. laws.room-answered _ _ (c .before .before .before .places-words .ensures .answers) _ (c .before .room .given .1))
-    (λ c. laws.room-refused _ _ (c .before .before .before .places-words .ensures .answers) _ (c .before .room2 .given .1)))
+    (λ c κs. search needs)
+    (λ c. let p = c .put-u32 .ensures in let w = c .before .before .before in
+    rw (p .0, p .1) (laws.reply-is placesWordsReply _ _ _ (w .before .before .places-words .ensures .answers) (w .room .given .1)))
+    (λ c. let p = c .put-u322 .ensures in let w = c .before .before .before in
+    rw (p .0, p .1) (laws.reply-is placesWordsReply _ _ _ (w .before .before .places-words .ensures .answers) (w .room2 .given .1))))

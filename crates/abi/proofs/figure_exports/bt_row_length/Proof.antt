@@ -9,6 +9,10 @@ bt-row-length-spec =
     (tie.spec
     (λ c κs. search needs)
     (λ c. search needs)
+    (λ c κs. search needs)
     (λ c. search needs)
-    (λ c. laws.length-answered _ _ _ (c .before .before .before .row-length .ensures .answers) _ (c .before .length .given .1))
-    (λ c. laws.length-refused _ _ _ (c .before .before .before .row-length .ensures .answers) _ (c .before .length2 .given .1)))
+    (λ c κs. search needs)
+    (λ c. let p = c .put-u32 .ensures in let w = c .before .before .before in
+    rw (p .0, p .1) (laws.length-answered _ _ _ (w .before .before .row-length .ensures .answers) _ (w .length .given .1)))
+    (λ c. let p = c .put-u322 .ensures in let w = c .before .before .before in
+    rw (p .0, p .1) (laws.length-refused _ _ _ (w .before .before .row-length .ensures .answers) _ (w .length2 .given .1))))

@@ -8,11 +8,21 @@ bt-find-guided-spec =
     tie.close
     (tie.spec
     (λ c κs. search needs)
-    (λ c. laws.guided-above (c .before .before .before .before .args .tree .now)
-    (λ k. c .before .before .before .shared-slice-known .given k .fits) _ (c .before .if1 .taken) _ _ _ (c .uncounted .ensures))
+    (λ c κs. search needs)
+    (λ c κs. search needs)
+    (λ c. let p = c .put-u322 .ensures in let q = c .before .put-u32 .ensures in let u = c .before .before .before .before in
+    let v = u .before .before .before in
+    rw (p .0, p .1, q .0, q .1) (laws.guided-above (v .before .args .tree .now) (λ k. v .shared-slice-known .given k .fits)
+    _ (u .before .if1 .taken) _ _ _ (u .uncounted .ensures)))
     (λ c. search needs)
     (λ c κs. search needs)
     (λ c. search needs)
+    (λ c κs. search needs)
+    (λ c κs. search needs)
     (λ c. search needs)
-    (λ c. laws.guided-answered _ _ _ _ _ (c .before .before .before .find-guided .ensures .answers) _ _ _ (c .before .found .given .1))
-    (λ c. laws.guided-refused _ _ _ _ _ (c .before .before .before .find-guided .ensures .answers) _ (c .before .found2 .given .1)))
+    (λ c κs. search needs)
+    (λ c κs. search needs)
+    (λ c. let p = c .put-u324 .ensures in let q = c .before .put-u323 .ensures in let w = c .before .before .before .before .before in
+    rw (p .0, p .1, q .0, q .1) (laws.guided-answered _ _ _ _ _ (w .before .before .find-guided .ensures .answers) _ _ _ (w .found .given .1)))
+    (λ c. let p = c .put-u326 .ensures in let q = c .before .put-u325 .ensures in let w = c .before .before .before .before .before in
+    rw (p .0, p .1, q .0, q .1) (laws.guided-refused _ _ _ _ _ (w .before .before .find-guided .ensures .answers) _ (w .found2 .given .1))))

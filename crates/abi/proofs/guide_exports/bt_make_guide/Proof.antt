@@ -1,5 +1,5 @@
 use borrow.Author.Needs.{needs}
-use Rattle.abi.proofs.GuideExportsLaws as laws
+use mathlib.Core.Path.{_∙_}
 use Rattle.abi.proofs.guide_exports.bt_make_guide.Statement.{statement}
 use Rattle.abi.proofs.guide_exports.bt_make_guide.Tie as tie
 
@@ -8,9 +8,6 @@ bt-make-guide-spec =
     tie.close
     (tie.spec
     (λ c κs. search needs)
+    (λ c κs. search needs)
     (λ c. search needs)
-    (λ c. search needs)
-    (λ c. search needs)
-    (λ c. let m = c .before .before .before .before .before .make-guide .ensures in (laws.size-answered _ _ (m .0 .0) _ (c .before .size .given .1), m .1))
-    (λ c. search needs)
-    (λ c. let m = c .before .before .before .before .before .make-guide .ensures in (laws.size-refused _ _ (m .0 .0) _ (c .before .size2 .given .1), m .1)))
+    (λ c. let m = c .before .before .before .before .make-guide .ensures in (c .put-words .ensures ∙ m .0 .0, m .1)))

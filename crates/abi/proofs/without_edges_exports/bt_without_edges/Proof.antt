@@ -1,4 +1,5 @@
 use borrow.Author.Needs.{needs}
+use mathlib.Core.Path.{_∙_}
 use Rattle.abi.proofs.WithoutEdgesExportsLaws as laws
 use Rattle.abi.proofs.without_edges_exports.bt_without_edges.Statement.{statement}
 use Rattle.abi.proofs.without_edges_exports.bt_without_edges.Tie as tie
@@ -9,12 +10,12 @@ bt-without-edges-spec =
     (tie.spec
     (λ c κs. search needs)
     (λ c. search needs)
+    (λ c κs. search needs)
     (λ c. search needs)
+    (λ c κs. search needs)
     (λ c. search needs)
-    (λ c. let w = c .before .before .before .before .before in let z = laws.without-edges-size
-    _ _ _ (w .without-edges .ensures .0) (w .without-edges .ensures .1 .0) _ (c .before .answer .given .1) in
-    (z .0, (z .1, w .without-edges .ensures .1 .1 .0)))
+    (λ c. let w = c .before .before .before .before .before .before .before .without-edges .ensures in let p = c .put-u64 .ensures in
+    let z = laws.without-edges-size _ _ _ (w .0) (w .1 .0) _ (c .before .before .before .answer .given .1) in (p .0 ∙ z .0, (p .1 ∙ z .1, w .1 .1 .0)))
     (λ c. search needs)
-    (λ c. let w = c .before .before .before .before .before in let z = laws.without-edges-refused
-    _ _ _ (w .without-edges .ensures .0) (w .without-edges .ensures .1 .0) _ (c .before .answer2 .given .1) in
-    (z .0, (z .1, w .without-edges .ensures .1 .1 .0))))
+    (λ c. let w = c .before .before .before .before .before .before .before .without-edges .ensures in let p = c .put-u642 .ensures in
+    let z = laws.without-edges-refused _ _ _ (w .0) (w .1 .0) _ (c .before .before .before .answer2 .given .1) in (p .0 ∙ z .0, (p .1 ∙ z .1, w .1 .1 .0))))

@@ -10,5 +10,4 @@ put-level-spec =
     (λ c κs. let w = c .before .before .before .before in (w .before .before .before .before .before .before .before .pre .0, w .scan-level .ensures .0))
     (λ c. search needs)
     (λ c. search needs)
-    (λ c. let e = c .before .before .fill-scanned .ensures in
-    (e .0, (e .1, c .before .before .before .before .before .before .before .scan-level .ensures .1))))
+    (λ c. (c .before .before .fill-scanned .ensures, c .before .before .before .before .before .before .before .scan-level .ensures .1)))

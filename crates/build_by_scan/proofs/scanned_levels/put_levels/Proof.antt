@@ -32,22 +32,22 @@ put-levels-spec =
     let v = a .reached .ready .level-is in omega (
       arith,
       along.windows-fit _ _ _ _ _ _ _ _ _
-          a _ (w .put-level .ensures .1 .1 .0) (w .put-level .ensures .1 .1 .1) (omega (arith, v .number-in, bounds _ _ (v .taken) .levels-high)),
+          a _ (w .put-level .ensures .1 .0) (w .put-level .ensures .1 .1) (omega (arith, v .number-in, bounds _ _ (v .taken) .levels-high)),
     ))
     (λ c κs. let w = c .before .before .before .before .before .before in (
-      w .put-level .ensures .1 .0,
+      w .put-level .ensures .0 .1,
       laws.upper-here _ _ _ _ _ _ (w .before .before .before .before .before .before .loop .inv .reached) (w .before .before .before .if1 .taken),
     ))
     (λ c. search needs)
     (λ c. search needs)
     (λ c. let w = c .before .before .before .before .before .before .before .before .before .before .before in
     laws.grown-here _ _ _ _ _ _ (w .before .before .before .before .before .before .loop .inv .reached)
-    _ (grown-then _ _ _ _ (w .put-level .ensures .0) (c .before .before .before .before .go-down .ensures .0)) .same-length)
+    _ (grown-then _ _ _ _ (w .put-level .ensures .0 .0) (c .before .before .before .before .go-down .ensures .0)) .same-length)
     (λ c. let w = c .before .before .before .before .before .before .before .before .before .before .before in
     w .put-level .kept .1 .0 ∙ w .before .before .before .before .before .before .loop .inv .same-length)
     (λ c. let w = c .before .before .before .before .before .before .before .before .before .before .before in
     let v = w .before .before .before .before .before .before .loop .inv .reached in let g =
-    laws.grown-here _ _ _ _ _ _ v _ (grown-then _ _ _ _ (w .put-level .ensures .0) (c .before .before .before .before .go-down .ensures .0)) in (
+    laws.grown-here _ _ _ _ _ _ v _ (grown-then _ _ _ _ (w .put-level .ensures .0 .0) (c .before .before .before .before .go-down .ensures .0)) in (
       g,
       (
         laws.step-full _ _ _ _ _ g _ _ (laws.step-here _ _ _ _ _ _ v _ _ _ (c .before .before .before .before .go-down .ensures .1))
@@ -57,7 +57,7 @@ put-levels-spec =
     ))
     (λ c. let w = c .before .before .before .before .before .before .before .before .before .before .before .before in
     let v = w .before .before .before .before .before .before .loop .inv .reached in let g = laws.grown-here
-    _ _ _ _ _ _ v _ (grown-then _ _ _ _ (w .put-level .ensures .0) (c .before .before .before .before .before .go-down .ensures .0)) in
+    _ _ _ _ _ _ v _ (grown-then _ _ _ _ (w .put-level .ensures .0 .0) (c .before .before .before .before .before .go-down .ensures .0)) in
     omega (
       arith,
       c .before .before .before .before .before .before .before .before .before .before .before .before .before .before .before .if1 .taken,
@@ -66,11 +66,11 @@ put-levels-spec =
     ))
     (λ c. let w = c .before .before .before .before .before .before .before .before .before .before .before .before in
     let a = w .before .before .before .before .before .before .loop .inv in let v = a .reached in let g = laws.grown-here
-    _ _ _ _ _ _ v _ (grown-then _ _ _ _ (w .put-level .ensures .0) (c .before .before .before .before .before .go-down .ensures .0)) in
+    _ _ _ _ _ _ v _ (grown-then _ _ _ _ (w .put-level .ensures .0 .0) (c .before .before .before .before .before .go-down .ensures .0)) in
     let s = laws.step-here _ _ _ _ _ _ v _ _ _ (c .before .before .before .before .before .go-down .ensures .1) in
     along.along-next _ _ _ _ _ _ _ _ _
-    a _ (c .before .before .before .before .before .before .before .before .before .before .before .before .put-level .ensures .1 .1 .0)
-    (c .before .before .before .before .before .before .before .before .before .before .before .before .put-level .ensures .1 .1 .1)
+    a _ (c .before .before .before .before .before .before .before .before .before .before .before .before .put-level .ensures .1 .0)
+    (c .before .before .before .before .before .before .before .before .before .before .before .before .put-level .ensures .1 .1)
     _ _ _ (laws.step-reached _ _ _ _ _ g _ _ s _ (c .before .step .given .1)) (laws.step-number _ _ _ _ _ g _ _ s _ (c .before .step .given .1))
     (c .before .before .before .before .before .before .before .before .before .before .before .before .put-level .kept .1 .0))
     (λ c κs. laws.ready-here _ _ _ _ _ _ (c .before .before .before .before .loop .inv .reached))

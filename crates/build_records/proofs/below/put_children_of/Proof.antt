@@ -45,17 +45,8 @@ put-children-of-spec =
     _ (c .before .before .before .pieces .ensures) _ (c .before .place2 .ensures .0) (c .before .place2 .ensures .1) _ (c .record-size .ensures .0))
     (λ c. search needs)
     (λ c. let w = c .before .before .before .before .before .before .before .before .before in
-    let v = w .before .before .before .before .before .before .before .before .before in (
-      laws.children-grown _ _ _ _ _ _
-          (v .pre .0) (v .pre .1) _ (w .before .before .before .before .before .place .ensures .0) _ (w .before .before .before .read .ensures)
-          (w .before .before .if1 .left) _ (w .read2 .ensures) _ (c .before .before .before .before .before .before .before .stretch-of .ensures)
-          _ (c .before .before .before .before .before .before .pieces .ensures)
-          _ (c .before .before .before .before .place2 .ensures .0) (c .before .before .before .before .place2 .ensures .1)
-          _ (c .before .before .before .record-size .ensures .0) _ (c .before .before .put-starts .ensures),
-      laws.children-started _ _ _ _ _ _
-          (v .pre .0) (v .pre .1) _ (w .before .before .before .before .before .place .ensures .0) _ (w .before .before .before .read .ensures)
-          (w .before .before .if1 .left) _ (w .read2 .ensures) _ (c .before .before .before .before .before .before .before .stretch-of .ensures)
-          _ (c .before .before .before .before .before .before .pieces .ensures)
-          _ (c .before .before .before .before .place2 .ensures .0) (c .before .before .before .before .place2 .ensures .1)
-          _ (c .before .before .before .record-size .ensures .0) _ (c .before .before .put-starts .ensures),
-    )))
+    let v = w .before .before .before .before .before .before .before .before .before in let p = c .before .before .before .before in
+    laws.children-written _ _ _ _ _ _
+    (v .pre .0) (v .pre .1) _ (w .before .before .before .before .before .place .ensures .0) _ (w .before .before .before .read .ensures)
+    (w .before .before .if1 .left) _ (w .read2 .ensures) _ (p .before .before .before .stretch-of .ensures) _ (p .before .before .pieces .ensures)
+    _ (p .place2 .ensures .0) (p .place2 .ensures .1) _ (c .before .before .before .record-size .ensures .0) _ (c .before .before .put-starts .ensures)))
