@@ -17,7 +17,7 @@ use Rattle.theory_paths.specs.BlockStarts.{len-small, Child, child}
 use Rattle.theory_paths.specs.PlacesLand.{target-first, target-second}
 use Rattle.layout.specs.declared.place.BlockNumber.{BlockNumber}
 use Rattle.layout.specs.declared.place.BlockPlace.{BlockPlace}
-use Rattle.layout.specs.declared.place.BlockPosition.{BlockPosition}
+use Rattle.walk_steps.specs.declared.position.BlockPosition.{BlockPosition}
 use Rattle.layout.specs.Record.{FieldIn, field-in}
 use Rattle.walk_steps.specs.declared.DivRem.{DivRem}
 use Rattle.theory_counts.specs.LevelTrue.{tally, Level}

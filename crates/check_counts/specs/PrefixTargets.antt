@@ -5,7 +5,7 @@ use Prim.Native.Nat.{ℕ, _+_, _/_, _%_}
 use Rattle.text.specs.Text.{allBelow}
 use Rattle.format.specs.Layout as at
 use Rattle.theory_counts.specs.CountsLocal.{handBlock, handPlace, handPlus, handMinus, inLeafBytes, blockLocal}
-use Rattle.layout.specs.declared.place.BlockPosition.{BlockPosition}
+use Rattle.walk_steps.specs.declared.position.BlockPosition.{BlockPosition}
 use Rattle.check_counts.specs.declared.prefix.PrefixTarget.{PrefixTarget}
 
 module _ (t : List ℕ) where

@@ -1,11 +1,11 @@
 // Checks the counts of one counted byte in one block.
 use crate::prefix;
+use layout::fields;
 use layout::place::BlockNumber;
 use layout::place::BlockPlace;
-use layout::place::BlockPosition;
-use layout::place::LevelAt;
 use layout::record;
-use walk_steps::fields;
+use walk_steps::position::BlockPosition;
+use walk_steps::position::LevelAt;
 ghost use mathlib.Core.Bool.{true, false};
 ghost use mathlib.Core.Path.{_≡_};
 ghost use lib.Dec.{eqb};

@@ -2,8 +2,8 @@
 use crate::block_counts;
 use layout::header::Header;
 use layout::place::BlockNumber;
-use layout::place::LevelAt;
 use layout::record;
+use walk_steps::position::LevelAt;
 ghost use mathlib.Core.Path.{_≡_};
 ghost use Prim.Native.Nat.{_+_, _-_, _<_};
 ghost use Rattle.format.specs.Layout as at;

@@ -1,12 +1,12 @@
 // The count walk: how often a counted byte occurs in a kept block up to a place. It enters one child on each level.
 use crate::leaf_count;
+use layout::fields;
 use layout::header;
 use layout::place::BlockNumber;
 use layout::place::BlockPlace;
-use layout::place::BlockPosition;
-use layout::place::LevelAt;
 use layout::record;
-use walk_steps::fields;
+use walk_steps::position::BlockPosition;
+use walk_steps::position::LevelAt;
 ghost use mathlib.Core.Path.{_≡_};
 ghost use Prim.Native.Nat.{_+_, _-_, _≤_, _<_};
 ghost use Rattle.format.specs.Layout as at;

@@ -3,15 +3,15 @@
 use crate::equal;
 use layout::header::Header;
 use layout::place::BlockNumber;
-use layout::place::BlockOffset;
 use layout::place::BlockPlace;
-use layout::place::LevelAt;
 use layout::record;
 use layout::settings::Settings;
 use walk_short::gather;
 use walk_short::gather::Gathered;
 use walk_short::gather::Parts;
 use walk_short::gather::Stretch;
+use walk_steps::position::BlockOffset;
+use walk_steps::position::LevelAt;
 ghost use mathlib.Core.Bool.{true};
 ghost use mathlib.Core.Path.{_≡_};
 ghost use Prim.Native.Nat.{_+_, _-_, _≤_, _<_};

@@ -6,3 +6,4 @@ mod RecordLaws
 mod SettingsLaws
 pub mod TestLoops
 pub mod AnswerTests
+pub mod ShapeLaws

@@ -3,3 +3,4 @@ pub mod Header
 pub mod HeaderFields
 pub mod Record
 pub mod SettingsLevel
+pub mod Shapes

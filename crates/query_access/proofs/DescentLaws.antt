@@ -23,7 +23,7 @@ use Rattle.walk_steps.specs.Steps.{OnLevel, Pointing}
 use Rattle.walk_steps.specs.declared.DivRem.{DivRem}
 use Rattle.walk_steps.proofs.NextLaws.{level-below, pointing-not-kept}
 use Rattle.walk_steps.proofs.StepLaws.{pointing-gap, b-pos}
-use Rattle.layout.specs.declared.place.LevelAt.{LevelAt}
+use Rattle.walk_steps.specs.declared.position.LevelAt.{LevelAt}
 use Rattle.layout.specs.declared.place.BlockPlace.{BlockPlace}
 use Rattle.query_access.specs.declared.descent.Segment.{Segment}
 use Rattle.query_access.specs.declared.descent.Piece.{Piece}

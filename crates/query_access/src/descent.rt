@@ -3,14 +3,14 @@
 use crate::SpanAnswer;
 use crate::read_by_header;
 use crate::read_by_header::LeafRun;
+use layout::fields;
 use layout::place::BlockNumber;
-use layout::place::BlockOffset;
 use layout::place::BlockPlace;
-use layout::place::BlockPosition;
-use layout::place::LevelAt;
 use layout::record;
 use walk_steps::BlockKind;
-use walk_steps::fields;
+use walk_steps::position::BlockOffset;
+use walk_steps::position::BlockPosition;
+use walk_steps::position::LevelAt;
 ghost use mathlib.Core.Bool.{true, _&&_};
 ghost use mathlib.Core.Path.{_≡_};
 ghost use Prim.Native.Nat.{_+_, _*_, _/_, _≤_, _<_};

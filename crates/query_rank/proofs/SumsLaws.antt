@@ -22,7 +22,7 @@ use Rattle.layout.specs.declared.place.BlockPlace.{BlockPlace}
 use Rattle.layout.specs.Record.{FieldIn, field-in}
 use Rattle.walk_steps.specs.declared.BlockKind.{BlockKind}
 use Rattle.walk_steps.specs.declared.BlockKind.the-variants.{Points, Off}
-use Rattle.layout.specs.declared.place.BlockPosition.{BlockPosition}
+use Rattle.walk_steps.specs.declared.position.BlockPosition.{BlockPosition}
 use Rattle.walk_steps.specs.declared.BlockAt.{BlockAt}
 use Rattle.walk_steps.specs.declared.BlockAt.the-variants as arrived
 use Rattle.walk_steps.specs.Steps.{OnLevel, nextAt, childAt, landAt}

@@ -1,15 +1,15 @@
 // The sums along the path of a place, with the added and the subtracted parts apart. The steps of kept and pointing blocks are mutually
 // recursive. Their measure is 2 × (levels left), plus 1 while a pointer can be followed. A step carries no header and returns one word.
+use layout::fields;
 use layout::header::Header;
 use layout::place::BlockNumber;
-use layout::place::BlockPosition;
-use layout::place::LevelAt;
 use layout::place::TextPlace;
 use layout::record;
 use query_counted::CountedByte;
 use walk_steps::BlockAt;
 use walk_steps::BlockKind;
-use walk_steps::fields;
+use walk_steps::position::BlockPosition;
+use walk_steps::position::LevelAt;
 ghost use mathlib.Core.Path.{_≡_};
 ghost use mathlib.Core.Bool.{cond};
 ghost use Prim.Native.Nat.{_+_, _-_, _*_, _≤_, _<_};

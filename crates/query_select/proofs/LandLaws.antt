@@ -27,9 +27,10 @@ use Rattle.layout.specs.declared.place.BlockPlace.{BlockPlace}
 use Rattle.walk_steps.specs.declared.BlockKind.{BlockKind}
 use Rattle.walk_steps.specs.declared.BlockKind.the-variants as next
 use Rattle.walk_steps.specs.Steps.{OnLevel, InTable, nextAt}
-use Rattle.walk_steps.specs.declared.fields.Shape.{Shape}
+use Rattle.layout.specs.declared.fields.Shape.{Shape}
 use Rattle.walk_steps.proofs.NextLaws.{pointing-not-kept, level-below, next-kept, next-points, next-off}
-use Rattle.walk_steps.proofs.StepLaws.{kept-in, pointing-in, pointing-gap, b-small, b-pos, Shapes}
+use Rattle.layout.proofs.ShapeLaws.{Shapes}
+use Rattle.walk_steps.proofs.StepLaws.{kept-in, pointing-in, pointing-gap, b-small, b-pos}
 use Rattle.theory_counts.specs.LevelTrue.{Level, tally}
 use Rattle.theory_counts.specs.CountsLocal.{byteOf, inLeafBytes}
 use Rattle.theory_counts.specs.CountedStretches.{leaves-end, leaves-tally}

@@ -2,17 +2,17 @@
 // and pointing blocks are mutually recursive. Their measure is 2 × (levels left), plus 1 while a pointer can be followed. A step carries no header and
 // returns one word.
 use crate::FindAnswer;
+use layout::fields;
 use layout::header;
 use layout::header::Header;
 use layout::place::BlockNumber;
 use layout::place::BlockPlace;
-use layout::place::LevelAt;
 use layout::place::TextPlace;
 use layout::record;
 use layout::settings;
 use query_counted::CountedByte;
 use walk_steps::BlockKind;
-use walk_steps::fields;
+use walk_steps::position::LevelAt;
 ghost use mathlib.Core.Bool.{cond};
 ghost use mathlib.Core.Path.{_≡_};
 ghost use Prim.Native.Nat.{_+_, _-_, _*_, _/_, _≤_, _<_};

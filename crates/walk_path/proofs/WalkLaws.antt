@@ -20,7 +20,7 @@ use Rattle.layout.specs.declared.place.BlockNumber.{BlockNumber}
 use Rattle.layout.specs.declared.place.BlockPlace.{BlockPlace}
 use Rattle.walk_steps.specs.declared.BlockKind.{BlockKind}
 use Rattle.walk_steps.specs.declared.BlockKind.the-variants.{Kept, Points, Off}
-use Rattle.layout.specs.declared.place.BlockPosition.{BlockPosition}
+use Rattle.walk_steps.specs.declared.position.BlockPosition.{BlockPosition}
 use Rattle.walk_steps.specs.declared.BlockAt.{BlockAt}
 use Rattle.walk_steps.specs.declared.BlockAt.the-variants as arrived
 use Rattle.walk_path.specs.declared.WalkState.{WalkState}

@@ -1,12 +1,12 @@
 // The walk along the path of a place. The steps of kept and pointing blocks are mutually recursive. Their measure is 2 × (levels left), plus 1
 // while a pointer can be followed. A step carries no header and returns one word.
+use layout::fields;
 use layout::place::BlockNumber;
 use layout::place::BlockPlace;
-use layout::place::LevelAt;
 use layout::place::TextPlace;
 use walk_steps::BlockAt;
 use walk_steps::BlockKind;
-use walk_steps::fields;
+use walk_steps::position::LevelAt;
 ghost use mathlib.Core.Path.{_≡_};
 ghost use Prim.Native.Nat.{_+_, _-_, _*_, _≤_, _<_};
 ghost use Rattle.format.specs.Layout as at;

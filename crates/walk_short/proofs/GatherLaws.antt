@@ -24,9 +24,10 @@ use Rattle.layout.specs.Record.{EdgesIn}
 use Rattle.walk_steps.specs.declared.BlockKind.{BlockKind}
 use Rattle.walk_steps.specs.declared.BlockKind.the-variants as next
 use Rattle.walk_steps.specs.declared.DivRem.{DivRem}
-use Rattle.walk_steps.specs.declared.fields.Shape.{Shape}
+use Rattle.layout.specs.declared.fields.Shape.{Shape}
 use Rattle.walk_steps.specs.Steps.{nextAt, OnLevel, Pointing}
-use Rattle.walk_steps.proofs.StepLaws.{kept-in, pointing-gap, Shapes}
+use Rattle.layout.proofs.ShapeLaws.{Shapes}
+use Rattle.walk_steps.proofs.StepLaws.{kept-in, pointing-gap}
 use Rattle.walk_steps.proofs.NextLaws.{next-kept, next-points, next-off}
 use Rattle.walk_short.specs.declared.gather.Gathered.{Gathered}
 use Rattle.walk_short.specs.declared.gather.Gathered.the-variants.{At, Broken}

@@ -20,7 +20,7 @@ use Rattle.theory_paths.specs.Shift.{target-small}
 use Rattle.layout.specs.declared.header.Header.{Header}
 use Rattle.layout.specs.declared.place.BlockNumber.{BlockNumber}
 use Rattle.layout.specs.declared.place.BlockPlace.{BlockPlace}
-use Rattle.layout.specs.declared.place.BlockPosition.{BlockPosition}
+use Rattle.walk_steps.specs.declared.position.BlockPosition.{BlockPosition}
 use Rattle.layout.specs.HeaderFields.{HeaderOf}
 use Rattle.walk_steps.specs.Steps.{OnLevel}
 use Rattle.walk_steps.proofs.StepLaws.{b-small}

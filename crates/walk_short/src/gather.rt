@@ -1,17 +1,17 @@
 // The walk of a short span: it descends while one block contains the span, and takes the bytes at a border from two edges.
 use crate::packed;
+use layout::fields;
 use layout::header;
 use layout::header::Header;
 use layout::place::BlockNumber;
-use layout::place::BlockOffset;
 use layout::place::BlockPlace;
-use layout::place::BlockPosition;
-use layout::place::LevelAt;
 use layout::place::TextPlace;
 use layout::record;
 use layout::word;
 use walk_steps::BlockKind;
-use walk_steps::fields;
+use walk_steps::position::BlockOffset;
+use walk_steps::position::BlockPosition;
+use walk_steps::position::LevelAt;
 ghost use mathlib.Core.Bool.{true, _&&_};
 ghost use mathlib.Core.Path.{_≡_};
 ghost use Prim.Native.Nat.{_+_, _-_, _*_, _≤_, _<_};

@@ -9,7 +9,7 @@ use native.Mathlib.Nat.{add-zero, zero-mul, one-mul, div-add-mod'}
 use lib.Dec.{ltb}
 use borrow.Author.Tests.{ltb-true, lt-ltb, le-ltb, eq-eqb, ne-eqb}
 use Rattle.text.specs.ListLaws.{lt-or-ge, and-left, and-right, and-false}
-use Rattle.format.specs.Layout.{maxText, wordAt, plainWords, textLengthAt, arityAt, levelsAt, leafOffsetAt, leafCountAt}
+use Rattle.format.specs.Layout.{maxText, plainWords}
 use Rattle.format.specs.Layout as at
 use Rattle.format.specs.TreeReading.{keptBlock, pointingBlock, targetBlock, targetPlace}
 use Rattle.format.specs.LayoutLaws.{full-pos, full-small, level0-holds}
@@ -17,14 +17,13 @@ use Rattle.theory_paths.specs.PlacesLand.{target-first, target-second}
 use Rattle.layout.specs.Record.{FieldIn, field-in}
 use Rattle.layout.specs.declared.place.BlockNumber.{BlockNumber}
 use Rattle.layout.specs.declared.place.BlockPlace.{BlockPlace}
-use Rattle.layout.specs.declared.place.BlockPosition.{BlockPosition}
-use Rattle.walk_steps.specs.declared.fields.Shape.{Shape}
+use Rattle.walk_steps.specs.declared.position.BlockPosition.{BlockPosition}
 use Rattle.walk_steps.specs.declared.DivRem.{DivRem}
 use Rattle.walk_steps.specs.declared.BlockKind.{BlockKind}
 use Rattle.walk_steps.specs.declared.BlockKind.the-variants.{Kept, Points, Off}
 use Rattle.walk_steps.specs.declared.BlockAt.the-variants as arrived
 use Rattle.walk_steps.proofs.NextLaws.{next-kept, next-points, next-off}
-use Rattle.walk_steps.specs.Steps.{OnLevel, InTable, Pointing, nextAt, childAt, landAt, shapeOf}
+use Rattle.walk_steps.specs.Steps.{OnLevel, InTable, Pointing, nextAt, childAt, landAt}
 
 -- The first four fields of a block of a table can be read.
 pub field-there : (t : List ℕ) (size level b i f : ℕ) → OnLevel t size level b → i < at.levelCount t level → f < plainWords → FieldIn t size level i f
@@ -171,34 +170,6 @@ module _ (t : List ℕ) (l i o : ℕ) where
     pub land-off : x ≡ Off → arrived.Off ≡ landAt t l i o
     unfolding landAt
     land-off e = rw (next-off t l (targetBlock t l i o) (targetPlace t l i o) x x-is e .0, and-false (ltb (l + 1) (at.settings t .levels)))
-
--- What is read of the header.
-pub shape-is : (t : List ℕ) (n r h off count : ℕ)
-    → n ≡ wordAt t textLengthAt → r ≡ wordAt t arityAt → h ≡ wordAt t levelsAt → off ≡ wordAt t leafOffsetAt → count ≡ wordAt t leafCountAt
-    → record { length = n; arity = r; levels = h; «leaf_offset» = off; «leaf_count» = count } ≡ shapeOf t
-unfolding shapeOf at.textLength at.settings at.leafOffset at.leafCount
-shape-is t n r h off count a b c d e = rw (a, b, c, d, e)
-
-pub record Shapes (t : List ℕ) (x : Shape) : Type 0 where
-  pub length-is : x .length ≡ at.textLength t
-  pub arity-is : x .arity ≡ at.settings t .arity
-  pub levels-is : x .levels ≡ at.settings t .levels
-  pub offset-is : x .«leaf_offset» ≡ at.leafOffset t
-  pub count-is : x .«leaf_count» ≡ at.leafCount t
-
-pub shapes : (t : List ℕ) (x : Shape) → x ≡ shapeOf t → Shapes t x
-unfolding shapeOf
-shapes t x e = record {
-  length-is = ap (λ (y : Shape). y .length) e;
-  arity-is = ap (λ (y : Shape). y .arity) e;
-  levels-is = ap (λ (y : Shape). y .levels) e;
-  offset-is = ap (λ (y : Shape). y .«leaf_offset») e;
-  count-is = ap (λ (y : Shape). y .«leaf_count») e;
-}
-
--- The same bytes, reborrowed.
-pub shapes-on : (t u : List ℕ) (x : Shape) → u ≡ t → x ≡ shapeOf u → Shapes t x
-shapes-on t u x e f = shapes t x (f ∙ ap shapeOf e)
 
 -- The part of a place.
 pub part-is : (x b q : ℕ)

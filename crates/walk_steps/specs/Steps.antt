@@ -7,7 +7,6 @@ use lib.Dec.{ltb}
 use Rattle.format.specs.Layout as at
 use Rattle.format.specs.LayoutLaws.{Readable}
 use Rattle.format.specs.TreeReading.{keptBlock, pointingBlock, targetBlock, targetPlace}
-use Rattle.walk_steps.specs.declared.fields.Shape.{Shape}
 use Rattle.walk_steps.specs.declared.BlockKind.{BlockKind}
 use Rattle.walk_steps.specs.declared.BlockKind.the-variants.{Kept, Points, Off}
 use Rattle.walk_steps.specs.declared.BlockAt.{BlockAt}
@@ -31,17 +30,6 @@ module _ (t : List ℕ) where
   -- The kept block that place o of pointing block i of level l refers to.
   unfoldable pub landAt : ℕ → ℕ → ℕ → BlockAt
   landAt l i o = arriving (ltb (l + 1) (at.settings t .levels) && keptBlock t l (targetBlock t l i o)) (targetBlock t l i o) (targetPlace t l i o)
-
-  -- The fields of the header that a step needs.
-  unfoldable pub shapeOf : Shape
-  unfolding at.textLength at.settings at.leafOffset at.leafCount
-  shapeOf = record {
-    length = at.textLength t;
-    arity = at.settings t .arity;
-    levels = at.settings t .levels;
-    «leaf_offset» = at.leafOffset t;
-    «leaf_count» = at.leafCount t;
-  }
 
   -- A level of a tree that passes questions 5 to 7, with the size of its records and its block length b.
   pub record OnLevel (size level b : ℕ) : Type 0 where

@@ -1,13 +1,14 @@
 // The steps of a path: the kind of the block that is reached, and the block that a place refers to. A number past the table, even past 32 bits, is no block.
 // The starts of blocks are not read. `size` is the number of bytes of a record.
-pub mod fields;
+pub mod position;
 
+use crate::position::BlockOffset;
+use crate::position::BlockPosition;
+use crate::position::LevelAt;
 use layout::cut;
+use layout::fields;
 use layout::place::BlockNumber;
-use layout::place::BlockOffset;
 use layout::place::BlockPlace;
-use layout::place::BlockPosition;
-use layout::place::LevelAt;
 use layout::place::TextPlace;
 use layout::record;
 ghost use mathlib.Core.Path.{_≡_};

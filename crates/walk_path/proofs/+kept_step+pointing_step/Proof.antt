@@ -12,14 +12,14 @@ use Rattle.walk_path.proofs.pointing_step.Reads as pointing-step
 use Rattle.walk_path.proofs.pointing_step.Kinds as pointing-step-kinds
 use Rattle.walk_path.proofs.+kept_step+pointing_step.Lts-pointing_step as pointing-step-lts
 use Rattle.walk_steps.proofs.child.Reads as child-reads
-use Rattle.walk_steps.proofs.fields.shape_of.Reads as shape-of-reads
+use Rattle.layout.proofs.fields.shape_of.Reads as shape-of-reads
 use Rattle.walk_steps.proofs.quotient.Reads as quotient-reads
 use Rattle.walk_path.proofs.WalkState.enter.Reads as enter-reads
 use Rattle.walk_path.proofs.packed.Reads as packed-reads
 use Rattle.walk_path.proofs.to_kept.Reads as to-kept-reads
 use Rattle.format.specs.Layout as at
 use Rattle.walk_steps.proofs.CycleClaims.{at-measure, below-measure}
-use Rattle.walk_steps.proofs.StepLaws.{Shapes, shapes-on}
+use Rattle.layout.proofs.ShapeLaws.{Shapes, shapes}
 use Rattle.walk_path.proofs.WalkLaws as laws
 use Rattle.walk_path.proofs.+kept_step+pointing_step.{statement}
 use Rattle.walk_path.proofs.+kept_step+pointing_step.Tie.{close}
@@ -69,7 +69,7 @@ module _ {t : ℕ} (m : kept-step-lts.After-child (kept-claims t) (kept-step-at 
   S = m .before .before .before .before .before
 
   x : Shapes (S .args .t .now .now) (m .before .before .before .shape-of .result)
-  x = shapes-on _ _ _ refl (m .before .before .before .shape-of .ensures)
+  x = shapes _ _ (m .before .before .before .shape-of .ensures)
 
   above : S .args .on .level + 1 ≡ levels (S .args .t .now .now) → ⊥
   above last = omega (arith, S .pre .1 .1)
@@ -89,12 +89,12 @@ pub +kept-step+pointing-step-spec : {M : Type 1} → statement M
     (kept-step-at t)
     kept-step.Post
     (λ c κs. c .before .pre .1 .0 .on .facts .long)
-    (λ c κs. omega (arith, shapes-on _ _ _ refl (c .shape-of .ensures) .arity-is, c .before .before .pre .1 .0 .on .facts .bounds .arity-low))
+    (λ c κs. omega (arith, shapes _ _ (c .shape-of .ensures) .arity-is, c .before .before .pre .1 .0 .on .facts .bounds .arity-low))
     (λ c κs. let k = c .before .before .before .pre .1 .0 in (laws.entered-fits _ _ _ _ _ _ _ k, k .place-in))
     (λ c κs.
     let s = c .before .before in
     let S = s .before .before in
-    let x = shapes-on _ _ _ refl (s .shape-of .ensures) in
+    let x = shapes _ _ (s .shape-of .ensures) in
     laws.asks-child _ _ _ _ _ _ _ (S .pre .1 .0) (λ last. omega (arith, S .pre .1 .1))
     _ (c .before .quotient .ensures ∙ ap (λ (y : ℕ). S .args .on .b / y) (x .arity-is)))
     (λ c. search needs)

@@ -1,5 +1,6 @@
 use native.Mathlib.Omega.{arith}
 use borrow.Author.Needs.{needs}
+use Rattle.layout.proofs.ShapeLaws.{shapes}
 use Rattle.walk_steps.proofs.StepLaws as laws
 use Rattle.walk_steps.proofs.block_length.Statement.{statement}
 use Rattle.walk_steps.proofs.block_length.Tie as tie
@@ -12,4 +13,4 @@ block-length-spec =
     (λ c κs. search needs)
     (λ c κs. search needs)
     (λ c. laws.length-is _ _ _ _ _ _ _ (c .before .before .before .before .pre) (c .before .before .start .ensures)
-    (laws.shapes _ _ (c .before .shape-of .ensures) .length-is) _ (c .length-from .ensures)))
+    (shapes _ _ (c .before .shape-of .ensures) .length-is) _ (c .length-from .ensures)))

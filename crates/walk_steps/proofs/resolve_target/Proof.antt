@@ -1,5 +1,6 @@
 use native.Mathlib.Omega.{arith}
 use borrow.Author.Needs.{needs}
+use Rattle.layout.proofs.ShapeLaws.{shapes}
 use Rattle.walk_steps.proofs.StepLaws as laws
 use Rattle.walk_steps.proofs.resolve_target.Statement.{statement}
 use Rattle.walk_steps.proofs.resolve_target.Tie as tie
@@ -10,7 +11,7 @@ resolve-target-spec =
     (tie.spec
     (λ c κs. search needs)
     (λ c. search needs)
-    (λ c. laws.land-last _ _ _ _ (omega (arith, laws.shapes _ _ (c .before .before .shape-of .ensures) .levels-is, c .if1 .taken)))
+    (λ c. laws.land-last _ _ _ _ (omega (arith, shapes _ _ (c .before .before .shape-of .ensures) .levels-is, c .if1 .taken)))
     (λ c κs. search needs)
     (λ c. search needs)
     (λ c. search needs)
@@ -18,7 +19,7 @@ resolve-target-spec =
     (λ c. let e = c .before .before .before .before in laws.land-kept
     _ _ _ _ _ (c .before .before .before .target .ensures) _ _ (omega (
       arith,
-      laws.shapes _ _ (e .before .before .shape-of .ensures) .levels-is,
+      shapes _ _ (e .before .before .shape-of .ensures) .levels-is,
       e .if1 .left,
       e .before .before .before .before .pre .on .level-in,
     )) (c .before .i .given .1))

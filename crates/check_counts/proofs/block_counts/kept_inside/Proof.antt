@@ -2,7 +2,7 @@ use Prim.Native.Nat.{_+_}
 use borrow.Author.Needs.{needs}
 use native.Mathlib.Omega.{arith}
 use mathlib.Core.Path.{sym, _∙_}
-use Rattle.walk_steps.proofs.StepLaws.{shapes}
+use Rattle.layout.proofs.ShapeLaws.{shapes}
 use Rattle.check_counts.proofs.BlockCountsLaws as laws
 use Rattle.check_counts.proofs.CountsHeader as facts
 use Rattle.check_counts.proofs.block_counts.kept_inside.Statement.{statement}

@@ -14,10 +14,10 @@ use Rattle.check_counts.proofs.prefix.+up_to.Lts-up_to as up-to-lts
 use Rattle.check_counts.proofs.prefix.child_of.Reads as child-of-reads
 use Rattle.check_counts.proofs.prefix.in_last.Reads as in-last-reads
 use Rattle.check_counts.proofs.prefix.step.Reads as step-reads
-use Rattle.walk_steps.proofs.fields.shape_of.Reads as shape-of-reads
+use Rattle.layout.proofs.fields.shape_of.Reads as shape-of-reads
 use Rattle.walk_steps.proofs.quotient.Reads as quotient-reads
 use Rattle.walk_steps.proofs.CycleClaims.{at-measure, below-measure}
-use Rattle.walk_steps.proofs.StepLaws.{Shapes, shapes}
+use Rattle.layout.proofs.ShapeLaws.{Shapes, shapes}
 use Rattle.check_counts.proofs.prefix.+up_to.{statement}
 use Rattle.check_counts.proofs.prefix.+up_to.Tie.{close}
 

@@ -1,6 +1,6 @@
 use borrow.Author.Needs.{needs}
 use native.Mathlib.Omega.{arith}
-use Rattle.walk_steps.proofs.StepLaws.{shapes}
+use Rattle.layout.proofs.ShapeLaws.{shapes}
 use Rattle.check_counts.proofs.PrefixLaws as laws
 use Rattle.check_counts.proofs.CountsHeader as facts
 use Rattle.check_counts.proofs.prefix.in_leaves.Statement.{statement}

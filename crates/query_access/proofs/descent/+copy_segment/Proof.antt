@@ -6,8 +6,8 @@ use borrow.Fn.Kinds.{In}
 use borrow.Fn.PlainCycle.{Measures, is, falls, and}
 use lib.ListN.{length}
 use Rattle.format.specs.Layout as at
-use Rattle.walk_steps.proofs.StepLaws.{shapes}
-use Rattle.walk_steps.proofs.fields.shape_of.Reads as shape-of-reads
+use Rattle.layout.proofs.ShapeLaws.{shapes}
+use Rattle.layout.proofs.fields.shape_of.Reads as shape-of-reads
 use Rattle.query_access.proofs.SegmentLaws as segments
 use Rattle.query_access.proofs.descent.copy_leaves.Reads as copy-leaves-reads
 use Rattle.query_access.proofs.descent.next_segment.Reads as next-segment-reads

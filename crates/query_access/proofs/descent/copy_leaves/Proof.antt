@@ -2,7 +2,7 @@ use mathlib.Core.Path.{refl, ap}
 use Prim.Native.Nat.{ℕ, _+_}
 use native.Mathlib.Omega.{arith}
 use borrow.Author.Needs.{needs}
-use Rattle.walk_steps.proofs.StepLaws.{shapes}
+use Rattle.layout.proofs.ShapeLaws.{shapes}
 use Rattle.query_access.proofs.CopyLaws.{not-refused}
 use Rattle.query_access.proofs.SegmentLaws as segments
 use Rattle.query_access.proofs.descent.copy_leaves.Statement.{statement}

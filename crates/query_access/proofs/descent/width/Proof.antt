@@ -1,7 +1,7 @@
 use mathlib.Core.Path.{_∙_}
 use native.Mathlib.Omega.{arith}
 use borrow.Author.Needs.{needs}
-use Rattle.walk_steps.proofs.StepLaws.{shapes}
+use Rattle.layout.proofs.ShapeLaws.{shapes}
 use Rattle.query_access.proofs.DescentLaws as laws
 use Rattle.query_access.proofs.descent.width.Statement.{statement}
 use Rattle.query_access.proofs.descent.width.Tie as tie

@@ -15,13 +15,13 @@ use Rattle.query_rank.proofs.sums.across.Reads as across
 use Rattle.query_rank.proofs.sums.down.Reads as down
 use Rattle.query_rank.proofs.sums.leaf.Reads as leaf
 use Rattle.walk_steps.proofs.child.Reads as child
-use Rattle.walk_steps.proofs.fields.shape_of.Reads as shape
+use Rattle.layout.proofs.fields.shape_of.Reads as shape
 use Rattle.walk_steps.proofs.resolve_target.Reads as target
 use Rattle.walk_steps.proofs.classify_block.Reads as kind
 use Rattle.walk_steps.proofs.quotient.Reads as quotient
 use Rattle.format.specs.Layout as at
 use Rattle.walk_steps.proofs.CycleClaims.{at-measure, below-measure}
-use Rattle.walk_steps.proofs.StepLaws.{Shapes, shapes-on}
+use Rattle.layout.proofs.ShapeLaws.{Shapes, shapes}
 use Rattle.walk_path.proofs.WalkLaws as walk
 use Rattle.query_rank.proofs.SumsLaws as laws
 use Rattle.query_rank.proofs.sums.+kept_step+pointing_step.{statement}
@@ -77,7 +77,7 @@ module _ {t : ℕ} (e : kept-step-lts.Else1 (kept-claims t) (kept-step-at t) kep
   s = e .before .before .before
 
   x : Shapes (S .args .t .now .now) (s .shape-of .result)
-  x = shapes-on _ _ _ refl (s .shape-of .ensures)
+  x = shapes _ _ (s .shape-of .ensures)
 
   above : S .args .on .level + 1 ≡ levels (S .args .t .now .now) → ⊥
   above last = e .if1 .left (last ∙ sym (x .levels-is))
@@ -102,10 +102,10 @@ pub +kept-step+pointing-step-spec : {M : Type 1} → statement M
     (λ c.
     let s = c .before .before .before .before in
     laws.by-last _ _ _ _ _ _ _ _ _ _ (s .before .before .pre .1 .0)
-    (c .before .if1 .taken ∙ shapes-on _ _ _ refl (s .shape-of .ensures) .levels-is) (c .leaf .ensures))
+    (c .before .if1 .taken ∙ shapes _ _ (s .shape-of .ensures) .levels-is) (c .leaf .ensures))
     (λ c κs.
     let s = c .before .before .before in
-    omega (arith, shapes-on _ _ _ refl (s .shape-of .ensures) .arity-is, s .before .before .pre .1 .0 .on .facts .bounds .arity-low))
+    omega (arith, shapes _ _ (s .shape-of .ensures) .arity-is, s .before .before .pre .1 .0 .on .facts .bounds .arity-low))
     (λ c κs.
     let e = c .before in
     walk.asks-child _ _ _ _ _ _ _ (S e .pre .1 .0) (above e) _ (below e _ (c .quotient .ensures)))

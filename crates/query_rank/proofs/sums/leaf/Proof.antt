@@ -1,7 +1,8 @@
 use mathlib.Core.Path.{_∙_}
 use native.Mathlib.Omega.{arith}
 use borrow.Author.Needs.{needs}
-use Rattle.walk_steps.proofs.StepLaws.{kept-in, shapes}
+use Rattle.layout.proofs.ShapeLaws.{shapes}
+use Rattle.walk_steps.proofs.StepLaws.{kept-in}
 use Rattle.query_rank.proofs.SumsLaws as laws
 use Rattle.query_rank.proofs.sums.leaf.Statement.{statement}
 use Rattle.query_rank.proofs.sums.leaf.Tie as tie

@@ -5,8 +5,8 @@ use borrow.Fn.PlainCycle.{Measures}
 use native.Mathlib.Omega.{arith}
 use Rattle.format.specs.Layout as at
 use Rattle.walk_steps.proofs.CycleClaims.{at-measure, below-measure}
-use Rattle.walk_steps.proofs.StepLaws.{shapes-on}
-use Rattle.walk_steps.proofs.fields.shape_of.Reads as shape-of-reads
+use Rattle.layout.proofs.ShapeLaws.{shapes}
+use Rattle.layout.proofs.fields.shape_of.Reads as shape-of-reads
 use Rattle.walk_steps.proofs.quotient.Reads as quotient-reads
 use Rattle.query_select.proofs.LandLaws as laws
 use Rattle.query_select.proofs.seek.+kept_step+pointing_step.Lts-kept_step as kept-step-lts
@@ -52,16 +52,16 @@ pub +kept-step+pointing-step-spec : {M : Type 1} → statement M
     (λ c κs.
     let s = c .before .before .before in
     let p = s .before .before .pre .1 in
-    (p .0, p .1, c .if1 .taken ∙ shapes-on _ _ _ refl (s .shape-of .ensures) .levels-is))
+    (p .0, p .1, c .if1 .taken ∙ shapes _ _ (s .shape-of .ensures) .levels-is))
     (λ c. c .leaf-place .ensures)
     (λ c κs.
     let s = c .before .before .before in
-    omega (arith, shapes-on _ _ _ refl (s .shape-of .ensures) .arity-is, s .before .before .pre .1 .0 .on .facts .bounds .arity-low))
+    omega (arith, shapes _ _ (s .shape-of .ensures) .arity-is, s .before .before .pre .1 .0 .on .facts .bounds .arity-low))
     (λ c κs.
     let e = c .before in
     let s = e .before .before .before in
     let p = s .before .before .pre .1 in
-    let low = laws.lower-level _ _ _ _ _ _ (p .0 .on) (shapes-on _ _ _ refl (s .shape-of .ensures)) (e .if1 .left) (c .quotient .ensures) in
+    let low = laws.lower-level _ _ _ _ _ _ (p .0 .on) (shapes _ _ (s .shape-of .ensures)) (e .if1 .left) (c .quotient .ensures) in
     (p .0, low, p .1 .number-in, p .1 .low))
     (λ c. search needs)
     (λ c. search needs)
@@ -79,7 +79,7 @@ pub +kept-step+pointing-step-spec : {M : Type 1} → statement M
     let s = e .before .before .before in
     let S = s .before .before in
     let p = S .pre .1 in
-    let low = laws.lower-level _ _ _ _ _ _ (p .0 .on) (shapes-on _ _ _ refl (s .shape-of .ensures)) (e .if1 .left) (q .quotient .ensures) in
+    let low = laws.lower-level _ _ _ _ _ _ (p .0 .on) (shapes _ _ (s .shape-of .ensures)) (e .if1 .left) (q .quotient .ensures) in
     let z = n .child-with .ensures .chosen _ _ _ (c .before .before .next .given .1) in (
       omega (arith, S .pre .0, low .level-in),
       (record { on = low; block-in = z .in-table }, laws.to-child _ _ _ _ _ _ _ _ (p .0) (p .1) low _ _ _ _ z (c .enter .ensures)),
@@ -90,7 +90,7 @@ pub +kept-step+pointing-step-spec : {M : Type 1} → statement M
     let e = q .before in
     let s = e .before .before .before in
     let p = s .before .before .pre .1 in
-    let low = laws.lower-level _ _ _ _ _ _ (p .0 .on) (shapes-on _ _ _ refl (s .shape-of .ensures)) (e .if1 .left) (q .quotient .ensures) in
+    let low = laws.lower-level _ _ _ _ _ _ (p .0 .on) (shapes _ _ (s .shape-of .ensures)) (e .if1 .left) (q .quotient .ensures) in
     let z = n .child-with .ensures .chosen _ _ _ (c .before .before .before .next .given .1) in
     laws.by-child _ _ _ _ _ _ _ _ (p .0) (p .1) low _ _ _ _ z (c .before .enter .ensures) _ (c .pointing-step .ensures)))
     (λ t. pointing-step-lts.spec (

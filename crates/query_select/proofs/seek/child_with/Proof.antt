@@ -1,7 +1,8 @@
 use borrow.Author.Needs.{needs}
 use mathlib.Core.Path.{refl}
 use native.Mathlib.Omega.{arith}
-use Rattle.walk_steps.proofs.StepLaws.{kept-in, field-there, b-small, b-pos, shapes}
+use Rattle.layout.proofs.ShapeLaws.{shapes}
+use Rattle.walk_steps.proofs.StepLaws.{kept-in, field-there, b-small, b-pos}
 use Rattle.query_select.proofs.LandLaws as laws
 use Rattle.query_select.proofs.SeekLaws as counts
 use Rattle.query_select.proofs.seek.child_with.Statement.{statement}

@@ -1,7 +1,8 @@
 use borrow.Author.Needs.{needs}
 use mathlib.Core.Path.{_∙_}
 use native.Mathlib.Omega.{arith}
-use Rattle.walk_steps.proofs.StepLaws.{field-there, pointing-in, shapes}
+use Rattle.layout.proofs.ShapeLaws.{shapes}
+use Rattle.walk_steps.proofs.StepLaws.{field-there, pointing-in}
 use Rattle.query_select.proofs.LandLaws as laws
 use Rattle.query_select.proofs.seek.from_pointer.Statement.{statement}
 use Rattle.query_select.proofs.seek.from_pointer.Tie as tie

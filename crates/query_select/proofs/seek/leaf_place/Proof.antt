@@ -1,6 +1,7 @@
 use borrow.Author.Needs.{needs}
 use native.Mathlib.Omega.{arith}
-use Rattle.walk_steps.proofs.StepLaws.{kept-in, field-there, shapes}
+use Rattle.layout.proofs.ShapeLaws.{shapes}
+use Rattle.walk_steps.proofs.StepLaws.{kept-in, field-there}
 use Rattle.query_select.proofs.LandLaws as laws
 use Rattle.query_select.proofs.seek.leaf_place.Statement.{statement}
 use Rattle.query_select.proofs.seek.leaf_place.Tie as tie

@@ -11,10 +11,10 @@ use Rattle.walk_short.proofs.gather.+gather_packed.Lts-gather_packed as
 use Rattle.walk_short.proofs.gather.last.Reads as last-reads
 use Rattle.walk_short.proofs.gather.over.Reads as over-reads
 use Rattle.walk_short.proofs.gather.settle.Reads as settle-reads
-use Rattle.walk_steps.proofs.fields.shape_of.Reads as shape-of-reads
+use Rattle.layout.proofs.fields.shape_of.Reads as shape-of-reads
 use Rattle.walk_steps.proofs.quotient.Reads as quotient-reads
 use Rattle.walk_steps.proofs.CycleClaims.{at-measure, below-measure}
-use Rattle.walk_steps.proofs.StepLaws.{Shapes, shapes}
+use Rattle.layout.proofs.ShapeLaws.{Shapes, shapes}
 use Rattle.format.specs.Layout.{maxLevels}
 use Rattle.format.specs.Layout as at
 use Rattle.walk_short.proofs.PackedLaws.{unpacked-none}

@@ -2,7 +2,8 @@ use mathlib.Core.Path.{refl, _∙_}
 use borrow.Author.Needs.{needs}
 use native.Mathlib.Omega.{arith}
 use Rattle.layout.specs.Record.{field-in}
-use Rattle.walk_steps.proofs.StepLaws.{kept-in, shapes}
+use Rattle.layout.proofs.ShapeLaws.{shapes}
+use Rattle.walk_steps.proofs.StepLaws.{kept-in}
 use Rattle.walk_short.proofs.PackedLaws.{unpacked-none}
 use Rattle.walk_short.proofs.GatherLaws as laws
 use Rattle.walk_short.proofs.gather.leaf_part.Statement.{statement}

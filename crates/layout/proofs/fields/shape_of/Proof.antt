@@ -1,7 +1,7 @@
 use borrow.Author.Needs.{needs}
-use Rattle.walk_steps.proofs.StepLaws as laws
-use Rattle.walk_steps.proofs.fields.shape_of.Statement.{statement}
-use Rattle.walk_steps.proofs.fields.shape_of.Tie as tie
+use Rattle.layout.proofs.ShapeLaws as laws
+use Rattle.layout.proofs.fields.shape_of.Statement.{statement}
+use Rattle.layout.proofs.fields.shape_of.Tie as tie
 
 pub shape-of-spec : {M : Type 1} → statement M
 shape-of-spec =

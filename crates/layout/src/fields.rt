@@ -1,11 +1,11 @@
 // The fields of the header that a step needs. A step reads them from the tree, so its arguments fit in registers.
-use layout::header;
-use layout::word;
+use crate::header;
+use crate::word;
 ghost use mathlib.Core.Path.{_≡_};
 ghost use Prim.Native.Nat.{_≤_};
 ghost use lib.ListN.{length};
 ghost use Rattle.format.specs.Layout.{headerLength};
-ghost use Rattle.walk_steps.specs.Steps.{shapeOf};
+ghost use Rattle.layout.specs.Shapes.{shapeOf};
 
 pub struct Shape {
     // n, the length of the text.
@@ -31,12 +31,4 @@ pub fn shape_of(t: &[u8]) -> Shape
         leaf_offset: word::read(t, header::LEAF_OFFSET_AT),
         leaf_count: word::read(t, header::LEAF_COUNT_AT),
     }
-}
-
-// Reborrows the tree, so that a step passes on its borrow without keeping it.
-pub fn reborrow(t: &[u8]) -> &[u8]
-    ensures { λ r. ⌜ now r ≡ now (t .entry) ⌝ }
-{
-    let n = t.len();
-    &t[0..n]
 }
