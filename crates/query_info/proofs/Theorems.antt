@@ -1,5 +1,5 @@
 -- What a caller learns of a tree, as theorems over what the calls promise.
--- docs/FORMAT.md: "What is told without the text".
+-- docs/FORMAT.md: "Figures and sizes".
 use mathlib.Core.List.{List}
 use mathlib.Core.Path.{_≡_, refl, sym, ap, _∙_}
 use Prim.Native.Nat.{ℕ, zero, suc, _+_, _<_}

@@ -1,4 +1,4 @@
--- The sentences of docs/FORMAT.md, "Rows by their first bytes", as theorems over the contract `IsPrefixAnswer` of both calls.
+-- The sentences of docs/FORMAT.md, "Rows by prefix", as theorems over the contract `IsPrefixAnswer` of both calls.
 use mathlib.Core.List.{List, [], _++_}
 use mathlib.Core.Bool.{true, false, cond}
 use mathlib.Core.Path.{_≡_, _∙_}

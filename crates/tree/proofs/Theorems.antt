@@ -1,5 +1,5 @@
 -- The demands on build and check, as theorems over what their calls promise.
--- docs/FORMAT.md: "What is promised".
+-- docs/FORMAT.md: "What is proved".
 use mathlib.Core.List.{List, _++_, [], _∷_}
 use mathlib.Core.Path.{_≡_, sym, ap, _∙_, refl}
 use mathlib.Core.Logic.{_↔_}
