@@ -20,7 +20,7 @@ struct Row<'a> {
 }
 
 impl<'a> Row<'a> {
-    /// The bytes before the first space; the whole row where there is none.
+    /// The bytes before the first space; the whole row if there is none.
     fn code(&self) -> &'a [u8] {
         self.bytes.split(|&byte| byte == b' ').next().unwrap_or_default()
     }

@@ -71,7 +71,7 @@ fn option(option: &Opt) -> String {
     format!(".TP\n.B {}\n{}\n", plain(&option.forms()), plain(option.help))
 }
 
-/// Words without the meaning that some bytes have in a page.
+/// Words with the bytes that have a meaning in a manual page escaped.
 fn plain(words: &str) -> String {
     let words = words.replace('\\', "\\e").replace('-', "\\-").replace('"', "\\(dq");
     if words.starts_with(['.', '\'']) {

@@ -19,7 +19,7 @@ macro_rules! licence_days {
 pub struct Opt {
     pub long: &'static str,
     pub short: Option<char>,
-    /// What its value is called; None for a flag.
+    /// The name of its value; None for a flag.
     pub value: Option<&'static str>,
     /// The value is a file.
     pub file: bool,
@@ -461,12 +461,12 @@ pub static COMMANDS: [Command; 35] = [
 ];
 
 impl Word {
-    /// It names a tree, or may do so.
+    /// Whether the word can name a tree.
     pub fn is_tree(&self) -> bool {
         matches!(self.name, "TREE" | "BOOK TREE" | "ONE" | "OTHER")
     }
 
-    /// It names a file that is read; `-` is standard input.
+    /// Whether the word names a file that is read; `-` is standard input.
     pub fn is_file(&self) -> bool {
         matches!(self.name, "BOOK" | "TREE" | "BOOK TREE" | "FILE" | "GUIDE" | "ONE" | "OTHER")
     }
@@ -487,7 +487,7 @@ impl Command {
         self.options.iter().chain(&COMMON).copied()
     }
 
-    /// How it is called.
+    /// The usage line.
     pub fn usage(&self) -> String {
         let mut usage = format!("codebook {}", self.name);
         for Word { name, due } in self.words {
