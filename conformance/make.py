@@ -1,8 +1,8 @@
 #!/usr/bin/env python3
-"""Makes the files of this folder from the public cases, host/tests/vectors.txt and crates/cases/stdout: books, trees, and what is to be answered.
+"""Makes the files of this folder from the public cases, host/tests/vectors.txt and crates/cases/stdout: books, trees, questions and answers.
 
-    conformance/make.py            make them anew
-    conformance/make.py --check    say whether they are as they would be made; status 1 if not
+    conformance/make.py            write the files
+    conformance/make.py --check    status 1 if one of them is not current
 """
 
 import os
@@ -14,9 +14,9 @@ SOURCES = [("cases", "../crates/cases/stdout"), ("model", "../host/tests/vectors
 MADE = ["books", "good", "refused", "build.txt", "check.txt", "answers.txt", "answers-refused.txt"]
 HEADS = {
     "build.txt": "# BOOK leaf arity levels COUNTED => TREE, byte for byte; or the number of the refusal. COUNTED is hexadecimal, - for none.",
-    "check.txt": "# The check's number for each tree: 0 for a good one, else 5 to 9.",
-    "answers.txt": "# Questions put to good trees. README.md says how a line is read.",
-    "answers-refused.txt": "# Questions put to trees that the check refuses, where the format settles the answer all the same.",
+    "check.txt": "# The check's result for each tree: 0 if it is accepted, else the refusal, 5 to 9.",
+    "answers.txt": "# Questions on accepted trees. README.md describes the lines.",
+    "answers-refused.txt": "# Questions on trees that the check refuses, if the format specifies the answer.",
 }
 # Books and trees longer than this are left out: the bounds are in docs/FORMAT.md.
 LONGEST = 70_000
@@ -64,7 +64,7 @@ def cases(path):
 
 
 def read(path):
-    """The texts and trees, the check's numbers by their place among them, and the questions; a name stands for its place, since names come again."""
+    """The texts and trees, the check's numbers by their place among them, and the questions; a name is replaced by its place, since names are used again."""
     lent, checks, asked, place = [], {}, [], {}
     for words, answer in cases(path):
         if words[0] in ("text", "tree", "repeat", "pad"):
@@ -82,7 +82,7 @@ def read(path):
     return lent, checks, asked
 
 
-# how many of a question's words are names
+# how many words of a question are names
 place_words = dict.fromkeys("build list byte run count find span row column digest places match prefix guide guidecheck guided without_edges".split(), 1)
 place_words["order"] = 2
 
@@ -101,7 +101,7 @@ def build(files, source, name, text, words, answer):
 
 
 def shortened(kind, words, answer):
-    """A question's words and its answer without the lent buffer; None where the case is about the buffer, the table or what is left free."""
+    """A question's words and its answer without the buffer; None if the case is about the buffer, the table or an unspecified result."""
     number = answer[0]
     if number == "free" or number in ("13", "17", "25"):
         return None

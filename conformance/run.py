@@ -1,5 +1,5 @@
 #!/usr/bin/env python3
-"""Runs the cases of this folder against a builder, a check or a reader of your own; README.md says how.
+"""Runs the cases of this folder with a builder, a check or a reader; README.md describes how.
 
     conformance/run.py --build 'mybuild {book} {leaf} {arity} {levels} {counted} {tree}'
     conformance/run.py --check 'mycheck {tree}'
@@ -122,7 +122,7 @@ def main():
     parser = argparse.ArgumentParser(description=__doc__, formatter_class=argparse.RawDescriptionHelpFormatter)
     for option in ("--build", "--check", "--ask"):
         parser.add_argument(option, metavar="COMMAND")
-    parser.add_argument("--refused", action="store_true", help="ask also what is settled on trees that the check refuses")
+    parser.add_argument("--refused", action="store_true", help="also run the questions on trees that the check refuses")
     parser.add_argument("--all", action="store_true", help="show every wrong case, not only the first 20")
     given = parser.parse_args()
     runs = [(given.build, run_build), (given.check, run_check), (given.ask, lambda words: run_ask(words, given.refused))]

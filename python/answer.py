@@ -1,4 +1,4 @@
-"""A reader for conformance/run.py over the module: questions come one to a line, and are answered one to a line.
+"""A reader for conformance/run.py over the module: reads questions, one to a line, and prints their answers, one to a line.
 
     conformance/run.py --ask 'python3 ../python/answer.py' --refused
 """
@@ -37,7 +37,7 @@ def copied(read):
 
 
 def span(tree, place, length):
-    # what lies past the text's end is refused whatever the buffer
+    # a span past the end of the text is refused, whatever the buffer
     room = bytearray(length if place + length <= MAX_TEXT else 0)
     number, entered = _call("bt_span", tree.bytes, place, length, room)
     return number, entered, room.hex() if room and not number else "-"

@@ -242,7 +242,7 @@ def _build(text: Bytes, leaf: int, arity: int, levels: int, counted: Bytes) -> b
     room = bytearray(size_bound(min(len(text), 0xFFFFFFFF), leaf, arity, levels, counted))
     table = _words(scan_words(len(text), leaf))
     if len(table) > 0:
-        table[0] = int.from_bytes(os.urandom(4), "little")  # the seed of the fingerprints: unpredictable, so no text can be made to be slow
+        table[0] = int.from_bytes(os.urandom(4), "little")  # the seed of the fingerprints: random, so that nobody can make a text that is slow to build
     size, _ = _ask("bt_build_scanned", text, leaf, arity, levels, counted, table, room)
     return bytes(room[:size])
 

@@ -1,4 +1,4 @@
-"""The module against the public cases: each line of host/tests/vectors.txt and crates/cases/stdout that a call answers, and the module's own functions.
+"""Tests the module with the public cases, each line of host/tests/vectors.txt and crates/cases/stdout that has a call, and the module's own functions.
 
     python3 python/test_blocktree.py
 """
@@ -108,7 +108,7 @@ def renew(day):
     return number, "-" if number and lent == day else to_hex(lent)
 
 
-# what a case's words are, and the call
+# the types of a case's words, and the call
 ASKED = {
     "build": lambda named, t, m, r, h, c, room: with_buffer("bt_build", named[t], int(m), int(r), int(h), from_hex(c), room=int(room)),
     "scan": lambda named, t, m, r, h, c, words, room: scan(named[t], int(m), int(r), int(h), from_hex(c), int(words), int(room)),
@@ -144,7 +144,7 @@ def run_file(path):
     for line in open(os.path.join(HERE, path), encoding="ascii"):
         question, _, answer = line.strip().partition(" => ")
         words = question.split(" ")
-        # answers that are left free, and lines that are wrong on purpose
+        # unspecified results, and lines that are wrong on purpose
         if re.match("free|wrong", answer):
             continue
         if words[0] in ("text", "tree") and len(words) == 3:
@@ -163,7 +163,7 @@ def run_file(path):
 
 
 def own_functions():
-    """The tree of the small book, asked by the module's own functions."""
+    """The tree of the small book, read by the module's own functions."""
     text = open(os.path.join(HERE, "../books/small.txt"), "rb").read()
     rows = text.split(b"\n")[:-1]
     book = blocktree.Tree(blocktree.build(text, 24, 8, 3))
@@ -253,7 +253,7 @@ def hints():
 
 
 def refusals():
-    """Every refusal raises its number, and a number that is none is not lent."""
+    """Every refusal raises its number, and an argument that is not a 32-bit number is rejected."""
     book = blocktree.Tree(blocktree.build(b"A 1\n", 2, 2, 2))
     for number, ask in [
         (1, lambda: blocktree.build(bytes(8388609), 2, 2, 2)),
@@ -288,7 +288,7 @@ def refusals():
                 ask(number)
             except OverflowError:
                 continue
-            raise AssertionError("%d was lent" % number)
+            raise AssertionError("%d was accepted" % number)
 
 
 def other_types():

@@ -35,7 +35,7 @@ enum Change<'a> {
 }
 
 pub fn diff(given: &Given) -> Result<(), Failure> {
-    let (one, other) = (text(given, given.file(0)).map_err(Failure::trouble)?, text(given, given.file(1)).map_err(Failure::trouble)?);
+    let (one, other) = (text(given, given.file(0)).map_err(Failure::with_status_2)?, text(given, given.file(1)).map_err(Failure::with_status_2)?);
     let (old, new) = (rows(&one.bytes), rows(&other.bytes));
     let changes = changes(&old, &new);
     let printed: Vec<u8> = changes.iter().flat_map(|change| if given.json() { change.object().line().into_bytes() } else { change.line() }).collect();

@@ -62,7 +62,7 @@ impl Failure {
     }
 
     /// The same failure with status 2, for commands in which status 1 has another meaning.
-    pub fn failures_have_status_2(self) -> Self {
+    pub fn with_status_2(self) -> Self {
         Failure { status: 2, ..self }
     }
 

@@ -423,7 +423,7 @@ pub static COMMANDS: [Command; 35] = [
         words: &[one("LENGTH")],
         options: &[&LEAF, &ARITY, &LEVELS, &COUNT, &JSON],
         summary: "print the sizes of the buffers that a caller needs",
-        details: "For a text of LENGTH bytes: a size that is enough for its tree, and the words of the table for bt_build_scanned. --leaf, --arity and --levels are required.",
+        details: "For a text of LENGTH bytes: an upper bound of the size of its tree, and the words of the table for bt_build_scanned. --leaf, --arity and --levels are required.",
         run: stats::sizes,
     },
     Command {
