@@ -45,7 +45,7 @@ abbrev pub NeverZero : Reply → Type 0
 NeverZero (figures value entered) = Unit {0}
 NeverZero (refusal number) = 1 ≤ number
 
--- r, an enum's value whose cases `reply` gives, is an answer that `allowed` lets through
+-- The value r of an enum, read by `reply`, is an allowed answer, and no refusal in it has the number 0.
 pub record Allowed {A : Type 0} (reply : A → Reply) (allowed : Answer → Type 0) (r : A) : Type 0 where
   pub answers : allowed (replied (reply r))
   pub numbered : NeverZero (reply r)
@@ -244,7 +244,7 @@ module _ (t : List ℕ) where
       unless (headerResult t) (unless asked (cond (eqb i 0) (refused 0) walked))
 
 -- What find (select) may return for any bytes given as a tree: one answer if a question refuses or the tree is valid, else any of those that the format
--- leaves free.
+-- leaves unspecified.
 -- docs/FORMAT.md: "Find", "Unspecified results".
 
 module _ (t : List ℕ) where

@@ -250,11 +250,11 @@ abbrev pub asks : List (ℕ × Bool) → ℕ
 asks [] = 0
 asks (q ∷ qs) = ask (q .0) (q .1) (asks qs)
 
--- The number of questions that refuse, else what the next ones say.
+-- The refusal of some questions, or, if they pass, that of the next ones.
 abbrev pub orNext : ℕ → ℕ → ℕ
 orNext number next = cond (eqb number 0) next number
 
--- Questions 5 to 7, which every question put to a tree asks first.
+-- Questions 5 to 7, which every call on a tree tests first.
 unfoldable pub headerResult : List ℕ → ℕ
 headerResult t = asks ((5, at.holdsHeader t) ∷ (6, at.layoutOk t) ∷ (7, at.headerOk t) ∷ [])
 

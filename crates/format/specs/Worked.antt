@@ -87,7 +87,7 @@ older-twelve =
     48 0 ++ wordsBytes (212 ∷ 8 ∷ words plain twelve 0 ++ words plain twelve 1) ++ replicate 8 65
 
 -- The table: the worked book's level 0 and where the rest of its tree lies, M1 to M10, the path of place 18, the text read back
--- and the verdict; edges and short spans; and the book's tree in layout 1.
+-- and the result of the check; edges and short spans; and the book's tree in layout 1.
 pub record Marked : Type 0 where
   level0 : tabulate 5 (recordOf two book 0 (startsAt two book 0)) ≡
       (0 ∷ 0 ∷ 0 ∷ 0 ∷ 0 ∷ 1 ∷ 0 ∷ [])

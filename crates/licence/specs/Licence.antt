@@ -1,4 +1,4 @@
--- The term of a licence: the calendar, written days, and what the calls return.
+-- Licence dates: the calendar, written days, and what the calls return.
 -- docs/FORMAT.md: "Licence dates".
 use mathlib.Core.List.{List, [], _∷_}
 use mathlib.Core.Bool.{Bool, cond, not, _&&_, _||_, true, false}

@@ -76,7 +76,7 @@ abbrev pub placesReply : PlacesAnswer → Reply
 placesReply (places.Number n) = figures n 0
 placesReply (places.Refused number) = refusal number
 
--- What is answered with room for so many words.
+-- The answer of places with a table of `room` words.
 abbrev pub IsPlacesAnswer : (t P : List ℕ) (room : ℕ) → PlacesAnswer → Type 0
 IsPlacesAnswer t P room = Is placesReply (placesAnswer t P room)
 

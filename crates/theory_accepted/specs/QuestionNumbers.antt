@@ -54,7 +54,7 @@ pub unless-one : (xs ys : List ℕ) (n : ℕ) (s : Answer) → OneOf (xs ++ 0 �
 unless-one xs ys zero s h k = of-right xs ys (s .number) k
 unless-one xs ys (suc n) s h k = of-left xs ys (suc n) (not-zero xs (suc n) (omega arith) h)
 
--- The same of numbers alone.
+-- The same for numbers without figures.
 pub then-one : (xs ys : List ℕ) (n rest : ℕ) → OneOf (xs ++ 0 ∷ []) n → OneOf ys rest → OneOf (xs ++ ys) (cond (eqb n 0) rest n)
 then-one xs ys n rest h k = rw (then-is n rest) (unless-one xs ys n (refused rest) h k)
 

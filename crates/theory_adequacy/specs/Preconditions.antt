@@ -38,7 +38,7 @@ abbrev pub call : (f : Function)
     → NoPrecondition f → Call
 call f met nothing = record { function = f; ends = ends f met; asks-nothing = nothing }
 
--- The same of a function by its parts, as the modules of its crate have them.
+-- The same for a function given by its parts, as the modules of its crate define them.
 abbrev pub callOf : (r : Routine) (s : Signature)
     (clauses : (𝓤 : URA Closed.Res) (H : Heap 𝓤) (A : Atoms 𝓤) → (Memory → SProp 𝓤) → (Routine → Fun 𝓤) → Spec 𝓤 s)
     → ((𝓤 : URA Closed.Res) (H : Heap 𝓤) (𝓜 : Model 𝓤 H) (𝓖 : GhostRules 𝓤 H) (𝓡 : Running 𝓤 H 𝓜)

@@ -15,7 +15,7 @@ module _ (at : ℕ → ℕ) (n : ℕ) where
     pub within : p + len ≤ n
     pub absent : (q : ℕ) → q < p → Same q p len → ⊥
 
-  -- A stretch around a first occurrence is one too.
+  -- Bytes that contain a first occurrence occur there first too.
   pub around : (s L p len : ℕ) → First p len → s ≤ p → p + len ≤ s + L → s + L ≤ n → First s L
   around s L p len f lo hi fits = record {
     within = fits;
