@@ -104,7 +104,7 @@ module _ (t : List ℕ) where
   unfoldable pub runAnswer : ℕ → ℕ × ℕ
   runAnswer p = cond (eqb (byteAnswer p .number) 0) (runOf p (pathOf t p)) (0, 0)
 
-  -- The refusal of a span, where `reached` says whether its bytes can be read: questions 5 to 7, then 10, 13 and 14.
+  -- The refusal of a span: questions 5 to 7, then 10, 13 and 14. `reached` is whether its bytes can be read.
   unfoldable pub spanQuestions : ℕ → ℕ → ℕ → Bool → ℕ
   spanQuestions p len room reached =
       orNext (headerResult t) (asks ((10, leb (p + len) (at.textLength t)) ∷ (13, leb len room) ∷ (14, reached) ∷ []))

@@ -1,4 +1,4 @@
--- A tree is accepted exactly where it passes questions 5 to 9.
+-- A tree is accepted exactly if it passes questions 5 to 9.
 use mathlib.Core.List.{List, [], _∷_}
 use mathlib.Core.Bool.{Bool, true, false, _&&_}
 use mathlib.Core.Path.{_≡_, refl}

@@ -45,7 +45,7 @@ abcd = 65 ∷ 66 ∷ 67 ∷ 68 ∷ 65 ∷ 66 ∷ 67 ∷ 68 ∷ 65 ∷ []
 answered : ℕ → ℕ → ℕ → Answer
 answered q v e = record { number = q; value = v; entered = e }
 
--- A span: its number, its length, the blocks entered, and what it leaves of three bytes 1.
+-- A span: its refusal, its length, the blocks entered, and a buffer of three bytes 1 afterwards.
 spanned : List ℕ → ℕ → ℕ → Answer × List ℕ
 spanned t p len = (spanAnswer t p len 3, spanBuffer t p len (1 ∷ 1 ∷ 1 ∷ []))
 
@@ -206,7 +206,7 @@ laid-out first second leaf leaves rest =
 no-bytes-tree : List ℕ
 no-bytes-tree = treeOf two []
 
--- The tree of a text of no bytes: the header alone.
+-- The tree of the empty text: only the header.
 pub record Empty : Type 0 where
   bytes : no-bytes-tree ≡
       wordsBytes (2 ∷ 0 ∷ 2 ∷ 2 ∷ 2 ∷ 1 ∷ 65 ∷ 0 ∷ 100 ∷ 0 ∷ 100 ∷ []) ++ replicate 48 0 ++ wordsBytes (100 ∷ 0 ∷ [])

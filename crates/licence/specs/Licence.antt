@@ -123,7 +123,7 @@ module _ (day : List ℕ) where
 
 -- The answers of the calls on a licence by their refusals and values (docs/FORMAT.md, "Licence dates").
 
--- An answer's number, and whether it says open.
+-- An answer's refusal, and whether the book is open.
 abbrev pub openOnReplyRefusal : OpenOnAnswer → ℕ
 openOnReplyRefusal opened.Open = 0
 openOnReplyRefusal opened.Closed = 0

@@ -1,5 +1,5 @@
 -- The demands on the reading of a row by columns, as theorems over what the call promises: of any tree that passes questions 5 to 7, and of every tree
--- that the check accepts, whoever built it.
+-- that the check accepts, however it was built.
 -- docs/FORMAT.md: "Columns before rows".
 use mathlib.Core.List.{List, _++_}
 use mathlib.Core.Bool.{true, false}

@@ -69,7 +69,7 @@ unfolding checkResult
 checked-one t =
     asks-one ((5, at.holdsHeader t) ∷ (6, at.layoutOk t) ∷ (7, at.headerOk t) ∷ (8, linksOk t) ∷ (9, countsTrue (textOf t) t && edgesTrue (textOf t) t) ∷ [])
 
--- The number of what follows questions, where it is a refusal and where it is none.
+-- The refusal of an answer that follows questions, if it is refused and if not.
 pub answers-refused : (n m v w : ℕ) → 1 ≤ n → refused n ≡ unless m (record { number = 0; value = v; entered = w }) → n ≡ m
 answers-refused n zero v w low e = absurd (let z : n ≡ 0 = ap (λ (s : Answer). s .number) e in omega arith)
 answers-refused n (suc m) v w low e = ap (λ (s : Answer). s .number) e

@@ -75,7 +75,7 @@ module _ (t : List ℕ) (v : checkResult t ≡ 0) (counted : isCounted t 10 ≡ 
             (asks-lets t q (record { pass = pass; counted = counted; some-byte = some; number = e ∙ ap (λ (n : ℕ). n + 1) (sym all-is) })) h
         go (inr none) = omega arith
 
-    -- A text of no bytes has no row to add.
+    -- The empty text has no row to add.
     closed : at.textLength t ≡ 0 → endsOpen T ≡ false
     unfolding endsOpen
     closed z = rw (text-length t, z)
