@@ -17,7 +17,7 @@ use Rattle.query_rank.proofs.sums.leaf.Reads as leaf-reads
 use Rattle.walk_steps.proofs.child.Reads as child-reads
 use Rattle.walk_steps.proofs.fields.shape_of.Reads as shape-of-reads
 use Rattle.walk_steps.proofs.fields.reborrow.Reads as whole-reads
-use Rattle.walk_steps.proofs.resolve_target.Reads as land-reads
+use Rattle.walk_steps.proofs.resolve_target.Reads as target-reads
 use Rattle.walk_steps.proofs.classify_block.Reads as look-reads
 use Rattle.walk_steps.proofs.quotient.Reads as quotient-reads
 use Rattle.format.specs.Layout as at
@@ -69,8 +69,8 @@ pointing-claims t = (
   look-reads.Learnt,
   below-measure kept-step-kinds.ps μ-kept-step kept-step.Pre t,
   kept-step.Post,
-  land-reads.Asked,
-  land-reads.Learnt,
+  target-reads.Asked,
+  target-reads.Learnt,
   across-reads.Asked,
   across-reads.Learnt,
 )
