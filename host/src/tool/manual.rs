@@ -43,7 +43,7 @@ prints, apart from the tree, and give it to
 .BR \"check \\-\\-text\\-sha256\" ;
 or compare the tree with its book by
 .BR verify .
-A digest is as good as the way it came.
+A digest is only as trustworthy as its source.
 ";
 
 /// All of codebook.1.

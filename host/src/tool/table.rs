@@ -195,7 +195,7 @@ pub static COMMANDS: [Command; 35] = [
         summary: "check whether files are valid trees",
         details: "A valid tree represents exactly one text, and its counts and edges are right. Prints the SHA-256 of the tree and of its text. \
                   A tree with one leaf byte changed, and its edges with it, is a valid tree of another book, and gives a wrong key. So compare the text with the digest that the maker of the book published (--text-sha256), or the file with the digest of the tree (--sha256). \
-                  A digest is as good as the way it came: one that came with the tree shows nothing.\n\
+                  A digest is only as trustworthy as its source: one that came with the tree shows nothing.\n\
                   If there is a manifest TREE.json, the tree must have all its figures, and a guide that it names must be the tree's. \
                   With --sums a line is printed for each tree, as sha256sum prints it for the file; -c LIST checks the trees of such a list, from codebook or from sha256sum. Names are relative to the current folder, as with sha256sum -c; a line of another form is refused.",
         run: check::check,
