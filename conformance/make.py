@@ -27,14 +27,14 @@ def from_hex(word):
 
 
 class Files:
-    """What is made: for each path its bytes."""
+    """The files to write: the bytes of each path."""
 
     def __init__(self):
         self.bytes = {}
         self.lines = {name: [] for name in HEADS}
 
     def enter(self, folder, name, lent):
-        """The path of a file with these bytes; one file serves all that are the same."""
+        """The path of a file with these bytes; equal bytes have one file."""
         for path, other in self.bytes.items():
             if other == lent and path.startswith(folder + "/"):
                 return path
@@ -120,18 +120,18 @@ def shortened(kind, words, answer):
 
 
 def guides_of(asked):
-    """The words of each tree's guide, by the tree's place, where a case has them."""
+    """The words of each tree's guide, by the tree's place, if a case has them."""
     return {places[0]: shortened(kind, words, answer)[1].split(" ")[1] for kind, _, places, words, answer in asked if kind == "guide" and answer[0] == "0"}
 
 
 def with_guide(guides, place, words, answer):
-    """A prefix question's words with a guide: the tree's own, or none where a number refuses before the guide is read. None where no guide is known."""
+    """A prefix question's words with a guide: the tree's own, or none if the question is refused before the guide is read. None if no guide is known."""
     guide = guides.get(place) if answer.startswith("0 ") else "-"
     return guide and [guide] + words
 
 
 def enter_trees(files, source, lent, checks):
-    """The trees that a check settles; the path of each by its place."""
+    """Writes the trees that have a check's result; the path of each by its place."""
     paths = {}
     for place, (name, number) in checks.items():
         if len(lent[place]) <= LONGEST:

@@ -78,7 +78,7 @@ def named(path, name):
 
 
 def believed():
-    """The files, each after those that it rests on."""
+    """The files, each after those that it depends on."""
     order = []
 
     def add(path):

@@ -45,7 +45,7 @@ RELATIONS = {"≡", "<", "≤", "⊥"}
 
 
 def first_error(log):
-    """What was refused first: the first error of a log with the lines that go on with it. A function without a proof file has no error of its own, only a
+    """The first error of a log, with the lines that continue it. A function without a proof file has no error of its own, only a
     note of what is not proved of it, and what waits on it is not admitted: then the note is what was refused."""
     error = re.search(r"^\S+:\d+:\d+: error: (.*?)(?=^\S+:\d+:\d+: |^note: |^(?:fn|struct|enum) |\Z)", log, re.M | re.S)
     note = re.search(r"^note: \S+:\d+:\d+: (it is not proved .*)$", log, re.M)
@@ -55,7 +55,7 @@ def first_error(log):
 
 
 def parts(printed, operator):
-    """A printed proposition, cut where the operator stands outside all brackets."""
+    """A printed proposition, cut at the operator outside all brackets."""
     depth, found = 0, [""]
     for token in re.findall(r"[(){}\[\]]|[^\s(){}\[\]]+|\s+", printed):
         depth += (token in "({[") - (token in ")}]")
@@ -67,7 +67,7 @@ def parts(printed, operator):
 
 
 def unwrapped(printed):
-    """A printed proposition without the bracket that holds all of it."""
+    """A printed proposition without brackets around the whole of it."""
     depth = 0
     for at, letter in enumerate(printed):
         depth += (letter in "({[") - (letter in ")}]")
@@ -109,7 +109,7 @@ def relation(printed):
 
 
 def known(name):
-    """Whether all that a relation is made of is a relation or a definition, and no variable."""
+    """Whether a relation contains only relations and definitions, and no variable."""
     return all(part in RELATIONS or part[:1].isupper() and part not in ("Post", "Learnt") for part in re.split(r" [→×⊎] ", name))
 
 
@@ -232,7 +232,7 @@ FORM_SAMPLES = [
 
 
 def self_test():
-    """Whether the samples are told apart: those of a fact accepted, those of form not."""
+    """Whether the samples of a false fact are accepted, and those of a misfit are not."""
     contract = {"span_at": "SpanAnswer"}
     wrong = [s for s in FACT_SAMPLES if not false_fact(s, lambda name: contract.get(name.split(".")[-3], ""))]
     wrong += [s for s in FORM_SAMPLES if false_fact(s, lambda name: contract.get(name.split(".")[-3], ""))]

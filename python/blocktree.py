@@ -218,7 +218,7 @@ def version() -> Tuple[int, int, int]:
 
 
 def size_bound(n: int, leaf: int, arity: int, levels: int, counted: Bytes = b"\n") -> int:
-    """A size that is enough for the tree of any text of n bytes."""
+    """The size bound: no tree of a text of n bytes is larger."""
     return _ask("bt_size_bound", n, leaf, arity, levels, len(_bytes(counted)))
 
 
@@ -451,7 +451,7 @@ class Tree:
         return bytes(room[: 4 * words])
 
     def check_guide(self, guide: Bytes) -> None:
-        """RefusedError if it is not exactly the guide of this tree."""
+        """Raises RefusedError if the bytes are not exactly the guide of this tree."""
         _ask("bt_check_guide", self.bytes, guide)
 
     def without_edges(self) -> bytes:

@@ -41,7 +41,7 @@ def filled_words(number):
 
 
 def with_buffer(name, *given, room):
-    """The answer, and what the buffer holds afterwards."""
+    """The answer, and the buffer afterwards."""
     lent = filled(room)
     return (*_call(name, *given, lent), to_hex(lent))
 
@@ -199,7 +199,7 @@ def own_functions():
 
 
 def digests():
-    """Beside hashlib, on all lengths around the ends of blocks, as texts and as trees."""
+    """Digests compared with hashlib, on all lengths around the ends of blocks, as texts and as trees."""
     for length in [*range(0, 200), *range(1016, 1034), 4095, 4096, 4097, 1 << 20]:
         text = bytes((place * place >> 3) & 255 for place in range(length))
         due = hashlib.sha256(text).digest()
@@ -208,7 +208,7 @@ def digests():
 
 
 def settings_left_out():
-    """build without settings makes the smallest tree of the short list; some of them alone are a mistake."""
+    """build without settings makes the smallest tree of the short list; settings that are given only in part are an error."""
     text = open(os.path.join(HERE, "../books/small.txt"), "rb").read()
     trees = [blocktree.build(text, *settings) for settings in blocktree.SHORT_LIST]
     assert blocktree.build(text) == blocktree.build(text, 32, 6, 2) == min(trees, key=len)
@@ -243,7 +243,7 @@ def as_a_sequence():
 
 
 def hints():
-    """Every public function and method has a type for each argument and for its answer, which a reader of hints can evaluate."""
+    """Every public function and method has a type for each argument and for its answer, which a type checker can evaluate."""
     functions = [getattr(blocktree, name) for name in blocktree.__all__ if inspect.isfunction(getattr(blocktree, name))]
     functions += [method for name, method in inspect.getmembers(blocktree.Tree, inspect.isfunction)]
     assert len(functions) > 25
@@ -292,7 +292,7 @@ def refusals():
 
 
 def other_types():
-    """A number, a string or a list in place of bytes is a TypeError; any bytes-like object is good."""
+    """A number, a string or a list in place of bytes is a TypeError; any bytes-like object is accepted."""
     book = blocktree.Tree(bytearray(blocktree.build(memoryview(b"A 1\n"), 2, 2, 2)))
     assert book.places(bytearray(b"1")) == book.places(memoryview(b"x1x")[1:2]) == [2]
     for wrong in (5, "5", [5], None):
