@@ -33,13 +33,13 @@ class Files:
         self.bytes = {}
         self.lines = {name: [] for name in HEADS}
 
-    def enter(self, folder, name, lent):
+    def enter(self, folder, name, data):
         """The path of a file with these bytes; equal bytes have one file."""
         for path, other in self.bytes.items():
-            if other == lent and path.startswith(folder + "/"):
+            if other == data and path.startswith(folder + "/"):
                 return path
         path = "%s/%s" % (folder, name)
-        self.bytes[path] = lent
+        self.bytes[path] = data
         return path
 
     def line(self, name, words, answer):
@@ -65,21 +65,21 @@ def cases(path):
 
 def read(path):
     """The texts and trees, the check's numbers by their place among them, and the questions; a name is replaced by its place, since names are used again."""
-    lent, checks, asked, place = [], {}, [], {}
+    data, checks, asked, place = [], {}, [], {}
     for words, answer in cases(path):
         if words[0] in ("text", "tree", "repeat", "pad"):
             if words[0] == "pad":
-                made = lent[place[words[2]]].ljust(int(words[3]), b"\0")
+                made = data[place[words[2]]].ljust(int(words[3]), b"\0")
             else:
                 made = from_hex(words[2]) * (int(words[3]) if words[0] == "repeat" else 1)
-            place[words[1]] = len(lent)
-            lent.append(made)
+            place[words[1]] = len(data)
+            data.append(made)
         elif words[0] == "check":
             checks[place[words[1]]] = (words[1], int(answer[0]))
         elif words[0] in place_words:
             many = place_words[words[0]]
             asked.append((words[0], words[1 : 1 + many], [place[word] for word in words[1 : 1 + many]], words[1 + many :], answer))
-    return lent, checks, asked
+    return data, checks, asked
 
 
 # how many words of a question are names
@@ -130,13 +130,13 @@ def with_guide(guides, place, words, answer):
     return guide and [guide] + words
 
 
-def enter_trees(files, source, lent, checks):
+def enter_trees(files, source, data, checks):
     """Writes the trees that have a check's result; the path of each by its place."""
     paths = {}
     for place, (name, number) in checks.items():
-        if len(lent[place]) <= LONGEST:
+        if len(data[place]) <= LONGEST:
             label = "%d-%s-%s-%d.tree" % (number, source, name, place) if number else "%s-%s-%d.tree" % (source, name, place)
-            paths[place] = files.enter("refused" if number else "good", label, lent[place])
+            paths[place] = files.enter("refused" if number else "good", label, data[place])
             files.line("check.txt", ["check", paths[place]], str(number))
     return paths
 
@@ -145,12 +145,12 @@ def made():
     """All files."""
     files = Files()
     for source, path in SOURCES:
-        lent, checks, asked = read(path)
-        paths = enter_trees(files, source, lent, checks)
+        data, checks, asked = read(path)
+        paths = enter_trees(files, source, data, checks)
         guides = guides_of(asked)
         for kind, names, places, words, answer in asked:
             if kind == "build":
-                build(files, source, names[0], lent[places[0]], words, answer)
+                build(files, source, names[0], data[places[0]], words, answer)
                 continue
             short = shortened(kind, words, answer) if all(place in paths for place in places) else None
             if short:
@@ -180,10 +180,10 @@ def main():
         return 1 if other else 0
     for part in MADE:
         shutil.rmtree(os.path.join(HERE, part), ignore_errors=True)
-    for path, lent in files.items():
+    for path, data in files.items():
         os.makedirs(os.path.dirname(os.path.join(HERE, path)), exist_ok=True)
         with open(os.path.join(HERE, path), "wb") as file:
-            file.write(lent)
+            file.write(data)
     counts = [sum(path.startswith(part) for path in files) for part in ("books/", "good/", "refused/")]
     print("%d books, %d good trees, %d refused trees" % tuple(counts))
     return 0

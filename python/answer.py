@@ -43,18 +43,18 @@ def span(tree, place, length):
     return number, entered, room.hex() if room and not number else "-"
 
 
-def match(tree, lent, mark):
-    number, after, row = _call("bt_next_match", tree.bytes, lent, mark)
+def match(tree, data, mark):
+    number, after, row = _call("bt_next_match", tree.bytes, data, mark)
     return number, row, after
 
 
-def prefix(tree, lent, mark):
-    number, after, row = _call("bt_next_with_prefix", tree.bytes, lent, mark)
+def prefix(tree, data, mark):
+    number, after, row = _call("bt_next_with_prefix", tree.bytes, data, mark)
     return number, row, after
 
 
-def prefix_guided(tree, guide, lent, mark):
-    number, after, row = _call("bt_next_with_prefix_guided", tree.bytes, guide, lent, mark)
+def prefix_guided(tree, guide, data, mark):
+    number, after, row = _call("bt_next_with_prefix_guided", tree.bytes, guide, data, mark)
     return number, row, after
 
 

@@ -26,8 +26,8 @@ def from_hex(word):
     return b"" if word == "-" else bytes.fromhex(word)
 
 
-def to_hex(lent):
-    return bytes(lent).hex() or "-"
+def to_hex(data):
+    return bytes(data).hex() or "-"
 
 
 def filled(length):
@@ -42,8 +42,8 @@ def filled_words(number):
 
 def with_buffer(name, *given, room):
     """The answer, and the buffer afterwards."""
-    lent = filled(room)
-    return (*_call(name, *given, lent), to_hex(lent))
+    data = filled(room)
+    return (*_call(name, *given, data), to_hex(data))
 
 
 def places(tree, pattern, words):
@@ -53,8 +53,8 @@ def places(tree, pattern, words):
 
 
 def scan(text, m, r, h, counted, words, room):
-    lent = filled(room)
-    return (*_call("bt_build_scanned", text, m, r, h, counted, filled_words(words), lent), to_hex(lent))
+    data = filled(room)
+    return (*_call("bt_build_scanned", text, m, r, h, counted, filled_words(words), data), to_hex(data))
 
 
 def ranges(word):
@@ -64,13 +64,13 @@ def ranges(word):
     return from_hex(word)
 
 
-def match(tree, lent, mark):
-    number, after, row = _call("bt_next_match", tree, lent, mark)
+def match(tree, data, mark):
+    number, after, row = _call("bt_next_match", tree, data, mark)
     return number, row, after
 
 
-def prefix(tree, lent, mark):
-    number, after, row = _call("bt_next_with_prefix", tree, lent, mark)
+def prefix(tree, data, mark):
+    number, after, row = _call("bt_next_with_prefix", tree, data, mark)
     return number, row, after
 
 
@@ -103,9 +103,9 @@ def order(one, other):
 
 
 def renew(day):
-    lent = bytearray(day)
-    (number,) = _call("bt_renew", lent)
-    return number, "-" if number and lent == day else to_hex(lent)
+    data = bytearray(day)
+    (number,) = _call("bt_renew", data)
+    return number, "-" if number and data == day else to_hex(data)
 
 
 # the types of a case's words, and the call
