@@ -176,7 +176,7 @@ def main():
         other = sorted(path for path in files if path not in there or open(os.path.join(HERE, path), "rb").read() != files[path])
         other += sorted(there - set(files))
         for path in other:
-            print("%s is not as it would be made" % path)
+            print("%s is not current; run conformance/make.py" % path)
         return 1 if other else 0
     for part in MADE:
         shutil.rmtree(os.path.join(HERE, part), ignore_errors=True)

@@ -350,4 +350,4 @@ if __name__ == "__main__":
     from_another_process()
     failed, tried = doctest.testmod(blocktree)
     assert (failed, tried > 3) == (0, True)
-    print("%s cases, all as they should be" % " and ".join(map(str, counts)))
+    print("%s cases passed" % " and ".join(map(str, counts)))
