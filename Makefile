@@ -1,4 +1,4 @@
-# Installs the codebook tool and the library: `make`, then `make install PREFIX=/usr/local`; `make uninstall` takes away what was installed.
+# Installs the codebook tool and the library: `make`, then `make install PREFIX=/usr/local`; `make uninstall` removes what was installed.
 # `make TARGET=aarch64` makes the library for another processor (targets/make), `make dist` packs a release for all of them (targets/dist).
 
 PREFIX = /usr/local
@@ -9,7 +9,7 @@ TOOL = host/target/release/codebook
 ARCHIVE = $(or $(BLOCKTREE_ARCHIVE),target/staticlib/libabi.a)
 SHARED = target/libblocktree.so
 
-# the name by which programs load the shared library: the version's first number rises where a call is changed or removed
+# the soname: it has the first number of the version, which increases when a call is changed or removed
 SONAME = libblocktree.so.$(firstword $(subst ., ,$(VERSION)))
 root = $(DESTDIR)$(PREFIX)
 documents = README.md LICENSE CHANGELOG.md docs/FORMAT.md docs/JSON.md docs/TOUR.md
@@ -31,7 +31,7 @@ endif
 check:
 	./test-host
 
-# The library, position independent as it is, as a shared one.
+# The shared library, made from the position independent archive.
 shared: $(SHARED)
 $(SHARED): $(ARCHIVE) host/Cargo.toml
 	mkdir -p $(dir $@)

@@ -1,4 +1,4 @@
-// Books that the benchmarks are made on, and trees of them.
+// The books of the benchmarks, and their trees.
 #pragma once
 #include "blocktree.h"
 #include "peer/search.hpp"
@@ -25,7 +25,7 @@ struct Random {
     }
 };
 
-// A book of rows, each a code and its cuts, that ends in a newline. Of 100 sections `relisted` repeat rows of earlier ones, with a cut changed in one row
+// A book of rows, each a code and its cuts, that ends in a newline. `relisted` of 100 sections repeat rows of earlier ones, with a cut changed in one row
 // of `corrected`.
 inline Bytes book(u32 size, u32 relisted, u32 corrected, u64 seed) {
     Random random{seed};

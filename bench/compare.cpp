@@ -1,7 +1,7 @@
-// The library beside the peer (peer/), on the same trees, in one process; both must give the same answers, or the program stops. bench/run builds and
+// Times the library and the peer (peer/) on the same trees, in one process; both must return the same, or the program stops. bench/run builds and
 // runs it. It prints one table: the library's time divided by the peer's, for each call, book and settings.
 //
-//   compare [ROUNDS [WORD]]     60 rounds unless said otherwise; with WORD only calls whose name contains it, with their times in ns
+//   compare [ROUNDS [WORD]]     60 rounds by default; with WORD only calls whose name contains it, with their times in ns
 #include "books.hpp"
 #include "peer/build.hpp"
 #include "timing.hpp"
@@ -15,7 +15,7 @@ static Table table;
 static const u32 calls = 20000;
 static const u8 newline = 10;
 
-// What is asked of one tree.
+// A tree, and the arguments of the calls on it.
 struct Asked {
     Bytes text, tree, guide;
     std::vector<u32> places, ranks;
@@ -82,7 +82,7 @@ static void same_rows(const Asked& a, const peer::View& v, u32 j) {
     demand(peer::row_length(v, j, length) == 0 && bt_row_length(a.t(), a.size(), j, &y) == 0 && y == length, "row length");
 }
 
-// Damaged trees are refused alike.
+// Both refuse damaged trees with the same numbers.
 static void same_checks(const Asked& a) {
     Random random{3};
     for (int k = 0; k < (a.text.size() > 2000000 ? 20 : 200); k++) {
@@ -188,7 +188,7 @@ static void all_places(const Asked& a) {
     places(a, "6 bytes that do not occur", Bytes(6, '#'));
 }
 
-// 300 rows in turn from the middle of the book on.
+// 300 consecutive rows from the middle of the book on.
 template <class P, class L> static void in_turn(const Asked& a, const std::string& name, P by_peer, L by_library) {
     u64 rows = 0;
     bt_row_count(a.t(), a.size(), &rows);

@@ -1,4 +1,4 @@
-// SHA-256 beside plain C (sha256.c, by two compilers), and a tree's digest beside its two parts, on books of 1 MiB.
+// SHA-256 compared with plain C (sha256.c, by two compilers), and a tree's digest with its two parts, on books of 1 MiB.
 #include "books.hpp"
 #include "timing.hpp"
 
@@ -15,7 +15,7 @@ template <class F> static void shortest(double& best, u64 units, F f) {
     best = std::min(best, (processor_seconds() - from) / (double)units * 1e9);
 }
 
-// digest_text beside plain C, ns for a byte of a text.
+// digest_text and plain C, ns for a byte of a text.
 static void digest_texts(const Bytes& text) {
     u8 ours[32], theirs[32];
     double library = 1e18, gcc = 1e18, clang = 1e18;
@@ -31,7 +31,7 @@ static void digest_texts(const Bytes& text) {
     std::printf("| plain C, clang -O3 | %.2f | %.2f |\n", clang, library / clang);
 }
 
-// digest of a tree beside digest_text of its text and the span of the whole text, ns for a byte of the text.
+// digest of a tree, digest_text of its text, and the span of the whole text, ns for a byte of the text.
 static void digest_tree(const char* name, const Bytes& text, const Bytes& tree) {
     u8 of_tree[32], of_text[32];
     Bytes all(text.size());

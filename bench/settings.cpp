@@ -1,8 +1,8 @@
 // Sizes of trees over settings, to choose the short lists that the tool tries: for each layout a list that comes near the smallest tree on every book.
 // Books differ in size, in how much is listed again and corrected, in the width of a row and in how cuts follow one another.
 //
-//   settings LENGTH KIB,.. [FILE..]   for each layout a list of so many settings, found one by one, each the one that lowers the mean excess over the
-//                                     smallest tree most, on made books of so many KiB (none where KIB is 0) and on the books of files. Then, for
+//   settings LENGTH KIB,.. [FILE..]   for each layout a list of LENGTH settings, found one by one, each the one that lowers the mean excess over the
+//                                     smallest tree most, on generated books of KIB KiB (none if KIB is 0) and on the books of files. Then, for
 //                                     each kind of book, the excess of the lists of the tool, before and now
 #include "books.hpp"
 #include <algorithm>
@@ -12,7 +12,7 @@
 #include <set>
 #include <string>
 
-// Rows of one kind: how long codes and cuts are, and whether the cuts of a fresh row are drawn anew or change in one place.
+// Rows of one kind: the lengths of codes and cuts, and whether the cuts of a new row are random or differ from the last row in one place.
 struct Kind {
     const char* prefix;
     u32 cuts;
@@ -27,7 +27,7 @@ static std::string fresh_row(const Kind& kind, Random& random, u32 number, std::
     return kind.prefix + std::to_string(number) + " " + cuts + "\n";
 }
 
-// How much of a book is listed again, in parts of up to so many rows, and how many of their rows there are to one that is corrected.
+// The share of a book that is repeated, the largest number of rows of a repeated part, and how many of its rows there are to one that is corrected.
 struct Share {
     const char* name;
     u32 relisted, rows, corrected;
@@ -133,7 +133,7 @@ static const List now[] = {
     {{256, 2, 1}, {192, 2, 2}, {128, 2, 4}, {96, 2, 2}, {80, 2, 4}, {64, 2, 2}, {64, 2, 4}, {64, 2, 5}},
 };
 
-// A row of the table: mean and most of both lists of a layout on the books of one kind; on all where the kind is none.
+// A row of the table: mean and maximum of both lists of a layout on the books of one kind; on all books if the kind is none.
 static void judge(const std::string& name, const std::vector<Sizes>& books, const std::vector<std::string>& kinds, int layout) {
     std::printf("| %s", name.c_str());
     for (const List& list : {before[layout], now[layout]}) {

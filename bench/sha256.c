@@ -1,4 +1,4 @@
-/* SHA-256 (FIPS 180-4) in plain C, unverified: what bench/run digest compares bt_digest_text with. NAME is the function's name; it is compiled once for each
+/* SHA-256 (FIPS 180-4) in plain C, unverified: bench/run digest compares bt_digest_text with it. NAME is the function's name; it is compiled once for each
  * compiler. */
 #include <stddef.h>
 #include <stdint.h>

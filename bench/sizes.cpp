@@ -1,4 +1,4 @@
-// The library's calls on books of 64 KiB, 1 MiB and 8 MiB: repetitive, leaf 64, arity 2, levels 4, layout 2.
+// Times the library's calls on books of 64 KiB, 1 MiB and 8 MiB: repetitive, leaf 64, arity 2, levels 4, layout 2.
 //
 //   sizes                       times in ns
 //   sizes CALL KIB NUMBER       only that many calls of one kind on one book, for a tool that counts instructions
@@ -25,7 +25,7 @@ static Asked asked(u32 size) {
 
 struct Call {
     const char* name;
-    bool whole; // once for the text, not once for a question
+    bool whole; // one call for the whole text
     int rounds;
     u64 (*ask)(const Asked&, u32);
 };

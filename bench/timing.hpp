@@ -1,4 +1,4 @@
-// Two programs timed side by side. The work is cut into chunks; both take them in turn, round after round, each at another chunk, so that neither warms
+// Times two programs together. The work is cut into chunks; both take them in turn, round after round, each at another chunk, so that neither warms
 // the caches for the other. A time is the sum of each chunk's shortest one, in processor time of the thread: a busy machine disturbs it little.
 #pragma once
 #include <algorithm>

@@ -1,8 +1,8 @@
 #!/usr/bin/env python3
-"""Makes the files of this folder from the public cases, host/tests/vectors.txt and crates/cases/stdout: books, trees, and what is to be answered.
+"""Makes the files of this folder from the public cases, host/tests/vectors.txt and crates/cases/stdout: books, trees, questions and answers.
 
-    conformance/make.py            make them anew
-    conformance/make.py --check    say whether they are as they would be made; status 1 if not
+    conformance/make.py            write the files
+    conformance/make.py --check    status 1 if one of them is not current
 """
 
 import os
@@ -14,9 +14,9 @@ SOURCES = [("cases", "../crates/cases/stdout"), ("model", "../host/tests/vectors
 MADE = ["books", "good", "refused", "build.txt", "check.txt", "answers.txt", "answers-refused.txt"]
 HEADS = {
     "build.txt": "# BOOK leaf arity levels COUNTED => TREE, byte for byte; or the number of the refusal. COUNTED is hexadecimal, - for none.",
-    "check.txt": "# The check's number for each tree: 0 for a good one, else 5 to 9.",
-    "answers.txt": "# Questions put to good trees. README.md says how a line is read.",
-    "answers-refused.txt": "# Questions put to trees that the check refuses, where the format settles the answer all the same.",
+    "check.txt": "# The check's result for each tree: 0 if it is accepted, else the refusal, 5 to 9.",
+    "answers.txt": "# Questions on accepted trees. README.md describes the lines.",
+    "answers-refused.txt": "# Questions on trees that the check refuses, if the format specifies the answer.",
 }
 # Books and trees longer than this are left out: the bounds are in docs/FORMAT.md.
 LONGEST = 70_000
@@ -27,19 +27,19 @@ def from_hex(word):
 
 
 class Files:
-    """What is made: for each path its bytes."""
+    """The files to write: the bytes of each path."""
 
     def __init__(self):
         self.bytes = {}
         self.lines = {name: [] for name in HEADS}
 
-    def enter(self, folder, name, lent):
-        """The path of a file with these bytes; one file serves all that are the same."""
+    def enter(self, folder, name, data):
+        """The path of a file with these bytes; equal bytes have one file."""
         for path, other in self.bytes.items():
-            if other == lent and path.startswith(folder + "/"):
+            if other == data and path.startswith(folder + "/"):
                 return path
         path = "%s/%s" % (folder, name)
-        self.bytes[path] = lent
+        self.bytes[path] = data
         return path
 
     def line(self, name, words, answer):
@@ -64,25 +64,25 @@ def cases(path):
 
 
 def read(path):
-    """The texts and trees, the check's numbers by their place among them, and the questions; a name stands for its place, since names come again."""
-    lent, checks, asked, place = [], {}, [], {}
+    """The texts and trees, the check's numbers by their place among them, and the questions; a name is replaced by its place, since names are used again."""
+    data, checks, asked, place = [], {}, [], {}
     for words, answer in cases(path):
         if words[0] in ("text", "tree", "repeat", "pad"):
             if words[0] == "pad":
-                made = lent[place[words[2]]].ljust(int(words[3]), b"\0")
+                made = data[place[words[2]]].ljust(int(words[3]), b"\0")
             else:
                 made = from_hex(words[2]) * (int(words[3]) if words[0] == "repeat" else 1)
-            place[words[1]] = len(lent)
-            lent.append(made)
+            place[words[1]] = len(data)
+            data.append(made)
         elif words[0] == "check":
             checks[place[words[1]]] = (words[1], int(answer[0]))
         elif words[0] in place_words:
             many = place_words[words[0]]
             asked.append((words[0], words[1 : 1 + many], [place[word] for word in words[1 : 1 + many]], words[1 + many :], answer))
-    return lent, checks, asked
+    return data, checks, asked
 
 
-# how many of a question's words are names
+# how many words of a question are names
 place_words = dict.fromkeys("build list byte run count find span row column digest places match prefix guide guidecheck guided without_edges".split(), 1)
 place_words["order"] = 2
 
@@ -101,7 +101,7 @@ def build(files, source, name, text, words, answer):
 
 
 def shortened(kind, words, answer):
-    """A question's words and its answer without the lent buffer; None where the case is about the buffer, the table or what is left free."""
+    """A question's words and its answer without the buffer; None if the case is about the buffer, the table or an unspecified result."""
     number = answer[0]
     if number == "free" or number in ("13", "17", "25"):
         return None
@@ -120,23 +120,23 @@ def shortened(kind, words, answer):
 
 
 def guides_of(asked):
-    """The words of each tree's guide, by the tree's place, where a case has them."""
+    """The words of each tree's guide, by the tree's place, if a case has them."""
     return {places[0]: shortened(kind, words, answer)[1].split(" ")[1] for kind, _, places, words, answer in asked if kind == "guide" and answer[0] == "0"}
 
 
 def with_guide(guides, place, words, answer):
-    """A prefix question's words with a guide: the tree's own, or none where a number refuses before the guide is read. None where no guide is known."""
+    """A prefix question's words with a guide: the tree's own, or none if the question is refused before the guide is read. None if no guide is known."""
     guide = guides.get(place) if answer.startswith("0 ") else "-"
     return guide and [guide] + words
 
 
-def enter_trees(files, source, lent, checks):
-    """The trees that a check settles; the path of each by its place."""
+def enter_trees(files, source, data, checks):
+    """Writes the trees that have a check's result; the path of each by its place."""
     paths = {}
     for place, (name, number) in checks.items():
-        if len(lent[place]) <= LONGEST:
+        if len(data[place]) <= LONGEST:
             label = "%d-%s-%s-%d.tree" % (number, source, name, place) if number else "%s-%s-%d.tree" % (source, name, place)
-            paths[place] = files.enter("refused" if number else "good", label, lent[place])
+            paths[place] = files.enter("refused" if number else "good", label, data[place])
             files.line("check.txt", ["check", paths[place]], str(number))
     return paths
 
@@ -145,12 +145,12 @@ def made():
     """All files."""
     files = Files()
     for source, path in SOURCES:
-        lent, checks, asked = read(path)
-        paths = enter_trees(files, source, lent, checks)
+        data, checks, asked = read(path)
+        paths = enter_trees(files, source, data, checks)
         guides = guides_of(asked)
         for kind, names, places, words, answer in asked:
             if kind == "build":
-                build(files, source, names[0], lent[places[0]], words, answer)
+                build(files, source, names[0], data[places[0]], words, answer)
                 continue
             short = shortened(kind, words, answer) if all(place in paths for place in places) else None
             if short:
@@ -176,14 +176,14 @@ def main():
         other = sorted(path for path in files if path not in there or open(os.path.join(HERE, path), "rb").read() != files[path])
         other += sorted(there - set(files))
         for path in other:
-            print("%s is not as it would be made" % path)
+            print("%s is not current; run conformance/make.py" % path)
         return 1 if other else 0
     for part in MADE:
         shutil.rmtree(os.path.join(HERE, part), ignore_errors=True)
-    for path, lent in files.items():
+    for path, data in files.items():
         os.makedirs(os.path.dirname(os.path.join(HERE, path)), exist_ok=True)
         with open(os.path.join(HERE, path), "wb") as file:
-            file.write(lent)
+            file.write(data)
     counts = [sum(path.startswith(part) for path in files) for part in ("books/", "good/", "refused/")]
     print("%d books, %d good trees, %d refused trees" % tuple(counts))
     return 0

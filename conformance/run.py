@@ -1,5 +1,5 @@
 #!/usr/bin/env python3
-"""Runs the cases of this folder against a builder, a check or a reader of your own; README.md says how.
+"""Runs the cases of this folder with a builder, a check or a reader; README.md describes how.
 
     conformance/run.py --build 'mybuild {book} {leaf} {arity} {levels} {counted} {tree}'
     conformance/run.py --check 'mycheck {tree}'
@@ -67,7 +67,7 @@ class Done:
         self.refused = told[1] if told and self.status else None
 
     def words(self):
-        """What it ended with, for a report."""
+        """How the command ended, for a report."""
         return "status %d" % self.status if self.refused is None else "refused %s" % self.refused
 
 
@@ -89,7 +89,7 @@ def run_build(words):
 
 
 def compared(tree, good):
-    """How a tree that was written differs from the one of the case; None where it does not."""
+    """How a written tree differs from the one of the case; None if it does not."""
     if not os.path.exists(tree):
         return "no tree"
     made, due = open(tree, "rb").read(), open(good, "rb").read()
@@ -100,7 +100,7 @@ def compared(tree, good):
 
 
 def run_check(words):
-    """Status 0 for the good trees, and for no other; a number that is printed as `refused N` must be that of the case."""
+    """The status is 0 for the accepted trees only; a number printed as `refused N` must be that of the case."""
     for question, answer in lines("check.txt"):
         done = Done(words, tree=question.split(" ")[1])
         right = (done.status == 0) == (answer == "0") and done.refused in (None, answer)
@@ -108,7 +108,7 @@ def run_check(words):
 
 
 def run_ask(words, refused):
-    """The reader is given the questions, one to a line, and prints the answers, one to a line."""
+    """The reader reads the questions, one to a line, and prints the answers, one to a line."""
     files = ["check.txt", "answers.txt"] + (["answers-refused.txt"] if refused else [])
     asked = [pair for name in files for pair in lines(name)]
     questions = "".join(question + "\n" for question, _ in asked)
@@ -122,7 +122,7 @@ def main():
     parser = argparse.ArgumentParser(description=__doc__, formatter_class=argparse.RawDescriptionHelpFormatter)
     for option in ("--build", "--check", "--ask"):
         parser.add_argument(option, metavar="COMMAND")
-    parser.add_argument("--refused", action="store_true", help="ask also what is settled on trees that the check refuses")
+    parser.add_argument("--refused", action="store_true", help="also run the questions on trees that the check refuses")
     parser.add_argument("--all", action="store_true", help="show every wrong case, not only the first 20")
     given = parser.parse_args()
     runs = [(given.build, run_build), (given.check, run_check), (given.ask, lambda words: run_ask(words, given.refused))]

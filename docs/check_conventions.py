@@ -31,7 +31,7 @@ def names_twice():
 
 
 def listed():
-    """Each crate of crates.txt with what it depends on, and whether a comment of its own stands above it."""
+    """Each crate of crates.txt with what it depends on, and whether it has a comment of its own."""
     found, last = {}, ""
     for line in (ROOT / "crates.txt").read_text().splitlines():
         name, _, below = line.partition(":")
@@ -57,7 +57,7 @@ def dependencies():
     for at, (crate, (below, excused)) in enumerate(found.items()):
         for name in below:
             if name in found and name not in list(found)[:at]:
-                yield f"crates.txt: {crate} stands before {name}, on which it depends"
+                yield f"crates.txt: {crate} is listed before {name}, on which it depends"
         own = {name for name in below if name in found}
         for name in sorted(own ^ named(crate, set(found))):
             if not excused:

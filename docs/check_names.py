@@ -14,9 +14,9 @@ from pathlib import Path
 
 ROOT = Path(__file__).resolve().parents[1]
 CRATES = ROOT / "crates"
-# what several crates define for one purpose: a crate's public calls, and what is proved of all of them; the contract of find and of row as a relation
+# names that several crates define: a crate's public calls, and what is proved of all of them; the contract of find and of row as a relation
 COMMON = {"calls", "every-call-ends", "no-preconditions", "Find", "Row"}
-# a word that no name has any more, and the word to use
+# a word that names must not have, and the word to use
 GIVEN_UP = {
     "Says": "Answer", "Said": "Answer or Reply", "says": "answers", "said": "answer", "saying": "answer", "told": "answered", "Told": "what holds", "Leaves": "Buffer (leaf bytes: LeafBytes)",
     "verdict": "checkResult", "Verdict": "CheckResult", "readable": "header", "Enough": "SizeBound", "stretches": "byte_slices", "Demands": "Theorems", "trusts": "no-preconditions",

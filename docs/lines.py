@@ -18,9 +18,9 @@ from pathlib import Path
 
 ROOT = Path(__file__).resolve().parents[1]
 CRATES = ROOT / "crates"
-# crates with outside calls; of some crates only the calls named here, the other public functions are for crates above them
+# crates with outside calls; for some crates only the calls named here: their other public functions are for crates above them
 FACADES = {"tree": (), "query": (), "columns": ("to_columns", "from_columns"), "term": (), "sha256": ("digest_text",), "search": (), "list_lines": (), "abi": ()}
-# files of computed examples: nothing rests on them, and whoever reads a definition will want them
+# files of computed examples: no proof depends on them, but they help to read a definition
 EXAMPLES = re.compile(r"(Worked\w*|\w+Examples)\.antt$")
 
 
@@ -78,7 +78,7 @@ def named(path, name):
 
 
 def believed():
-    """The files, each after those that it rests on."""
+    """The files, each after those that it depends on."""
     order = []
 
     def add(path):

@@ -1,9 +1,9 @@
 #!/usr/bin/env python3
-"""Says which must-fail edits show nothing; status 1 if any.
+"""Prints which must-fail edits show nothing; status 1 if any.
 
     docs/must_fail_logs.py              # after `rt ci` or `rt must-fail`: every edit
     docs/must_fail_logs.py NAME..       # the edits of some crates
-    docs/must_fail_logs.py --self-test  # only whether samples of first errors are told apart
+    docs/must_fail_logs.py --self-test  # only tests on samples of first errors
 
 An edit shows something where it changes code or a definition, keeps the code's shape and is refused because a fact does not hold. What was
 refused first stands in the log of the edit (target/must-fail/NAME/LABEL/.log). It is accepted only if it is one of these:
@@ -24,7 +24,7 @@ import sys
 from pathlib import Path
 
 ROOT = Path(__file__).resolve().parents[1]
-# what the tactics say of a goal that does not hold
+# messages of the tactics for a goal that does not hold
 REFUTED = [
     r"`omega`: the (?:goal|part `[^`]*` of the goal) does not follow from what it read\. All of that holds, and the (?:goal|part) fails",
     r"`omega`: the hypotheses are not absurd",
@@ -45,7 +45,7 @@ RELATIONS = {"≡", "<", "≤", "⊥"}
 
 
 def first_error(log):
-    """What was refused first: the first error of a log with the lines that go on with it. A function without a proof file has no error of its own, only a
+    """The first error of a log, with the lines that continue it. A function without a proof file has no error of its own, only a
     note of what is not proved of it, and what waits on it is not admitted: then the note is what was refused."""
     error = re.search(r"^\S+:\d+:\d+: error: (.*?)(?=^\S+:\d+:\d+: |^note: |^(?:fn|struct|enum) |\Z)", log, re.M | re.S)
     note = re.search(r"^note: \S+:\d+:\d+: (it is not proved .*)$", log, re.M)
@@ -55,7 +55,7 @@ def first_error(log):
 
 
 def parts(printed, operator):
-    """A printed proposition, cut where the operator stands outside all brackets."""
+    """A printed proposition, cut at the operator outside all brackets."""
     depth, found = 0, [""]
     for token in re.findall(r"[(){}\[\]]|[^\s(){}\[\]]+|\s+", printed):
         depth += (token in "({[") - (token in ")}]")
@@ -67,7 +67,7 @@ def parts(printed, operator):
 
 
 def unwrapped(printed):
-    """A printed proposition without the bracket that holds all of it."""
+    """A printed proposition without brackets around the whole of it."""
     depth = 0
     for at, letter in enumerate(printed):
         depth += (letter in "({[") - (letter in ")}]")
@@ -109,7 +109,7 @@ def relation(printed):
 
 
 def known(name):
-    """Whether all that a relation is made of is a relation or a definition, and no variable."""
+    """Whether a relation contains only relations and definitions, and no variable."""
     return all(part in RELATIONS or part[:1].isupper() and part not in ("Post", "Learnt") for part in re.split(r" [→×⊎] ", name))
 
 
@@ -176,7 +176,7 @@ def shows_nothing(edit):
     return None
 
 
-# First errors as the prover words them, shortened: those that show a false fact ..
+# First errors in the prover's words, shortened, that show a false fact
 FACT_SAMPLES = [
     "`of-length-spec`: `omega`: the goal does not follow from what it read. All of that holds, and the goal fails, at `(c .before .args .n)`\n  = 1, ..",
     "`byte-spec`: `search`: no proof of `Post (c .before .κs) (..)`\n  was found. Every way was tried: a deeper search would find nothing either.",
@@ -197,7 +197,7 @@ FACT_SAMPLES = [
     "  but this has type `eqb (get 9 (T .locals) …[90 bytes]… (c .before))) ≡ mathlib.Core.Bool.true`",
     "`target-spec`: expected type `c .kind ≡ 0 → Prim.⊥`, but this has type `mathlib.Core.Path._≡_ (get 7 …[90 bytes]…) 1 → Prim.⊥`",
 ]
-# .. and those that a right program would get too, or that show nothing
+# First errors that a right program would get too, or that show nothing
 FORM_SAMPLES = [
     "`total-spec`: record `Rattle.a.proofs.total.Lts.After-shared-slice-known` has no field `pre`",
     "`number-of-spec`: a tuple is checked against `Rattle.a.proofs.number_of.Reads.Post (c .κs) (..)`\n  which is not a `×` type",
@@ -232,7 +232,7 @@ FORM_SAMPLES = [
 
 
 def self_test():
-    """Whether the samples are told apart: those of a fact accepted, those of form not."""
+    """Whether the samples of a false fact are accepted, and those of a misfit are not."""
     contract = {"span_at": "SpanAnswer"}
     wrong = [s for s in FACT_SAMPLES if not false_fact(s, lambda name: contract.get(name.split(".")[-3], ""))]
     wrong += [s for s in FORM_SAMPLES if false_fact(s, lambda name: contract.get(name.split(".")[-3], ""))]

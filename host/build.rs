@@ -1,4 +1,4 @@
-//! Links the proved library, target/staticlib/libabi.a; makes it first with `rt staticlib abi` where it is missing.
+//! Links the proved library, target/staticlib/libabi.a; makes it first with `rt staticlib abi` if it is missing.
 //!
 //! BLOCKTREE_ARCHIVE names another build of the archive, a file called lib*.a.
 //!

@@ -23,7 +23,7 @@
  *    bt_row_guided (bt_row) and bt_next_with_prefix_guided (bt_next_with_prefix). No other call returns BT_PATH on an accepted tree.
  *  - bt_check shows that a tree represents a text, not which one: a tree with a changed leaf byte, and the counts and edges that depend on it changed too, is a
  *    valid tree of another text, and gives a wrong key. So the office publishes the SHA-256 of the book, 32 bytes, and the machine compares it with the output
- *    of bt_digest (examples/c/check_digest.c). A digest is as good as the way it came: store it where whoever can change the tree cannot write.
+ *    of bt_digest (examples/c/check_digest.c). A digest is only as trustworthy as its source: store it where nobody who can change the tree can write.
  *  - Places in the text start at 0; occurrences and rows are numbered from 1, but bt_row_by_columns numbers rows from 0.
  *
  * At each call: `reads` lists the slices that it reads, `writes` what it writes, `returns` the numbers in the order of the questions.
@@ -46,7 +46,7 @@ extern "C" {
 #define BT_MAX_COUNTED 4u  /* counted bytes: 0 to this */
 #define BT_MAX_PATTERN 256u /* bytes of a pattern: 1 to this */
 #define BT_MAX_CUTS 10u    /* cuts of a worn key: 1 to this */
-#define BT_LIST_LENGTH 352u /* bytes of a buffer that is enough for bt_list */
+#define BT_LIST_LENGTH 352u /* bytes of a buffer that bt_list always fits */
 #define BT_FIGURES 23u     /* figures that bt_info writes */
 #define BT_DIGEST 32u      /* bytes of a SHA-256, which bt_digest and bt_digest_text write */
 /* Bytes of the largest tree, the most that bt_size_bound returns: 1,111,359,588. It is the tree of the longest text with leaf 1, arity 2, BT_MAX_LEVELS levels and
@@ -57,7 +57,7 @@ extern "C" {
 #define BT_VERSION 20000u
 uint32_t bt_version(void);
 
-/* What the numbers mean. */
+/* The refusals. */
 enum bt_refusal {
     BT_OK = 0,
     BT_TEXT = 1,        /* the text has more than BT_MAX_TEXT bytes */
@@ -155,7 +155,7 @@ uint64_t bt_scan_words(uint32_t n, uint32_t leaf);
  * tree and out must not overlap. */
 uint32_t bt_without_edges(const uint8_t *tree, uint64_t tree_len, uint8_t *out, uint64_t out_len, uint64_t *size);
 
-/* A size that is enough for the tree of any text of n bytes, with `counted` counted bytes: for the tree that bt_build makes, and for any tree of either
+/* The size bound: no tree of a text of n bytes with `counted` counted bytes is larger. It holds for the tree that bt_build makes, and for any tree of either
  * layout that bt_check accepts.
  *   writes    *size: the size in bytes
  *   returns   0, 1, 2, 3 */
@@ -249,7 +249,7 @@ uint32_t bt_row_count(const uint8_t *tree, uint64_t tree_len, uint64_t *rows);
  * average for each byte read, whatever the pattern. */
 uint32_t bt_places(const uint8_t *tree, uint64_t tree_len, const uint8_t *pattern, uint64_t pattern_len, uint32_t *table, uint64_t words, uint32_t *number);
 
-/* A number of words that is enough for all places of any pattern of `length` bytes: n - length + 1, or 0 if it is longer than the text. With such a table
+/* A bound of the places of any pattern of `length` bytes: n - length + 1, or 0 if it is longer than the text. With a table of this many words
  * bt_places never returns BT_TABLE.
  *   reads     tree
  *   writes    *words: the number of words
@@ -267,7 +267,7 @@ uint32_t bt_places_words(const uint8_t *tree, uint64_t tree_len, uint32_t length
  * once. */
 uint32_t bt_next_match(const uint8_t *tree, uint64_t tree_len, const uint8_t *ranges, uint64_t ranges_len, uint32_t *mark, uint32_t *row);
 
-/* Rows by their first bytes: moves a mark to the next row that starts with a prefix, say a code and the space after it. Rows are those of bt_row: a byte
+/* Rows by prefix: moves a mark to the next row that starts with a prefix, say a code and the space after it. Rows are those of bt_row: a byte
  * 13 directly before the byte 10 that ends a row is not part of it. No row starts with a prefix that contains a byte 10.
  *   reads     tree; prefix, 1 to BT_MAX_PATTERN bytes
  *   writes    *mark is in and out, as for bt_next_match: 0 before the first call. It moves to the returned row; if no row after it starts with the prefix,
@@ -373,7 +373,7 @@ uint32_t bt_compare(const uint8_t *one, uint64_t one_len, const uint8_t *other, 
  *   returns   0, 15, 5 to 9, 13 if the lines do not fit out */
 uint32_t bt_list(const uint8_t *tree, uint64_t tree_len, uint8_t *out, uint64_t out_len, uint32_t *length);
 
-/* The term of a licence. No tree is involved. A day is eight bytes '0' to '9', year, month and day (ISO 8601, basic form), of the Gregorian
+/* Licence dates. These calls read no tree. A day is eight bytes '0' to '9', year, month and day (ISO 8601, basic form), of the Gregorian
  * calendar and of the years 2000 to 2099: "20240229". Anything else, of any length, is refused with BT_DATE. */
 
 /* Whether a book licensed from a first to a last day, both included, is open on a day.

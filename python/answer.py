@@ -1,4 +1,4 @@
-"""A reader for conformance/run.py over the module: questions come one to a line, and are answered one to a line.
+"""A reader for conformance/run.py over the module: reads questions, one to a line, and prints their answers, one to a line.
 
     conformance/run.py --ask 'python3 ../python/answer.py' --refused
 """
@@ -37,24 +37,24 @@ def copied(read):
 
 
 def span(tree, place, length):
-    # what lies past the text's end is refused whatever the buffer
+    # a span past the end of the text is refused, whatever the buffer
     room = bytearray(length if place + length <= MAX_TEXT else 0)
     number, entered = _call("bt_span", tree.bytes, place, length, room)
     return number, entered, room.hex() if room and not number else "-"
 
 
-def match(tree, lent, mark):
-    number, after, row = _call("bt_next_match", tree.bytes, lent, mark)
+def match(tree, data, mark):
+    number, after, row = _call("bt_next_match", tree.bytes, data, mark)
     return number, row, after
 
 
-def prefix(tree, lent, mark):
-    number, after, row = _call("bt_next_with_prefix", tree.bytes, lent, mark)
+def prefix(tree, data, mark):
+    number, after, row = _call("bt_next_with_prefix", tree.bytes, data, mark)
     return number, row, after
 
 
-def prefix_guided(tree, guide, lent, mark):
-    number, after, row = _call("bt_next_with_prefix_guided", tree.bytes, guide, lent, mark)
+def prefix_guided(tree, guide, data, mark):
+    number, after, row = _call("bt_next_with_prefix_guided", tree.bytes, guide, data, mark)
     return number, row, after
 
 

@@ -187,15 +187,15 @@ def _call(name: str, *given: Any) -> Tuple[int, ...]:
         if kind == "n32":
             words.append(_number(next(rest)))
         elif kind == "bytes":
-            lent = _bytes(next(rest))
-            words += [ctypes.c_char_p(lent), ctypes.c_uint64(len(lent))]
+            data = _bytes(next(rest))
+            words += [ctypes.c_char_p(data), ctypes.c_uint64(len(data))]
         elif kind == "buffer":
-            lent = next(rest)
-            room = (ctypes.c_uint8 * len(lent)).from_buffer(lent) if lent else (ctypes.c_uint8 * 1)()
-            words += [room, ctypes.c_uint64(len(lent))]
+            data = next(rest)
+            room = (ctypes.c_uint8 * len(data)).from_buffer(data) if data else (ctypes.c_uint8 * 1)()
+            words += [room, ctypes.c_uint64(len(data))]
         elif kind == "words":
-            lent = next(rest)
-            words += [lent if len(lent) else _words(1), ctypes.c_uint64(len(lent))]
+            data = next(rest)
+            words += [data if len(data) else _words(1), ctypes.c_uint64(len(data))]
         else:
             figures.append(_number(next(rest)) if kind == "mark" else _FIGURES[kind](0))
             words.append(ctypes.byref(figures[-1]))
@@ -218,7 +218,7 @@ def version() -> Tuple[int, int, int]:
 
 
 def size_bound(n: int, leaf: int, arity: int, levels: int, counted: Bytes = b"\n") -> int:
-    """A size that is enough for the tree of any text of n bytes."""
+    """The size bound: no tree of a text of n bytes is larger."""
     return _ask("bt_size_bound", n, leaf, arity, levels, len(_bytes(counted)))
 
 
@@ -242,7 +242,7 @@ def _build(text: Bytes, leaf: int, arity: int, levels: int, counted: Bytes) -> b
     room = bytearray(size_bound(min(len(text), 0xFFFFFFFF), leaf, arity, levels, counted))
     table = _words(scan_words(len(text), leaf))
     if len(table) > 0:
-        table[0] = int.from_bytes(os.urandom(4), "little")  # the seed of the fingerprints: unpredictable, so no text can be made to be slow
+        table[0] = int.from_bytes(os.urandom(4), "little")  # the seed of the fingerprints: random, so that nobody can make a text that is slow to build
     size, _ = _ask("bt_build_scanned", text, leaf, arity, levels, counted, table, room)
     return bytes(room[:size])
 
@@ -264,9 +264,9 @@ def from_columns(text: Bytes, width: int) -> bytes:
     return _turned("bt_from_columns", text, width)
 
 
-def _digest(name: str, lent: Bytes) -> bytes:
+def _digest(name: str, data: Bytes) -> bytes:
     out = bytearray(DIGEST)
-    _ask(name, lent, out)
+    _ask(name, data, out)
     return bytes(out)
 
 
@@ -287,9 +287,9 @@ def days_left(last: Bytes, today: Bytes) -> int:
 
 def renew(day: Bytes) -> bytes:
     """The same day one year later; 29 February becomes 28 February."""
-    lent = bytearray(_bytes(day))
-    _ask("bt_renew", lent)
-    return bytes(lent)
+    data = bytearray(_bytes(day))
+    _ask("bt_renew", data)
+    return bytes(data)
 
 
 class Tree:
@@ -371,13 +371,13 @@ class Tree:
 
     def row(self, number: int, guide: Optional[Bytes] = None) -> bytes:
         """Row `number`, from 1, without its end."""
-        name, lent = ("bt_row", []) if guide is None else ("bt_row_guided", [guide])
+        name, data = ("bt_row", []) if guide is None else ("bt_row_guided", [guide])
         # a short buffer is enough for most rows, one as long as the text for every row
         room = bytearray(min(len(self), 256))
-        refusal, length = _call(name, self.bytes, *lent, number, room)
+        refusal, length = _call(name, self.bytes, *data, number, room)
         if refusal == 13:
             room = bytearray(min(len(self), MAX_TEXT))
-            refusal, length = _call(name, self.bytes, *lent, number, room)
+            refusal, length = _call(name, self.bytes, *data, number, room)
         if refusal:
             raise RefusedError(refusal)
         return bytes(room[:length])
@@ -408,8 +408,8 @@ class Tree:
 
     def next_match(self, ranges: Iterable[Tuple[int, int]], mark: int = 0) -> Optional[int]:
         """The first row after `mark` that matches a worn key; None if there is none. The ranges have a low and a high depth for each cut: [(4, 4), (3, 5)]."""
-        lent = bytes(depth for low_high in ranges for depth in low_high)
-        return _ask("bt_next_match", self.bytes, lent, mark)[1] or None
+        data = bytes(depth for low_high in ranges for depth in low_high)
+        return _ask("bt_next_match", self.bytes, data, mark)[1] or None
 
     def matches(self, ranges: Iterable[Tuple[int, int]]) -> Iterator[int]:
         """All rows that match, in row order."""
@@ -451,7 +451,7 @@ class Tree:
         return bytes(room[: 4 * words])
 
     def check_guide(self, guide: Bytes) -> None:
-        """RefusedError if it is not exactly the guide of this tree."""
+        """Raises RefusedError if the bytes are not exactly the guide of this tree."""
         _ask("bt_check_guide", self.bytes, guide)
 
     def without_edges(self) -> bytes:

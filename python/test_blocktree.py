@@ -1,4 +1,4 @@
-"""The module against the public cases: each line of host/tests/vectors.txt and crates/cases/stdout that a call answers, and the module's own functions.
+"""Tests the module with the public cases, each line of host/tests/vectors.txt and crates/cases/stdout that has a call, and the module's own functions.
 
     python3 python/test_blocktree.py
 """
@@ -26,8 +26,8 @@ def from_hex(word):
     return b"" if word == "-" else bytes.fromhex(word)
 
 
-def to_hex(lent):
-    return bytes(lent).hex() or "-"
+def to_hex(data):
+    return bytes(data).hex() or "-"
 
 
 def filled(length):
@@ -41,9 +41,9 @@ def filled_words(number):
 
 
 def with_buffer(name, *given, room):
-    """The answer, and what the buffer holds afterwards."""
-    lent = filled(room)
-    return (*_call(name, *given, lent), to_hex(lent))
+    """The answer, and the buffer afterwards."""
+    data = filled(room)
+    return (*_call(name, *given, data), to_hex(data))
 
 
 def places(tree, pattern, words):
@@ -53,8 +53,8 @@ def places(tree, pattern, words):
 
 
 def scan(text, m, r, h, counted, words, room):
-    lent = filled(room)
-    return (*_call("bt_build_scanned", text, m, r, h, counted, filled_words(words), lent), to_hex(lent))
+    data = filled(room)
+    return (*_call("bt_build_scanned", text, m, r, h, counted, filled_words(words), data), to_hex(data))
 
 
 def ranges(word):
@@ -64,13 +64,13 @@ def ranges(word):
     return from_hex(word)
 
 
-def match(tree, lent, mark):
-    number, after, row = _call("bt_next_match", tree, lent, mark)
+def match(tree, data, mark):
+    number, after, row = _call("bt_next_match", tree, data, mark)
     return number, row, after
 
 
-def prefix(tree, lent, mark):
-    number, after, row = _call("bt_next_with_prefix", tree, lent, mark)
+def prefix(tree, data, mark):
+    number, after, row = _call("bt_next_with_prefix", tree, data, mark)
     return number, row, after
 
 
@@ -103,12 +103,12 @@ def order(one, other):
 
 
 def renew(day):
-    lent = bytearray(day)
-    (number,) = _call("bt_renew", lent)
-    return number, "-" if number and lent == day else to_hex(lent)
+    data = bytearray(day)
+    (number,) = _call("bt_renew", data)
+    return number, "-" if number and data == day else to_hex(data)
 
 
-# what a case's words are, and the call
+# the types of a case's words, and the call
 ASKED = {
     "build": lambda named, t, m, r, h, c, room: with_buffer("bt_build", named[t], int(m), int(r), int(h), from_hex(c), room=int(room)),
     "scan": lambda named, t, m, r, h, c, words, room: scan(named[t], int(m), int(r), int(h), from_hex(c), int(words), int(room)),
@@ -144,7 +144,7 @@ def run_file(path):
     for line in open(os.path.join(HERE, path), encoding="ascii"):
         question, _, answer = line.strip().partition(" => ")
         words = question.split(" ")
-        # answers that are left free, and lines that are wrong on purpose
+        # unspecified results, and lines that are wrong on purpose
         if re.match("free|wrong", answer):
             continue
         if words[0] in ("text", "tree") and len(words) == 3:
@@ -163,7 +163,7 @@ def run_file(path):
 
 
 def own_functions():
-    """The tree of the small book, asked by the module's own functions."""
+    """The tree of the small book, read by the module's own functions."""
     text = open(os.path.join(HERE, "../books/small.txt"), "rb").read()
     rows = text.split(b"\n")[:-1]
     book = blocktree.Tree(blocktree.build(text, 24, 8, 3))
@@ -199,7 +199,7 @@ def own_functions():
 
 
 def digests():
-    """Beside hashlib, on all lengths around the ends of blocks, as texts and as trees."""
+    """Digests compared with hashlib, on all lengths around the ends of blocks, as texts and as trees."""
     for length in [*range(0, 200), *range(1016, 1034), 4095, 4096, 4097, 1 << 20]:
         text = bytes((place * place >> 3) & 255 for place in range(length))
         due = hashlib.sha256(text).digest()
@@ -208,7 +208,7 @@ def digests():
 
 
 def settings_left_out():
-    """build without settings makes the smallest tree of the short list; some of them alone are a mistake."""
+    """build without settings makes the smallest tree of the short list; settings that are given only in part are an error."""
     text = open(os.path.join(HERE, "../books/small.txt"), "rb").read()
     trees = [blocktree.build(text, *settings) for settings in blocktree.SHORT_LIST]
     assert blocktree.build(text) == blocktree.build(text, 32, 6, 2) == min(trees, key=len)
@@ -243,7 +243,7 @@ def as_a_sequence():
 
 
 def hints():
-    """Every public function and method has a type for each argument and for its answer, which a reader of hints can evaluate."""
+    """Every public function and method has a type for each argument and for its answer, which a type checker can evaluate."""
     functions = [getattr(blocktree, name) for name in blocktree.__all__ if inspect.isfunction(getattr(blocktree, name))]
     functions += [method for name, method in inspect.getmembers(blocktree.Tree, inspect.isfunction)]
     assert len(functions) > 25
@@ -253,7 +253,7 @@ def hints():
 
 
 def refusals():
-    """Every refusal raises its number, and a number that is none is not lent."""
+    """Every refusal raises its number, and an argument that is not a 32-bit number is rejected."""
     book = blocktree.Tree(blocktree.build(b"A 1\n", 2, 2, 2))
     for number, ask in [
         (1, lambda: blocktree.build(bytes(8388609), 2, 2, 2)),
@@ -288,11 +288,11 @@ def refusals():
                 ask(number)
             except OverflowError:
                 continue
-            raise AssertionError("%d was lent" % number)
+            raise AssertionError("%d was accepted" % number)
 
 
 def other_types():
-    """A number, a string or a list in place of bytes is a TypeError; any bytes-like object is good."""
+    """A number, a string or a list in place of bytes is a TypeError; any bytes-like object is accepted."""
     book = blocktree.Tree(bytearray(blocktree.build(memoryview(b"A 1\n"), 2, 2, 2)))
     assert book.places(bytearray(b"1")) == book.places(memoryview(b"x1x")[1:2]) == [2]
     for wrong in (5, "5", [5], None):
@@ -350,4 +350,4 @@ if __name__ == "__main__":
     from_another_process()
     failed, tried = doctest.testmod(blocktree)
     assert (failed, tried > 3) == (0, True)
-    print("%s cases, all as they should be" % " and ".join(map(str, counts)))
+    print("%s cases passed" % " and ".join(map(str, counts)))

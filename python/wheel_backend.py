@@ -1,4 +1,4 @@
-"""Makes the wheel of the module for pip (PEP 517, PEP 427), and its source archive, with Python's own library alone.
+"""Makes the wheel of the module for pip (PEP 517, PEP 427), and its source archive, with Python's standard library only.
 
 The module becomes the package `blocktree`, since only a package can carry the file py.typed, by which type checkers know that it has hints (PEP 561).
 """

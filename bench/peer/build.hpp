@@ -9,7 +9,7 @@ struct Block {
 };
 
 // Strings of one length, equal ones once, and the first place of each in the text. A slot is found by the top bits of a mixed fingerprint; a filter
-// with sixteen bits for each string is asked first.
+// with sixteen bits for each string is tested first.
 struct Strings {
     static constexpr u64 base = 0x9E3779B97F4A7C15ull;
     struct Entry {
@@ -53,7 +53,7 @@ struct Strings {
             clash = true;
         }
     }
-    // Notes a place as the first one of the string that starts there, unless it has one.
+    // Stores a place as the first one of the string that starts there, unless the string has one.
     void look(u64 h, u32 p) {
         const u64 g = mix(h), bit = g >> filter_shift;
         if (!(filter[bit / 64] >> (bit % 64) & 1)) return;
@@ -71,7 +71,7 @@ struct Strings {
     }
 };
 
-// What a level's pass finds out: the slots of its blocks and pairs, and the first places of the short strings at the text's end.
+// The result of a level's pass: the slots of its blocks and pairs, and the first places of the short strings at the text's end.
 struct Level {
     std::vector<u32> single, pair;
     u32 short_first = 0, end_first = 0;
@@ -188,7 +188,7 @@ inline u64 write_tree(const Written& w, u32 n, u32 r, std::vector<std::vector<Bl
     return at;
 }
 
-// Writes the tree of a text, layout 2; 0 where the buffer is too small.
+// Writes the tree of a text in layout 2. Returns 0 if the buffer is too small.
 inline u64 build(const u8* t, u32 n, u32 m, u32 r, u32 H, const u8* counted, u32 k, u8* out, u64 room, u64& windows) {
     std::vector<u32> b(H, m);
     for (u32 l = H - 1; l-- > 0;) b[l] = b[l + 1] * r;

@@ -1,4 +1,4 @@
-// The peer: one byte counted and sought in at most 256 bytes, sixteen at a time.
+// The peer: counts and finds one byte in at most 256 bytes, sixteen at a time.
 #pragma once
 #include "tree.hpp"
 
@@ -21,7 +21,7 @@ inline u32 times(const u8* p, u32 n, u8 byte) {
     return found;
 }
 
-// The place of the j-th such byte, from 1; n where there is none.
+// The place of the j-th such byte, from 1; n if there is none.
 inline u32 nth(const u8* p, u32 n, u8 byte, u64 j) {
     u32 x = 0;
     for (; x + 16 <= n; x += 16) {

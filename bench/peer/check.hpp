@@ -8,7 +8,7 @@ inline u32 pieces(const View& v, u32 l, u32 length) {
     return length == v.block[l] ? v.arity : (length + v.block[l + 1] - 1) / v.block[l + 1];
 }
 
-// Question 8 of a pointing block.
+// Question 8 for a pointing block.
 inline bool target_right(const View& v, u32 l, const u8* r, u32 length) {
     const u32 start = word(r), link = word(r + 8), gap = word(r + 12), b = v.block[l];
     if (v.last(l) || gap >= b || link >= v.count[l]) return false;
@@ -20,7 +20,7 @@ inline bool target_right(const View& v, u32 l, const u8* r, u32 length) {
     return word(second + 4) == 0 && word(second) == (u64)word(target) + b;
 }
 
-// Question 8 of a kept block above the last level: its children follow those of the kept blocks before it.
+// Question 8 for a kept block above the last level: its children follow those of the kept blocks before it.
 inline bool children_right(const View& v, u32 l, u32 start, u32 length, u64& children) {
     const u32 below = v.block[l + 1], number = pieces(v, l, length);
     if (children + number > v.count[l + 1]) return false;
@@ -99,7 +99,7 @@ inline bool pointing_counts(const View& v, u32 c, u32 l, const u8* r, u32 length
     return word(r + f + 8) == skip && word(r + f + 4) == upto - skip;
 }
 
-// Question 9 of the counts, from the last level up.
+// Question 9 for the counts, from the last level up.
 inline bool counts_right(const View& v, u32 c) {
     const u32 f = 16 + 12 * c;
     for (u32 l = v.levels; l-- > 0;)
@@ -151,7 +151,7 @@ inline u32 check(const u8* t, u64 len) {
     return v.layout == 2 && !edges_right(v) ? 9 : 0;
 }
 
-// f(entry) for each entry of the guide, in order; stops where f does.
+// Calls f(entry) for each entry of the guide, in order, until f returns false.
 template <class F> inline bool each_entry(const View& v, F f) {
     for (u32 c = 0; c < v.counted && v.count[0] != 0; c++) {
         const u8* r = v.at(0, 0) + 16 + 12 * c;

@@ -35,7 +35,7 @@ inline u64 step_along(const View& v, u32 f, u64 i, u64 j) {
     return i;
 }
 
-// The child of a kept block that has the j-th occurrence of its block.
+// The child of a kept block that contains the j-th occurrence in the block.
 inline bool child_of(const View& v, u32 l, u32 f, const u8* r, u64 j, u64& i, int64_t& base) {
     const u32 start = word(r), b = v.block[l], below = v.block[l + 1], length = start < v.n ? std::min(b, v.n - start) : 0;
     const u32 children = v.powers ? (length + below - 1) >> v.shift[l + 1] : length == b ? v.arity : (length + below - 1) / below;
@@ -99,7 +99,7 @@ inline Answer find(const View& v, u8 byte, u64 j, const Guide& guide, u32& steps
     return a;
 }
 
-// Where row q starts and how long it is, without a carriage return before its newline; the runs read on the way are kept, up to 16.
+// Where row q starts, and its length without a carriage return before its newline. Stores up to 16 of the runs that it reads.
 struct Row {
     u32 from = 0, length = 0, runs = 0;
     Run run[16];

@@ -10,7 +10,7 @@ struct Parts {
     u32 size, entered; // size: bytes of the first part
 };
 
-// Over the border of blocks i and i + 1: last edge of the one, first edge of the other.
+// A span over the border of blocks i and i + 1: the last edge of one, the first edge of the other.
 inline bool over_border(const View& v, u32 l, u64 i, u32 place, u32 entered, Parts& out) {
     if (i + 1 >= v.count[l]) return false;
     const u8* edges = v.at(l, i) + 16 + 12 * v.counted;

@@ -109,7 +109,7 @@ inline u32 order(const View& a, const View& b, u32& shared) {
     return a.n < b.n ? 1 : a.n > b.n ? 3 : 2;
 }
 
-// A row of a text that lies by columns: a byte of each column.
+// A row of a text by columns: a byte of each column.
 inline u32 row_by_columns(const View& v, u32 width, u32 a, u8* out, u64 room) {
     if (width == 0 || v.n % width != 0) return 20;
     const u32 rows = v.n / width;

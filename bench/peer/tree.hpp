@@ -1,4 +1,4 @@
-// The peer: the library's calls in plain C++, written for speed, without proofs. It makes the tests that docs/FORMAT.md asks for.
+// The peer: the library's calls in plain C++, written for speed, without proofs. It tests the questions of docs/FORMAT.md.
 // This file: the header, and the walk down a path.
 #pragma once
 #include <algorithm>
@@ -46,7 +46,7 @@ inline bool settings(View& v) {
     return true;
 }
 
-// 0, or the number of the question that refuses.
+// 0, or the number of the question that fails.
 inline u32 open(const u8* t, u64 len, View& v) {
     if (len < 100) return 5;
     v.layout = word(t);
@@ -74,7 +74,7 @@ struct Answer {
 
 inline Answer refused(u32 number) { return {number, 0, 0}; }
 
-// The child that holds a place, which becomes the place in it.
+// The child that contains a place; the place becomes the one in the child.
 inline u32 part(const View& v, u32 level, u32& place) {
     u32 q = v.powers ? place >> v.shift[level] : place / v.block[level];
     place -= q * v.block[level];
@@ -87,7 +87,7 @@ struct Run {
     u32 length, entered;
 };
 
-// Down the path of a place to its leaf byte; false where the path breaks.
+// Follows the path of a place to its leaf byte. Returns false if the path breaks.
 inline bool walk(const View& v, u32 place, Run& run) {
     u32 left = v.n - place, entered = 0;
     u64 i = part(v, 0, place);
@@ -123,7 +123,7 @@ inline Answer byte(const View& v, u32 place) {
     return {0, *run.from, run.entered};
 }
 
-// The index of a counted byte; v.counted where the tree counts no such byte.
+// The index of a counted byte; v.counted if the tree does not count it.
 inline u32 number_of(const View& v, u8 byte) {
     u32 c = 0;
     while (c < v.counted && v.tree[24 + c] != byte) c++;

@@ -55,7 +55,7 @@ class Svg:
 # ---- the crates
 
 def crates():
-    """Each crate with what it depends on, and the layer that stands above it in crates.txt: the heading up to its first mark."""
+    """Each crate with what it depends on, and its layer: the heading above it in crates.txt, up to the first punctuation mark."""
     found, layer, fresh = {}, "", True
     for line in (ROOT / "crates.txt").read_text().splitlines():
         if line.startswith("# ") and fresh:
@@ -69,7 +69,7 @@ def crates():
 
 
 def depths(found):
-    """How far above the lowest crates each one stands; a circle is an error."""
+    """The height of each crate above the lowest ones; a circle is an error."""
     depth = {}
 
     def of(name, above):
@@ -85,7 +85,7 @@ def depths(found):
 
 
 def needed(found):
-    """For each crate those that it depends on and reaches by no other way: the arrows."""
+    """The arrows: for each crate the crates that it depends on and does not reach through another."""
     reached = {}
 
     def below(name):
@@ -100,7 +100,7 @@ def needed(found):
 
 
 def heights(found):
-    """The row of each crate, counted from below: as low as it can be, and then as near below the lowest crate that needs it as it can be."""
+    """The row of each crate, counted from below: as low as possible, then as close as possible below the lowest crate that needs it."""
     height = depths(found)
     for name in sorted(found, key=lambda name: -height[name]):
         above = [height[other] for other in found if name in found[other][1]]
@@ -109,7 +109,7 @@ def heights(found):
 
 
 def apart(row, wish, sizes, width):
-    """The middles of a row's nodes, in their order, side by side where they would overlap: as near to the wishes as that allows (isotonic regression)."""
+    """The centres of a row's nodes, in order and without overlap, as near as possible to the wanted places (isotonic regression)."""
     starts, at = [], 0
     for node in row:
         starts.append(at + sizes[node] / 2)
@@ -125,7 +125,7 @@ def apart(row, wish, sizes, width):
 
 
 def places(rows, links, sizes, width):
-    """The middle of each node. Nodes of a row are ordered and moved towards the nodes that they are linked with, again and again, and never overlap."""
+    """The centre of each node. Nodes of a row are repeatedly ordered and moved towards the nodes that they are linked with, and never overlap."""
     middle = {}
     for row in rows:
         gap = (width - sum(sizes[node] for node in row)) / len(row)
@@ -222,7 +222,7 @@ class Tree:
         return [self.word(self.counts[level][1] + i * self.record + 4 * f) for f in range(4 + 3 * self.k)]
 
     def path(self, p):
-        """The blocks that are entered on the way to place p: level, block, place in it."""
+        """The blocks entered on the path of place p: level, block, place in it."""
         level, block, place, steps = 0, p // self.length(0), p % self.length(0), []
         while True:
             steps.append((level, block, place))

@@ -30,7 +30,7 @@ int main(void)
     if (work == NULL || bt_build(text, text_len, LEAF, ARITY, LEVELS, counted, sizeof counted, first, sizeof first, &first_size) != BT_OK) {
         return 1;
     }
-    work[0] = 0; /* the seed of the fingerprints; at random, no text can be written that makes the builder slow */
+    work[0] = 0; /* the seed of the fingerprints: a random one, so that nobody can make a text that is slow to build */
     if (random != NULL && fread(work, sizeof *work, 1, random) != 1) {
         work[0] = 0;
     }

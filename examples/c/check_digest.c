@@ -1,4 +1,4 @@
-/* What a machine does with a tree that it is given: it checks the tree, computes the SHA-256 of the tree's text and compares it with the 32 bytes that the
+/* Shows what a machine does with a tree from anyone: it checks the tree, computes the SHA-256 of the tree's text and compares it with the 32 bytes that the
  * office printed of the book.
  *
  *   make
@@ -13,7 +13,7 @@ static const char book[] =
     "CH0501 324115\nCH0502 324121\nCH0503 324122\nCH0504 324123\n"
     "CH0501 324115\nCH0502 324121\nCH0503 324122\nCH0504 324123\n";
 
-/* What `sha256sum` prints of the book. It comes from the office and not with the tree. */
+/* The output of `sha256sum` for the book. It comes from the office, not with the tree. */
 static const uint8_t printed[BT_DIGEST] = {
     0xf8, 0x0c, 0x20, 0x5b, 0x11, 0xb1, 0xc2, 0x2f,
     0xe3, 0x3f, 0x9d, 0xac, 0x98, 0xaa, 0x55, 0x91,
@@ -23,7 +23,7 @@ static const uint8_t printed[BT_DIGEST] = {
 
 static uint8_t tree[4096];
 
-/* The tree of a text, as somebody sends it; 0 where it is refused. */
+/* Builds the tree that somebody sends. Returns its size, 0 if the build is refused. */
 static uint32_t received(const char *text)
 {
     const uint8_t counted[] = {10}; /* the byte that ends a row */

@@ -1,5 +1,5 @@
-/* Measures how much stack each call uses: it runs on a stack of its own that was filled with a pattern before, and what was overwritten is counted. The
- * trees have eight levels, the most that there are. Prints a line for each call: its name and bytes of stack.
+/* Measures the stack of each call: the call runs on a stack that was filled with a pattern, and the overwritten bytes are counted. The
+ * trees have eight levels, the maximum. Prints a line for each call: its name and bytes of stack.
  *
  *   gcc -std=gnu99 -Iinclude examples/c/stack_use.c target/libblocktree.a -o stack_use && ./stack_use
  */

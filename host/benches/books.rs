@@ -1,4 +1,4 @@
-//! The library next to the independent model on the same books in the same run: build, check and every question; and tree sizes next to gzip and xz.
+//! Times the library and the independent model on the same books in the same run: build, check and every question. Compares tree sizes with gzip and xz.
 //!
 //!     cargo bench               books of 64 KiB and 1 MiB
 //!     cargo bench -- quick      books of 64 KiB only
@@ -6,15 +6,15 @@
 //!     cargo bench -- columns    columns before rows only
 //!     cargo bench -- guides     find and row with a guide and without, on books of 1 MiB
 //!     cargo bench -- sizes      the library's calls on books of 64 KiB, 1 MiB and 8 MiB, and the first builder on 8 MiB (slow)
-//!     cargo bench -- licence    the term of a licence only
+//!     cargo bench -- licence    licence dates only
 //!     cargo bench -- orders     the order of two trees only
 //!     cargo bench -- layouts    trees with edges and without: sizes, short spans, the rewriting
 //!     cargo bench -- lists      the sizes alone, also of books by columns and of 8 MiB
 //!     cargo bench -- write      writes books for `bench/run settings` to target/bench/books, and times nothing
-//!     cargo bench -- prefixes   rows by their first bytes, on books of 1 MiB and 8 MiB
+//!     cargo bench -- prefixes   rows by prefix, on books of 1 MiB and 8 MiB
 //!     cargo bench -- hostile    texts that are made to be slow beside honest books, of 1 MiB and 8 MiB, by the second builder
 //!
-//! Prints tables; docs/BENCHMARKS.md has those that matter. Nothing is asserted about time; that both give the same answers is.
+//! Prints tables; docs/BENCHMARKS.md has the most important ones. Times are not asserted; that both return the same is.
 
 #[path = "../tests/model/mod.rs"]
 mod model;
@@ -111,7 +111,7 @@ fn main() {
     }
 }
 
-/// Books with rows of one width: what columns do to the size of the tree, and the times of rearranging and of reading a row.
+/// Books with rows of one width: how columns change the size of the tree, and the times of rearranging and of reading a row.
 fn by_columns(quick: bool) {
     let sizes = &[65_536, 1_048_576][..if quick { 1 } else { 2 }];
     println!("\n## Columns before rows: books with rows of {EVEN_WIDTH} bytes, byte 10 counted\n");
@@ -258,7 +258,7 @@ fn time_rearranging(text: &[u8], width: u32) {
     println!("| {} | {width} | {} | {} | {} |", text.len(), shown(there), shown(from), shown(model));
 }
 
-/// Row by columns next to the model's, and, beside them, the same bytes by one span of the tree of the text as it stands.
+/// Row by columns next to the model's, and the same bytes by one span of the tree of the original text.
 fn time_rows(text: &[u8], name: &str) {
     let shape = Shape { m: 64, r: 2, h: 4 };
     let width = EVEN_WIDTH as u32;
@@ -282,9 +282,9 @@ fn time_rows(text: &[u8], name: &str) {
     println!("| {name} | {} | {} | {} | {ratio:.2} | {} |", text.len(), shown(library), shown(model), shown(plain));
 }
 
-/// The term of a licence, over days of the whole range.
+/// Licence dates, over days of the whole range.
 fn time_licences() {
-    println!("\n## The term of a licence\n\n| Question | Library | Model | Ratio |\n|---|---:|---:|---:|");
+    println!("\n## Licence dates\n\n| Question | Library | Model | Ratio |\n|---|---:|---:|---:|");
     let mut rng = Rng::new(112);
     let numbers: Vec<u32> = (0..10_000).map(|_| rng.below(36_525) as u32).collect();
     let day = |number: u32| dates::calendar()[number as usize % 36_525].as_bytes();
@@ -369,7 +369,7 @@ fn time_book(text: &[u8], name: &str, shape: Shape) {
     ];
     assert!(tree == expected, "both build the same tree");
     line("build", times);
-    // every call is lent bytes that the compiler knows nothing of, or it would ask the header's questions once for all calls of the model
+    // the compiler must know nothing about the bytes, or it would test the header's questions once for all calls of the model
     let tree = || black_box(tree.as_slice());
     line("check", both(5, || calls::check(tree()), || check::check(tree())));
 
@@ -403,7 +403,7 @@ fn book_patterns(text: &[u8]) -> Vec<Pattern> {
     vec![("a code", code.to_vec()), ("no row's code", [code, b"#"].concat()), ("a digit", b"1".to_vec())]
 }
 
-/// Patterns for a text of letters A: one that stands at every place, the longest, and the one after whose bytes most is to be tried again.
+/// Patterns for a text of letters A: one that occurs at every place, the longest, and the one with the most backtracking.
 fn letter_patterns() -> Vec<Pattern> {
     let mut last = vec![b'A'; 255];
     last.push(b'B');
@@ -490,7 +490,7 @@ fn time_calls(text: &[u8], shape: Shape) -> Vec<(&'static str, Duration)> {
     ]
 }
 
-/// An answer that is asked for alone.
+/// Keeps the compiler from dropping a result.
 fn used<T>(answer: T) {
     black_box(answer);
 }
@@ -516,15 +516,15 @@ fn time_longest() {
     }
 }
 
-/// Two blocks of 512 bytes, one or the other at each place.
+/// A text of blocks of 512 bytes, each one of two.
 fn equal_blocks(size: usize) -> Vec<u8> {
     let mut rng = Rng::new(9);
     let blocks: Vec<Vec<u8>> = (0..2).map(|_| (0..512).map(|_| rng.next() as u8).collect()).collect();
     (0..size / 512).flat_map(|_| blocks[rng.below(2)].clone()).collect()
 }
 
-/// All matches of worn keys, a call for each and one that answers none: by the library; by the model, which reads the text back once and tests each
-/// row; and, beside them, the whole text read by one span.
+/// All matches of worn keys, a call for each and one that returns none: by the library; by the model, which reads the text back once and tests each
+/// row; and the whole text read by one span.
 fn time_matches(text: &[u8], name: &str, shape: Shape) {
     let tree = fast::tree(text, shape, COUNTED);
     let tree = || black_box(tree.as_slice());
@@ -554,7 +554,7 @@ fn time_matches(text: &[u8], name: &str, shape: Shape) {
 /// All rows that start with a prefix, a call for each and one that returns none: by the library, without a guide and with one; and by the model, which reads the text back once and compares
 /// the beginning of each row. The trees of 8 MiB have 32,768 blocks of level 0.
 fn time_prefixes() {
-    println!("\n## Rows by their first bytes, byte 10 counted\n");
+    println!("\n## Rows by prefix, byte 10 counted\n");
     println!("| Book | Text | Leaf/arity/levels | Prefix | Rows | All calls | A call | All calls with a guide | A call | Model |");
     println!("|---|---:|---|---|---:|---:|---:|---:|---:|---:|");
     for (size, shape) in [(1_048_576, Shape { m: 64, r: 2, h: 4 }), (8_388_608, Shape { m: 256, r: 2, h: 1 })] {
@@ -595,7 +595,7 @@ fn scan_time(rng: &mut Rng, text: &[u8], shape: Shape) -> Duration {
     times[1]
 }
 
-/// Texts that are made to be slow, beside books of the same size and settings.
+/// Texts that are made to be slow, compared with books of the same size and settings.
 fn time_hostile() {
     println!("\n## Hostile texts beside books, by build_scanned, processor time\n");
     println!("| Text | Size | Leaf/arity/levels | Time | To the mixed book | To the nearly random book |\n|---|---:|---|---:|---:|---:|");
@@ -738,7 +738,7 @@ fn size_row(text: &[u8], name: &str, shape: Shape) {
     );
 }
 
-/// The size of the text as a program packs it; none where it is not installed.
+/// The size of the text compressed by a program; none if it is not installed.
 fn compressed(text: &[u8], program: &str, level: &str) -> Option<usize> {
     let mut child = Command::new(program).args([level, "-c"]).stdin(Stdio::piped()).stdout(Stdio::piped()).spawn().ok()?;
     let mut stdin = child.stdin.take()?;

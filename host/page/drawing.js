@@ -1,4 +1,4 @@
-// The tree drawn level by level: a bar of its blocks in the text's order for each level, and the path of a place lit up in it.
+// The tree drawn level by level: a bar of its blocks in the text's order for each level, with the path of a place highlighted.
 
 const SVG = "http://www.w3.org/2000/svg";
 /** Heights: the strip of the text, a kept block, and from one level to the next. */
@@ -41,7 +41,7 @@ class Drawing {
         this.draw();
     }
 
-    /** How many blocks of a level point. */
+    /** The number of pointing blocks of a level. */
     pointing(level, blocks) {
         const view = this.blocks.tree.library.view();
         let pointing = 0;
@@ -98,7 +98,7 @@ class Drawing {
         return [kept.join(""), points.join("")];
     }
 
-    /** For each column the share of its text that is kept, from below, and on it the share that points. */
+    /** For each column the share of its text that is kept, at the bottom, and above it the share that points. */
     shares(level, blocks) {
         const columns = Math.ceil(this.width);
         const [kept, points] = [new Float64Array(columns + 1), new Float64Array(columns + 1)];
@@ -119,7 +119,7 @@ class Drawing {
         return [all.map((column) => bar(column, 0, kept[column])).join(""), all.map((column) => bar(column, kept[column], points[column])).join("")];
     }
 
-    /** Light the path of a place, and mark other places in the strip. */
+    /** Highlights the path of a place, and marks other places in the strip. */
     light(path, place, marks = []) {
         [this.path, this.place, this.marks] = [path, place, marks];
         const columns = new Set();
@@ -142,7 +142,7 @@ class Drawing {
         return shape("rect", { x: Math.min(from, this.width - width), y: top, width, height: tall, rx: 1.5, class: "lit-block" });
     }
 
-    /** From the step before: down to a child, or along the level to the block pointed to. */
+    /** A line from the previous step: down to a child, or along the level to the block pointed to. */
     litStep(step, before) {
         const [x, top] = [this.reached(step), this.y(step.level)];
         if (!before) return shape("path", { d: `M${x} ${STRIP.top + STRIP.height}V${top}`, class: "lit-line" });
@@ -158,7 +158,7 @@ class Drawing {
     litEnds() {
         const dot = (step) => ({ cx: this.reached(step), cy: this.y(step.level) + LANE.bar * 0.75, r: 3.2, class: "lit-dot" });
         const x = this.reached(this.path[0]);
-        // beside the name of the strip, which takes the first columns
+        // to the right of the strip's name, which takes the first columns
         const name = { x: Math.max(x, 270), y: 13, "text-anchor": "end", class: "lit-name" };
         return [
             shape("path", { d: `M${x} ${STRIP.top - 3}v${STRIP.height + 6}`, class: "lit-mark" }),

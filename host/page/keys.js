@@ -15,7 +15,7 @@ function edge(depths) {
     return cuts.join("");
 }
 
-/** Draws the key of these ranges, low and high by turns; nothing where there are none. */
+/** Draws the key of these ranges, given as low, high, low, high; nothing if there are none. */
 function drawKey(svg, ranges) {
     const [lows, highs] = [0, 1].map((odd) => Array.from(ranges).filter((_, at) => at % 2 === odd));
     const end = CUT.left + 10 + lows.length * (CUT.width + CUT.slope);

@@ -1,6 +1,6 @@
 // The library's calls, by their names in include/blocktree.h, over the memory of its WebAssembly module.
 
-/** What the library refused; the words for a number are the tool's. */
+/** A refusal of the library, with the tool's text for its number. */
 class Refusal extends Error {
     constructor(number) {
         super(`refused (${number}): ${REFUSALS[number] ?? "a number that this page does not know"}`);
@@ -117,7 +117,7 @@ class Library {
 
 /** A tree in the library's memory that bt_check accepts. */
 class Tree {
-    /** Takes the memory of the tree before it. */
+    /** Reuses the memory of the previous tree. */
     constructor(library, bytes) {
         this.library = library;
         library.free = library.start;
@@ -139,7 +139,7 @@ class Tree {
         return this.library.call(name, [this.at, BigInt(this.length), ...given], kinds);
     }
 
-    /** Null where byte 10 is not counted. */
+    /** Null if byte 10 is not counted. */
     rows() {
         return this.counted.some(({ byte }) => byte === 10) ? this.ask("bt_row_count", [], ["long"])[0] : null;
     }

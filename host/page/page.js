@@ -1,9 +1,9 @@
-// The shelf of books, what is said of the one that is open, and files that are dropped or chosen.
+// The list of books, the facts of the open one, and files that are dropped or chosen.
 
 /** Longest text that has a tree. */
 const MAX_TEXT = 8388608;
 
-/** Lets the browser show what was said before the work that follows. */
+/** Lets the browser show the last message before the work that follows. */
 const painted = () => new Promise((done) => setTimeout(done, 30));
 
 class Page {
@@ -25,7 +25,7 @@ class Page {
         this.dropping();
     }
 
-    /** The whole page takes files. */
+    /** Files can be dropped anywhere on the page. */
     dropping() {
         const over = (on) => document.body.classList.toggle("dropping", on);
         addEventListener("dragover", (event) => {
@@ -40,7 +40,7 @@ class Page {
         });
     }
 
-    /** Files that come: manifests go to the trees of their name, the others onto the shelf; the last one is opened. */
+    /** Adds files: manifests belong to the trees of their name, the others are added to the list; the last one is opened. */
     async take(files) {
         const read = await Promise.all(files.map(async (file) => ({ name: file.name, bytes: new Uint8Array(await file.arrayBuffer()) })));
         const [manifests, books] = [true, false].map((json) => read.filter(({ name }) => name.endsWith(".tree.json") === json));
@@ -49,7 +49,7 @@ class Page {
         if (read.length > 0) await this.open(books.at(-1) ?? this.book);
     }
 
-    /** Of a manifest that is no object, or in which one of these members is no string, nothing is taken. */
+    /** A manifest that is no object, or in which one of these members is no string, is ignored. */
     manifest(book, bytes) {
         if (!book) return;
         const names = ["maker", "edition", "first", "last"];
@@ -71,7 +71,7 @@ class Page {
         return this.turn;
     }
 
-    /** Open a tree, or build that of a book; what is refused shows its number and nothing else. */
+    /** Opens a tree, or builds that of a book; a refusal shows its number and nothing else. */
     async openNow(book) {
         this.book = book;
         this.shelf();
@@ -93,7 +93,7 @@ class Page {
         }
     }
 
-    /** Nothing of the tree before stays. */
+    /** Removes everything about the previous tree. */
     close() {
         this.tree = null;
         for (const id of ["facts", "answers", "refused", "licence", "save"]) byId(id).hidden = true;
@@ -181,7 +181,7 @@ class Page {
         return pair;
     }
 
-    /** Whether the book is open on a day, by the proved call; nothing where no term is given. */
+    /** Whether the book is open on a day, by the proved call; nothing if it has no licence dates. */
     licence() {
         const { first, last } = this.book;
         if (!this.tree || first === undefined || last === undefined) return;
@@ -200,7 +200,7 @@ class Page {
         }
     }
 
-    /** The digest that was printed with the book, beside that of the text. */
+    /** Compares the digest that was printed with the book with that of the text. */
     compare() {
         const printed = byId("printed").value.replace(/\s/g, "").toLowerCase();
         const output = byId("printed-answer");
@@ -211,7 +211,7 @@ class Page {
         else output.textContent = same ? "the same: this is the printed book" : "another text: this is not the printed book";
     }
 
-    /** Light a path, with the blocks that the drawing names beside the figure of the library's call. */
+    /** Highlights a path, with the number of blocks drawn and the number that the library's call returns. */
     light({ card, words, place, call, entered, marks }) {
         const path = place === null ? [] : this.drawing.blocks.path(place);
         this.drawing.light(path, place, marks);

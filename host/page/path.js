@@ -1,4 +1,4 @@
-// The blocks of a tree, read from its records. The drawing alone is made of them: every answer is the library's.
+// The blocks of a tree, read from its records. Only the drawing uses them: every answer is the library's.
 
 class Blocks {
     constructor(tree) {

@@ -7,7 +7,7 @@ const LONG_ROW = 1000;
 /** Rows shown around the given one. */
 const WINDOW = 9;
 
-/** A list that is cut after a page of lines, with a word that it is and a button to go on. */
+/** A list that is cut after a page of lines, with a note and a button to show more. */
 class Listing {
     constructor(id) {
         [this.list, this.note, this.more] = ["list", "note", "more"].map((part) => byId(`${id}-${part}`));
@@ -55,7 +55,7 @@ function line({ number, text, press }) {
     return item;
 }
 
-/** What is said of a list of rows. */
+/** The note below a list of rows. */
 function rowsSaid(none) {
     return (shown, more) => {
         if (shown === 0) return none;
@@ -81,7 +81,7 @@ class Questions {
         byId("row-later").addEventListener("click", () => this.window(this.first + WINDOW));
     }
 
-    /** Enter asks; fields whose answer is a figure ask as they are typed in. */
+    /** The Enter key starts a question; fields whose answer is a figure start it on every key. */
     on(id, typed, ask) {
         const answer = () => this.answer(byId(`${id}-answer`), ask);
         byId(`${id}-form`).addEventListener("submit", (event) => {
@@ -105,7 +105,7 @@ class Questions {
         }
     }
 
-    /** The words of a refusal, with the numbers that would have been answered. */
+    /** The text of a refusal, with the numbers that are allowed. */
     why(error) {
         if (error.number === 12 && this.most === 0) return "refused (12): the text has no such byte";
         if (error.number === 12) return `refused (12): numbers go from 1 to ${grouped(this.most)}`;
@@ -122,7 +122,7 @@ class Questions {
         byId("row-all").hidden = true;
     }
 
-    /** No tree: no answers at all. */
+    /** Without a tree there are no answers. */
     close() {
         this.tree = null;
         for (const list of [this.code, this.places, this.worn]) list.clear();
@@ -162,7 +162,7 @@ class Questions {
         for (const [id, value] of Object.entries(values)) byId(id).value = value;
     }
 
-    /** The tree has rows to look for. */
+    /** Throws if the tree has no rows. */
     needRows() {
         if (this.rows === null) throw new Refusal(11);
         if (this.rows === 0) throw new Wrong("The book has no rows.");
@@ -233,7 +233,7 @@ class Questions {
         return byId("place-answer").textContent;
     }
 
-    /** The place whose path is lit, with its byte; null for none. */
+    /** The place whose path is highlighted, with its byte; null for none. */
     showPlace(place) {
         const { value, entered } = place === null ? {} : this.tree.byte(place);
         byId("place").value = place ?? "";
@@ -242,7 +242,7 @@ class Questions {
         return entered;
     }
 
-    /** Light the path of a place by the call that reads its byte. */
+    /** Highlights the path of a place by the call that reads its byte. */
     lightPlace(words, place, card, marks = []) {
         this.lit({ card, words, place, call: "bt_byte", entered: this.showPlace(place), marks });
     }
@@ -300,7 +300,7 @@ class Questions {
         this.lightFirst(this.worn);
     }
 
-    /** Light the first line of a search. */
+    /** Highlights the first line of a search. */
     lightFirst(listing) {
         listing.list.querySelector("button")?.click();
     }

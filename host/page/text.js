@@ -1,6 +1,6 @@
 "use strict";
 
-// What the tool gave this page, and words for numbers and bytes.
+// The data that the tool put into this page, and numbers and bytes as text.
 
 const GIVEN = JSON.parse(document.getElementById("given").textContent);
 const REFUSALS = GIVEN.refusals;
@@ -38,7 +38,7 @@ function shownByte(byte) {
     return `${byte} '${names[byte] ?? (printable ? String.fromCharCode(byte) : `\\x${twoDigits(byte)}`)}'`;
 }
 
-/** Bytes as text: UTF-8 where they are, with control characters and marks of direction made visible. */
+/** Bytes as text: UTF-8 if they are valid, with control characters and marks of direction made visible. */
 function shownBytes(bytes) {
     let text;
     try {
@@ -51,7 +51,7 @@ function shownBytes(bytes) {
     return text.replace(/[\x00-\x1f\x7f-\x9f\u200b-\u200f\u2028-\u202e\u2066-\u2069\ufeff]/g, visible);
 }
 
-/** A row of a list: at most 120 of its bytes, and a word where it has more. */
+/** A row of a list: at most 120 of its bytes, with a note if it has more. */
 function shownRow(tree, q) {
     const { bytes, length } = tree.row(q, 120);
     return shownBytes(bytes) + (length > bytes.length ? ` … (${several(length, "byte")})` : "");

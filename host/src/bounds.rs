@@ -17,7 +17,7 @@ pub const MAX_TREE: u64 = 1_111_359_588;
 /// The length of the longest pattern.
 pub const MAX_PATTERN: usize = 256;
 
-/// The size of a buffer that is enough for `list`.
+/// The size of a buffer that the lines of `list` always fit.
 pub const LIST_LENGTH: usize = 352;
 
 /// The number that digits with separated thousands represent.
@@ -54,7 +54,7 @@ mod tests {
         assert!(include_str!("../../docs/FORMAT.md").contains(" has 1,111,359,588 bytes: n 8,388,608, m 1, r 2, H 8, k 4,"));
     }
 
-    /// The library, its header and the page of its format have the same bound.
+    /// The library, its header and docs/FORMAT.md have the same bound.
     #[test]
     fn the_longest_text_everywhere() {
         let longest = MAX_TEXT as u32;

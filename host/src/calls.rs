@@ -1,6 +1,6 @@
 //! The library's C calls, declared as in include/blocktree.h, each with a safe function that takes slices and returns the refusal (0 for none) and all figures.
 
-/// The number of figures that `info` writes.
+/// The refusal of figures that `info` writes.
 pub const FIGURES: usize = 23;
 
 mod declared {
@@ -107,7 +107,7 @@ mod declared {
 
 #[cfg(test)]
 thread_local! {
-    /// The number of slices that this thread has passed to the library, one or more for each call: tests bound the number of calls by it.
+    /// The refusal of slices that this thread has passed to the library, one or more for each call: tests bound the number of calls by it.
     pub(crate) static LENT: std::cell::Cell<u64> = const { std::cell::Cell::new(0) };
 }
 
@@ -121,7 +121,7 @@ fn len<T>(lent: &[T]) -> u64 {
 // Safety of all calls below: a slice's pointer is non-null and good for its length, a `&mut` is aligned and overlaps no other argument, and the
 // library accesses only its arguments, for any bytes (proved).
 
-/// The number and the tree's size.
+/// The refusal and the tree's size.
 pub fn build(text: &[u8], leaf: u32, arity: u32, levels: u32, counted: &[u8], out: &mut [u8]) -> (u32, u32) {
     let mut size = 0;
     let number = unsafe {
@@ -130,61 +130,61 @@ pub fn build(text: &[u8], leaf: u32, arity: u32, levels: u32, counted: &[u8], ou
     (number, size)
 }
 
-/// The number, and a size that is enough.
+/// The refusal, and the size bound.
 pub fn size_bound(n: u32, leaf: u32, arity: u32, levels: u32, counted: u32) -> (u32, u64) {
     let mut size = 0;
     let number = unsafe { declared::bt_size_bound(n, leaf, arity, levels, counted, &mut size) };
     (number, size)
 }
 
-/// The number.
+/// The refusal.
 pub fn check(tree: &[u8]) -> u32 {
     unsafe { declared::bt_check(tree.as_ptr(), len(tree)) }
 }
 
-/// The number, the byte and the blocks entered.
+/// The refusal, the byte and the blocks entered.
 pub fn byte(tree: &[u8], place: u32) -> (u32, u32, u32) {
     let (mut value, mut entered) = (0, 0);
     let number = unsafe { declared::bt_byte(tree.as_ptr(), len(tree), place, &mut value, &mut entered) };
     (number, value, entered)
 }
 
-/// The number, where the part starts in the tree's bytes, and its length.
+/// The refusal, where the part starts in the tree's bytes, and its length.
 pub fn run_range(tree: &[u8], place: u32) -> (u32, u64, u32) {
     let (mut offset, mut length) = (0, 0);
     let number = unsafe { declared::bt_run_range(tree.as_ptr(), len(tree), place, &mut offset, &mut length) };
     (number, offset, length)
 }
 
-/// The number and the blocks entered.
+/// The refusal and the blocks entered.
 pub fn span(tree: &[u8], place: u32, length: u32, buffer: &mut [u8]) -> (u32, u32) {
     let mut entered = 0;
     let number = unsafe { declared::bt_span(tree.as_ptr(), len(tree), place, length, buffer.as_mut_ptr(), len(buffer), &mut entered) };
     (number, entered)
 }
 
-/// The number, the count and the blocks entered.
+/// The refusal, the count and the blocks entered.
 pub fn count(tree: &[u8], byte: u32, i: u32) -> (u32, u64, u32) {
     let (mut count, mut entered) = (0, 0);
     let number = unsafe { declared::bt_count(tree.as_ptr(), len(tree), byte, i, &mut count, &mut entered) };
     (number, count, entered)
 }
 
-/// The number, the place and the blocks entered.
+/// The refusal, the place and the blocks entered.
 pub fn find(tree: &[u8], byte: u32, j: u32) -> (u32, u32, u32) {
     let (mut place, mut entered) = (0, 0);
     let number = unsafe { declared::bt_find(tree.as_ptr(), len(tree), byte, j, &mut place, &mut entered) };
     (number, place, entered)
 }
 
-/// The number and the row's length.
+/// The refusal and the row's length.
 pub fn row(tree: &[u8], q: u32, buffer: &mut [u8]) -> (u32, u32) {
     let mut length = 0;
     let number = unsafe { declared::bt_row(tree.as_ptr(), len(tree), q, buffer.as_mut_ptr(), len(buffer), &mut length) };
     (number, length)
 }
 
-/// The number, and the number of places.
+/// The refusal, and the number of places.
 pub fn places(tree: &[u8], pattern: &[u8], table: &mut [u32]) -> (u32, u32) {
     let mut places = 0;
     let number =
@@ -192,65 +192,65 @@ pub fn places(tree: &[u8], pattern: &[u8], table: &mut [u32]) -> (u32, u32) {
     (number, places)
 }
 
-/// The number and the next row that matches, 0 for none; the mark is moved.
+/// The refusal and the next row that matches, 0 for none; the mark is moved.
 pub fn next_match(tree: &[u8], ranges: &[u8], mark: &mut u32) -> (u32, u32) {
     let mut row = 0;
     let number = unsafe { declared::bt_next_match(tree.as_ptr(), len(tree), ranges.as_ptr(), len(ranges), mark, &mut row) };
     (number, row)
 }
 
-/// The refusal or 0, and the next row that starts with the prefix, 0 for none; the mark is moved.
+/// The refusal, and the next row that starts with the prefix, 0 for none; the mark is moved.
 pub fn next_with_prefix(tree: &[u8], prefix: &[u8], mark: &mut u32) -> (u32, u32) {
     let mut row = 0;
     let number = unsafe { declared::bt_next_with_prefix(tree.as_ptr(), len(tree), prefix.as_ptr(), len(prefix), mark, &mut row) };
     (number, row)
 }
 
-/// The number; the text rearranged by columns.
+/// The refusal; the text rearranged by columns.
 pub fn to_columns(text: &[u8], width: u32, out: &mut [u8]) -> u32 {
     unsafe { declared::bt_to_columns(text.as_ptr(), len(text), width, out.as_mut_ptr(), len(out)) }
 }
 
-/// The number; the text by columns rearranged back to rows.
+/// The refusal; the text by columns rearranged back to rows.
 pub fn from_columns(text: &[u8], width: u32, out: &mut [u8]) -> u32 {
     unsafe { declared::bt_from_columns(text.as_ptr(), len(text), width, out.as_mut_ptr(), len(out)) }
 }
 
-/// The number; row `a` read by columns.
+/// The refusal; row `a` read by columns.
 pub fn row_by_columns(tree: &[u8], width: u32, a: u32, buffer: &mut [u8]) -> u32 {
     unsafe { declared::bt_row_by_columns(tree.as_ptr(), len(tree), width, a, buffer.as_mut_ptr(), len(buffer)) }
 }
 
-/// The number; the SHA-256 of the tree's text is in the first 32 bytes.
+/// The refusal; the SHA-256 of the tree's text is in the first 32 bytes.
 pub fn digest(tree: &[u8], out: &mut [u8]) -> u32 {
     unsafe { declared::bt_digest(tree.as_ptr(), len(tree), out.as_mut_ptr(), len(out)) }
 }
 
-/// The number; the SHA-256 of the text is in the first 32 bytes.
+/// The refusal; the SHA-256 of the text is in the first 32 bytes.
 pub fn digest_text(text: &[u8], out: &mut [u8]) -> u32 {
     unsafe { declared::bt_digest_text(text.as_ptr(), len(text), out.as_mut_ptr(), len(out)) }
 }
 
-/// The number and the words of a guide.
+/// The refusal and the words of a guide.
 pub fn guide_words(tree: &[u8]) -> (u32, u64) {
     let mut words = 0;
     let number = unsafe { declared::bt_guide_words(tree.as_ptr(), len(tree), &mut words) };
     (number, words)
 }
 
-/// The number and the words of the guide that is written.
+/// The refusal and the words of the guide that is written.
 pub fn make_guide(tree: &[u8], table: &mut [u8]) -> (u32, u64) {
     let mut words = 0;
     let number = unsafe { declared::bt_make_guide(tree.as_ptr(), len(tree), table.as_mut_ptr(), len(table), &mut words) };
     (number, words)
 }
 
-/// The number.
+/// The refusal.
 pub fn check_guide(tree: &[u8], guide: &[u8]) -> u32 {
     unsafe { declared::bt_check_guide(tree.as_ptr(), len(tree), guide.as_ptr(), len(guide)) }
 }
 
-/// The number, the place, the length of its path and the steps on level 0.
+/// The refusal, the place, the length of its path and the steps on level 0.
 pub fn find_guided(tree: &[u8], guide: &[u8], byte: u32, j: u32) -> (u32, u32, u32, u32) {
     let (mut place, mut entered, mut steps) = (0, 0, 0);
     let number =
@@ -258,7 +258,7 @@ pub fn find_guided(tree: &[u8], guide: &[u8], byte: u32, j: u32) -> (u32, u32, u
     (number, place, entered, steps)
 }
 
-/// The number and the row's length.
+/// The refusal and the row's length.
 pub fn row_guided(tree: &[u8], guide: &[u8], q: u32, buffer: &mut [u8]) -> (u32, u32) {
     let mut length = 0;
     let number =
@@ -274,21 +274,21 @@ pub fn next_with_prefix_guided(tree: &[u8], guide: &[u8], prefix: &[u8], mark: &
     (number, row)
 }
 
-/// The number, the order of the first text (1 before, 2 same, 3 after), the length of the longest common prefix, and which tree comes first (1 or 2).
+/// The refusal, the order of the first text (1 before, 2 same, 3 after), the length of the longest common prefix, and which tree comes first (1 or 2).
 pub fn compare(one: &[u8], other: &[u8]) -> (u32, u32, u32, u32) {
     let (mut order, mut shared, mut first) = (0, 0, 0);
     let number = unsafe { declared::bt_compare(one.as_ptr(), len(one), other.as_ptr(), len(other), &mut order, &mut shared, &mut first) };
     (number, order, shared, first)
 }
 
-/// The number and the lines' length.
+/// The refusal and the lines' length.
 pub fn list(tree: &[u8], out: &mut [u8]) -> (u32, u32) {
     let mut length = 0;
     let number = unsafe { declared::bt_list(tree.as_ptr(), len(tree), out.as_mut_ptr(), len(out), &mut length) };
     (number, length)
 }
 
-/// The number, the tree's size and the windows looked up.
+/// The refusal, the tree's size and the windows looked up.
 pub fn build_scanned(text: &[u8], leaf: u32, arity: u32, levels: u32, counted: &[u8], work: &mut [u32], out: &mut [u8]) -> (u32, u32, u32) {
     let (mut size, mut windows) = (0, 0);
     let number = unsafe {
@@ -316,21 +316,21 @@ pub fn scan_words(n: u32, leaf: u32) -> u64 {
     unsafe { declared::bt_scan_words(n, leaf) }
 }
 
-/// The number, and 1 for open, else 0.
+/// The refusal, and 1 for open, else 0.
 pub fn open_on(first: &[u8], last: &[u8], today: &[u8]) -> (u32, u32) {
     let mut open = 0;
     let number = unsafe { declared::bt_open_on(first.as_ptr(), len(first), last.as_ptr(), len(last), today.as_ptr(), len(today), &mut open) };
     (number, open)
 }
 
-/// The number and the days left.
+/// The refusal and the days left.
 pub fn days_left(last: &[u8], today: &[u8]) -> (u32, i32) {
     let mut days = 0;
     let number = unsafe { declared::bt_days_left(last.as_ptr(), len(last), today.as_ptr(), len(today), &mut days) };
     (number, days)
 }
 
-/// The number; the day is moved.
+/// The refusal; the day is moved.
 pub fn renew(day: &mut [u8]) -> u32 {
     unsafe { declared::bt_renew(day.as_mut_ptr(), len(day)) }
 }
@@ -340,33 +340,33 @@ pub fn version() -> u32 {
     unsafe { declared::bt_version() }
 }
 
-/// The number; the figures are written, in the order of the header's enum bt_figure.
+/// The refusal; the figures are written, in the order of the header's enum bt_figure.
 pub fn info(tree: &[u8], figures: &mut [u64; FIGURES]) -> u32 {
     unsafe { declared::bt_info(tree.as_ptr(), len(tree), figures.as_mut_ptr()) }
 }
 
-/// The number, and the number of rows.
+/// The refusal, and the number of rows.
 pub fn row_count(tree: &[u8]) -> (u32, u64) {
     let mut rows = 0;
     let number = unsafe { declared::bt_row_count(tree.as_ptr(), len(tree), &mut rows) };
     (number, rows)
 }
 
-/// The number and the row's length.
+/// The refusal and the row's length.
 pub fn row_length(tree: &[u8], q: u32) -> (u32, u32) {
     let mut length = 0;
     let number = unsafe { declared::bt_row_length(tree.as_ptr(), len(tree), q, &mut length) };
     (number, length)
 }
 
-/// The number, and the words that are enough for all places of any pattern of that length.
+/// The refusal, and the words that all places of any pattern of that length fit.
 pub fn places_words(tree: &[u8], length: u32) -> (u32, u32) {
     let mut words = 0;
     let number = unsafe { declared::bt_places_words(tree.as_ptr(), len(tree), length, &mut words) };
     (number, words)
 }
 
-/// The number, and the size of the tree in layout 1 that was written.
+/// The refusal, and the size of the tree in layout 1 that was written.
 pub fn without_edges(tree: &[u8], out: &mut [u8]) -> (u32, u64) {
     let mut size = 0;
     let number = unsafe { declared::bt_without_edges(tree.as_ptr(), len(tree), out.as_mut_ptr(), len(out), &mut size) };

@@ -1,4 +1,4 @@
-//! The term of a licence: days as eight digits, year, month and day, from 20000101 to 20991231.
+//! Licence dates: days as eight digits, year, month and day, from 20000101 to 20991231.
 
 use crate::calls;
 use crate::refusal::{answer, Refusal};

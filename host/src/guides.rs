@@ -19,7 +19,7 @@ impl Tree<'_> {
     /// with its occurrence 1, 65, 129, ..
     pub fn make_guide(&self) -> Result<Vec<u8>, Refusal> {
         let (number, words) = calls::guide_words(self.bytes);
-        // no accepted tree has more, and one that the check refuses needs no table
+        // no accepted tree has a larger guide, and a refused tree gets none
         let most = words.min(4 * (MAX_TEXT as u64).div_ceil(64));
         let mut guide = vec![0; 4 * answer(number, most)? as usize];
         let (number, words) = calls::make_guide(self.bytes, &mut guide);

@@ -76,7 +76,7 @@ pub struct Range {
     pub high: u8,
 }
 
-/// A size that is enough for the tree of any text of `n` bytes.
+/// The size bound: no tree of a text of `n` bytes is larger.
 pub fn size_bound(n: usize, settings: &Settings) -> Result<u64, Refusal> {
     let n = u32::try_from(n).unwrap_or(u32::MAX);
     let counted = u32::try_from(settings.counted.len()).unwrap_or(u32::MAX);
@@ -102,8 +102,8 @@ pub struct BuildScannedAnswer {
     pub windows: u32,
 }
 
-/// The tree of `text`, the same as `build` gives, by one scan of the text for each level: on long texts in a small part of the time. It takes
-/// four words of memory besides for each leaf length of text. The seed of its fingerprints is random in each call, so no text can be made
+/// The tree of `text`, the same as `build` gives, by one scan of the text for each level: on long texts in a small part of the time. It needs
+/// four more words of memory for each leaf length of text. The seed of its fingerprints is random in each call, so no text can be made
 /// to be slow.
 pub fn build_scanned(text: &[u8], settings: &Settings) -> Result<BuildScannedAnswer, Refusal> {
     let bound = size_bound(text.len(), settings)?;
@@ -214,7 +214,7 @@ impl<'a> Tree<'a> {
 
     /// Locate: all places of `pattern`, 1 to `MAX_PATTERN` bytes, ascending; occurrences may overlap.
     pub fn places(&self, pattern: &[u8]) -> Result<Vec<u32>, Refusal> {
-        // a few words are enough mostly, and one for each byte of the text always
+        // mostly a few words suffice; one for each byte of the text always does
         let most = MAX_TEXT.min(self.text_length() as usize);
         let mut table = vec![0; most.min(4096)];
         let (mut number, mut places) = calls::places(self.bytes, pattern, &mut table);
@@ -234,7 +234,7 @@ impl<'a> Tree<'a> {
     }
 
     /// The same tree in layout 1, without its edges; a tree of layout 1 is copied. It is never larger, and every method returns the same, except
-    /// that `run_at` returns offsets into the new bytes and `span` reports 0 blocks entered.
+    /// that `run_range` returns offsets into the new bytes and `span` reports 0 blocks entered.
     pub fn without_edges(&self) -> Result<Vec<u8>, Refusal> {
         let mut out = vec![0; self.bytes.len()];
         let (number, size) = calls::without_edges(self.bytes, &mut out);
@@ -261,8 +261,8 @@ pub fn text_rows(text: &[u8]) -> impl Iterator<Item = &[u8]> {
     })
 }
 
-/// The first place of a byte. Eight bytes are compared at a time: where they differ from it, a subtraction borrows from no bit but those of equal bytes, and no
-/// byte before the first equal one borrows.
+/// The first place of a byte. Eight bytes are compared at a time: equal bytes become zero, and the lowest bit of the
+/// test for zero bytes belongs to the first of them.
 pub(crate) fn first(bytes: &[u8], byte: u8) -> Option<usize> {
     const ONES: u64 = 0x0101_0101_0101_0101;
     let mut eights = bytes.chunks_exact(8);
@@ -289,7 +289,7 @@ mod tests {
         assert!(split(b"").is_empty());
     }
 
-    /// A byte found eight bytes at a time, beside each byte by itself: pairs of bytes at every place of up to 20 bytes.
+    /// Compares the search by eight bytes with a search byte by byte: pairs of bytes at every place of up to 20 bytes.
     #[test]
     fn first_places() {
         for (length, at) in (0..=20usize).flat_map(|length| (0..length).map(move |at| (length, at))) {

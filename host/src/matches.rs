@@ -13,7 +13,7 @@ impl Tree<'_> {
         let start = if shown == 1 { 0 } else { self.find(10, shown - 1)?.value + 1 };
         let length = self.text_length().checked_sub(start).ok_or(Refusal::Path)?;
         let text = self.span(start, length)?.value;
-        // the library has taken the ranges: none is empty, none goes past 9
+        // the library has accepted the ranges: none is empty, and no depth is above 9
         let cuts: Vec<_> = ranges.iter().map(|range| (b'0' + range.low, range.high - range.low)).collect();
         let mut number = shown;
         for row in text_rows(&text) {
@@ -67,9 +67,9 @@ mod tests {
         build(text, &Settings { leaf: 16, arity: 2, levels: 3, counted: vec![10] }).expect("a tree")
     }
 
-    /// Over the edges of what is a key: lengths of code and cuts, other separators, ends of rows, the row before and after.
+    /// Rows that are just keys or just not: lengths of code and cuts, other separators, ends of rows, the row before and after.
     #[test]
-    fn rows_at_the_edges() {
+    fn rows_that_are_just_keys_or_not() {
         let codes = [&b""[..], b"A", b"A\r", b" ", b"A B", b"\xff\x00", b"ABCDEFGHIJKL", b"ABCDEFGHIJKLM"];
         let cuts = [&b""[..], b"0", b"9", b"/", b":", b"1x", b"1 2", b"12", b"1\r", b"0123456789", b"01234567890", b"12 "];
         let mut matched = 0;
@@ -108,7 +108,7 @@ mod tests {
         assert_eq!(calls::LENT.get() - before, 5);
     }
 
-    /// The same rows as `next_match` gives one by one, from every part of the book on; rows of all ends, and rows that are no keys.
+    /// The same rows as `next_match` returns one by one, from every part of the book on; rows with every kind of end, and rows that are no keys.
     #[test]
     fn matches_one_by_one() {
         let rows = (0..9000).map(|row: u32| match row % 11 {

@@ -16,11 +16,11 @@ pub struct Level {
 /// A block of a level, as its record has it.
 #[derive(Clone, Copy, Debug, PartialEq, Eq)]
 pub struct Block {
-    /// Its first place in the text.
+    /// The block's first place in the text.
     pub start: u32,
-    /// Its bytes; the last block of a text can be shorter than a full one.
+    /// The block's length; the last block of a text can be shorter than a full one.
     pub length: u32,
-    /// The place in the text where its occurrence begins, for a block that points.
+    /// For a block that points: the place in the text where its occurrence begins.
     pub points_to: Option<u32>,
 }
 

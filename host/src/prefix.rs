@@ -1,4 +1,4 @@
-//! Rows by their first bytes, and rows read into a buffer that is used again.
+//! Rows by prefix, and rows read into a buffer that is used again.
 
 use crate::refusal::answer;
 use crate::{calls, Refusal, Tree, MAX_TEXT};

@@ -60,7 +60,7 @@ refusals! {
 }
 
 impl Refusal {
-    /// Its number, as in `include/blocktree.h`.
+    /// The number of the refusal, as in `include/blocktree.h`.
     pub fn number(self) -> u32 {
         self as u32
     }

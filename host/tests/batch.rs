@@ -1,4 +1,4 @@
-//! `build` of several books at a time: the order of what is written and reported, the table, warnings, progress, signals.
+//! `build` of several books at a time: the order of files and reports, the table, warnings, progress, signals.
 
 #[path = "support/folder.rs"]
 mod folder;
@@ -32,7 +32,7 @@ fn shelf(name: &str) -> Folder {
 
 const BOOKS: &str = "long.txt late.txt none.txt small.txt empty.txt one.txt";
 
-/// What is printed, and each tree, are the same whatever is built at a time.
+/// The output and each tree are the same for any number of threads.
 #[test]
 fn in_the_order_given() {
     let folder = shelf("batch-order");
@@ -45,7 +45,7 @@ fn in_the_order_given() {
         folder.run(&format!("build {BOOKS} -f {jobs}")).status(2).prints(&printed).says(&said);
         assert!(trees == ["long", "late", "small", "empty", "one"].map(|book| folder.read(&format!("{book}.tree"))), "{jobs}");
     }
-    // each is the tree that the book has alone, with one thread and with several
+    // each tree is the one that the book has when built alone, with one thread and with several
     for (book, tree) in ["long", "late", "small", "empty", "one"].into_iter().zip(&trees) {
         for jobs in ["-j 1", "-j 3"] {
             folder.run(&format!("build {book}.txt -q -f -o alone.tree {jobs}")).succeeds();
@@ -77,7 +77,7 @@ fn the_table() {
          codebook: small.txt: warning: --small would give 1,928 bytes, 68.9 % of the text\n\
          codebook: empty.txt: warning: the book has no rows yet\n"
     ));
-    // none at all, and no report
+    // no book is built, and there is no report
     folder.run("build none.txt gone.txt").status(2).prints(
         "book           rows       text        tree     ratio  warnings\n\
          none.txt          -          -           -         -    failed\n\
@@ -107,7 +107,7 @@ fn warnings_are_counted() {
     assert!(done.printed().ends_with(", 26 warnings\n"), "{}", done.printed());
 }
 
-/// An object for each book in its turn, failures too, and one for all.
+/// An object for each book in the order given, failures too, and one for all.
 #[test]
 fn objects() {
     let folder = shelf("batch-objects");
@@ -123,7 +123,7 @@ fn objects() {
     assert!(objects.len() == 4 && objects.iter().all(|object| object.kind() == "object"));
 }
 
-/// A tree that goes to standard output is alone there.
+/// If a tree goes to standard output, nothing else does.
 #[test]
 fn one_from_standard_input() {
     let folder = shelf("batch-standard");
@@ -158,7 +158,7 @@ fn pipes(folder: &Folder, names: &[&str]) {
     }
 }
 
-/// The other end of a pipe; none where the tool has not opened it by then.
+/// The other end of a pipe; none if the tool has not opened it by then.
 fn opened(folder: &Folder, name: &str, within: Duration) -> Option<File> {
     const O_NONBLOCK: i32 = 0o4000;
     let start = Instant::now();
@@ -171,7 +171,7 @@ fn opened(folder: &Folder, name: &str, within: Duration) -> Option<File> {
     }
 }
 
-/// As many books are read at once as is said, and a book that waits does not keep back the others.
+/// -j books are read at once, and a book that waits does not hold up the others.
 #[test]
 fn at_the_same_time() {
     let folder = Folder::new("batch-parallel");
@@ -182,7 +182,7 @@ fn at_the_same_time() {
     assert!(opened(&folder, "c.txt", short).is_none(), "two at a time");
     b.write_all(b"B 1\n").expect("a pipe");
     drop(b);
-    // the second is built, and is written after the first
+    // the second book is built, and is written after the first
     let mut c = opened(&folder, "c.txt", long).expect("read");
     assert!(!folder.0.join("b.tree").exists());
     a.write_all(b"A 1\n").expect("a pipe");
@@ -201,7 +201,7 @@ fn at_the_same_time() {
     assert!(child.wait_with_output().expect("the tool ends").status.success());
 }
 
-/// While the first book is waited for, few of the others are built: what waits for its turn has a file open.
+/// While the tool waits for the first book, it builds few of the others: each finished tree holds a file open.
 #[test]
 fn few_books_wait() {
     let folder = Folder::new("batch-waiting");
@@ -210,7 +210,7 @@ fn few_books_wait() {
     books.iter().for_each(|book| folder.write(book, b"A 1\n"));
     let child = started(&folder, true, &format!("build a.txt {} -q -j 2 --leaf 4 --arity 2 --levels 1", books.join(" ")));
     let mut a = opened(&folder, "a.txt", Duration::from_secs(60)).expect("read");
-    // 32 that wait, and one at each thread
+    // 32 trees wait, and each thread works on one
     wait_until_ready(&folder, &child, true, 34);
     std::thread::sleep(Duration::from_millis(300));
     assert_eq!(folder.names().iter().filter(|name| name.starts_with(".codebook-")).count(), 34);
@@ -227,7 +227,7 @@ fn end(mut child: Child, signal: &str) {
     assert_eq!(child.wait().expect("the tool ends").code(), None, "ended by the signal");
 }
 
-/// A signal that comes while several books are at work leaves the trees that are written, and no part of another.
+/// A signal during the work on several books leaves the trees that are written, and no part of another.
 #[test]
 fn signals() {
     for (named, signals) in [(false, ["INT", "TERM", "HUP", "KILL"].as_slice()), (true, &["INT", "TERM", "HUP", "QUIT"])] {
@@ -237,7 +237,7 @@ fn signals() {
             folder.write("b.tree", b"old");
             let child = started(&folder, named, "build small.txt a.txt b.txt c.txt -q -f -j 4 --maker M");
             let held = ["a.txt", "b.txt", "c.txt"].map(|name| opened(&folder, name, Duration::from_secs(60)).expect("read"));
-            // a tree and a manifest for each book that is at work
+            // a tree and a manifest for each book in work
             wait_until_ready(&folder, &child, named, 6);
             let start = Instant::now();
             while !folder.0.join("small.tree").exists() {
@@ -253,7 +253,7 @@ fn signals() {
     }
 }
 
-/// On a terminal one line says how many books are done; what is printed meanwhile is not mixed with it.
+/// On a terminal one line says how many books are done; other output is not mixed with it.
 #[test]
 fn progress() {
     let folder = Folder::new("batch-progress");

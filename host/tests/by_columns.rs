@@ -1,6 +1,6 @@
-//! Columns before rows, the library against the model: texts of any width, outputs of any length, and rows read from good, damaged and wild trees.
+//! Columns before rows, the library compared with the model: texts of any width, outputs of any length, and rows read from valid, damaged and wild trees.
 //!
-//! ROUNDS sets how many rounds the tests go; SEED where they start.
+//! ROUNDS sets the number of rounds, SEED the start of the random numbers.
 
 #[path = "support/damage.rs"]
 mod damage;
@@ -14,7 +14,7 @@ use std::collections::BTreeSet;
 use support::books::{book, Kind};
 use support::{rounds, setting, to_hex, Rng};
 
-/// What lent bytes hold before a call.
+/// The value of every byte of a buffer before a call.
 const FILL: u8 = 0xEE;
 
 /// The model on the format's examples.
@@ -58,7 +58,7 @@ fn rearranged_texts() {
             assert!((0..2).all(|way| *ours[way] == *theirs[way]), "{width} {} in {length}", to_hex(&text));
             reached.insert(got[0]);
             if got == [0, 0] {
-                // either undoes the other
+                // each call is the inverse of the other
                 let mut back = vec![FILL; n];
                 assert_eq!(calls::from_columns(&ours[0][..n], width, &mut back), 0);
                 assert!(back == text);
@@ -72,7 +72,7 @@ fn rearranged_texts() {
     }
 }
 
-/// Rows of a tree, of any width, into buffers that are too short, exact and longer; the numbers met.
+/// Rows of a tree, of any width, into buffers that are too short, exact and longer. Returns the refusals that occurred.
 fn ask(rng: &mut Rng, tree: &[u8], reached: &mut BTreeSet<u32>) {
     let n = read::Tree::open(tree).map_or(9, |tree| tree.n as usize);
     for _ in 0..12 {
@@ -88,7 +88,7 @@ fn ask(rng: &mut Rng, tree: &[u8], reached: &mut BTreeSet<u32>) {
     }
 }
 
-/// Good trees of rearranged texts give the rows of the text; they, damaged ones and wild ones answer as the model does.
+/// Valid trees of rearranged texts return the rows of the text; on valid, damaged and wild trees the library returns what the model does.
 #[test]
 fn rows_of_trees() {
     let mut reached = BTreeSet::new();
@@ -120,7 +120,7 @@ fn rows_of_trees() {
     }
 }
 
-/// A long text, all its bytes there and back, and rows from its tree.
+/// A long text: to columns and back, and rows from its tree.
 #[test]
 fn long_books() {
     let mut rng = Rng::new(setting("SEED", 1));

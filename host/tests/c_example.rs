@@ -16,7 +16,7 @@ fn output(command: &mut Command) -> Output {
     output
 }
 
-/// What an example prints, compiled without a warning: the same as C and as C++.
+/// The output of an example, compiled without a warning. It is the same as C and as C++.
 fn printed(example: &str) -> String {
     let printed: Vec<String> = standards().into_iter().map(|standard| printed_by(standard, example)).collect();
     assert!(printed.iter().all(|text| *text == printed[0]), "{printed:?}");
@@ -27,7 +27,7 @@ fn printed_by(standard: &str, example: &str) -> String {
     run(standard, &repository().join(format!("examples/c/{example}.c")))
 }
 
-/// What a program in C prints, compiled by a standard of C or of C++.
+/// The output of a program, compiled by a standard of C or of C++.
 fn run(standard: &str, source: &Path) -> String {
     let (compiler, language) = if standard.contains("++") { ("g++", "c++") } else { ("gcc", "c") };
     let name = format!("{}-{}", source.file_stem().unwrap_or_default().to_string_lossy(), &standard[5..]);
@@ -58,7 +58,7 @@ fn standards() -> Vec<&'static str> {
     }
 }
 
-/// What a program that a test writes prints.
+/// The output of a program that a test writes.
 fn run_text(standard: &str, name: &str, text: &str) -> String {
     let source = Path::new(env!("CARGO_TARGET_TMPDIR")).join(format!("{name}.c"));
     std::fs::write(&source, format!("#include <stdio.h>\n#include \"blocktree.h\"\n{text}")).expect("a file");
@@ -80,12 +80,12 @@ fn checks_a_digest() {
     assert_eq!(printed("check_digest"), "the tree of 1060 bytes is of the printed text\nanother text is found out\n");
 }
 
-/// The header's words for each number are those of the tool.
+/// The header's text for each refusal is that of the tool.
 #[test]
-fn words_for_numbers() {
+fn texts_of_refusals() {
     let program = "int main(void) { for (uint32_t n = 0; n <= 99; n++) printf(\"%s\\n\", bt_refusal_text(n)); return 0; }\n";
     for standard in standards() {
-        let printed = run_text(standard, "words_for_numbers", program);
+        let printed = run_text(standard, "texts_of_refusals", program);
         for (number, line) in (0..).zip(printed.lines()) {
             match codebook::Refusal::from_number(number) {
                 Some(refusal) => assert_eq!(format!("refused ({number}): {line}"), refusal.to_string()),

@@ -7,7 +7,7 @@ use folder::Folder;
 
 const USAGE: &str = "usage: codebook code CODE [TREE]... [--prefix] [--guide GUIDE] [--json] [--unchecked] [--any-day] [--today DAY]";
 
-/// What is printed for these rows of the book in `tree`.
+/// The expected output for these rows of the book in `tree`.
 fn lines(folder: &Folder, tree: &str, rows: &[usize]) -> String {
     let book = String::from_utf8(folder.read("small.txt")).expect("a book");
     let book: Vec<&str> = book.lines().collect();
@@ -22,7 +22,7 @@ fn rows_of_a_code() {
     folder.run("code CH050\\x32 small.tree --unchecked").succeeds().prints(&all);
     folder.pipe("code CH0502", &folder.read("small.tree")).succeeds().prints(&all.replace("small.tree", "standard input"));
     folder.pipe("code CH0502 -", &folder.read("small.tree")).succeeds().prints(&all.replace("small.tree", "standard input"));
-    // the space after a code is a part of what is looked for
+    // the search includes the space after a code
     folder.run("code CH050 small.tree").status(1).prints("").says("codebook: small.tree: no row starts with 'CH050 '\n");
     let first = lines(&folder, "small.tree", &[1, 2, 3, 4, 5, 6, 7, 8, 9]);
     let found = folder.run("code --prefix CH050 small.tree").succeeds().printed();
@@ -59,10 +59,10 @@ fn several_books() {
     folder.run("build other.txt -o other.tree --leaf 4 --arity 2 --levels 3").succeeds();
     let both = lines(&folder, "small.tree", &[2, 42, 82, 122, 162]) + "other.tree: row 1: CH0502 1\n";
     folder.run("code CH0502 small.tree other.tree").succeeds().prints(&both).says("");
-    // found in one of them
+    // found in one of the books
     folder.run("code K01159 small.tree other.tree").succeeds().prints("other.tree: row 2: K01159 24\n").says("");
     folder.run("code X small.tree other.tree").status(1).prints("").says("codebook: no row starts with 'X '\n");
-    // a refused tree, and a file that is not there: the others are read, and the worst status counts
+    // a refused tree and a missing file: the others are read, and the status is the highest
     folder.write("cut.tree", &folder.read("other.tree")[..90]);
     let short = "codebook: cut.tree: refused (5): a tree has at least 100 bytes; this is no tree, or cut off; it has 90 bytes\n";
     folder.run("code K01159 cut.tree other.tree").status(1).prints("other.tree: row 2: K01159 24\n").says(short);
@@ -121,7 +121,7 @@ fn manifests() {
     }
     folder.write("small.tree.json", b"{\"length\":2800}");
     folder.run("code CH0502 small.tree").succeeds().prints(&plain).says("");
-    // the manifest may have the term of a licence: one that is malformed is refused, and any day will do without it
+    // the manifest may have licence dates: a malformed one is refused, and --any-day reads the tree without it
     let long = [b"{".as_slice(), &[b' '; 65_536]].concat();
     for (manifest, wrong) in [
         (b"".as_slice(), "a value is expected at byte 0, in line 1"),

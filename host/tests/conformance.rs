@@ -1,4 +1,4 @@
-//! conformance/: its files are as the script makes them of the cases, and the tool and the Python module pass them.
+//! The files of conformance/ are those that the script makes from the cases, and the tool and the Python module pass them.
 
 use std::path::{Path, PathBuf};
 use std::process::Command;
@@ -7,7 +7,7 @@ fn repository() -> PathBuf {
     Path::new(env!("CARGO_MANIFEST_DIR")).join("..")
 }
 
-/// What a script of the folder prints where all is well; None without Python.
+/// The output of a script of the folder, which must succeed; None without Python.
 fn script(name: &str, words: &[&str], library: &Path) -> Option<String> {
     let tools = Path::new(env!("CARGO_BIN_EXE_codebook")).parent().expect("a folder");
     let path = format!("{}:{}", tools.display(), std::env::var("PATH").unwrap_or_default());
@@ -47,13 +47,13 @@ fn the_module_passes() {
     }
 }
 
-/// run.py with these words: its status, and what it says on both outputs. None without Python.
+/// run.py with these arguments: its status and both outputs. None without Python.
 fn run(words: &[&str]) -> Option<(Option<i32>, String, String)> {
     let done = Command::new("python3").arg("-B").arg(repository().join("conformance/run.py")).args(words).output().ok()?;
     Some((done.status.code(), String::from_utf8_lossy(&done.stdout).into_owned(), String::from_utf8_lossy(&done.stderr).into_owned()))
 }
 
-/// A command that is not there is named, and is no wrong case.
+/// A missing command is named and is not counted as a wrong case.
 #[test]
 fn a_missing_command() {
     for option in ["--build", "--check", "--ask"] {
@@ -67,9 +67,9 @@ fn a_missing_command() {
     }
 }
 
-/// Of a wrong case what the builder said is shown; what is not shown is counted; the number of a refusal is compared.
+/// For a wrong case the builder's output is shown; cases that are not shown are counted; the refusal's number is compared.
 #[test]
-fn wrong_cases_are_told() {
+fn wrong_cases_are_reported() {
     let refusals = |text: &str, number: u32| text.lines().filter(|line| line.ends_with(&format!(" => {number}, not refused 2"))).count();
     let Some((status, printed, _)) = run(&["--build", "sh -c 'echo mybuild: refused 2 >&2; exit 1'", "--all"]) else { return };
     assert_eq!((status, refusals(&printed, 2)), (Some(1), 0));
@@ -79,14 +79,14 @@ fn wrong_cases_are_told() {
     let Some((_, printed, _)) = run(&["--build", "sh -c 'echo mybuild: refused 2 >&2; exit 1'"]) else { return };
     assert_eq!(printed.lines().filter(|line| line.contains(" => ")).count(), 20);
     assert!(printed.contains(&format!("\n{} more are not shown; --all shows them\n", wrong - 20)), "{printed}");
-    // a status is a number too; a check's number is compared where it is printed
+    // a status counts as a number; a check's number is compared if it is printed
     let Some((_, printed, _)) = run(&["--build", "sh -c 'exit 2'", "--all"]) else { return };
     assert!(!printed.contains(" => 2, not") && printed.contains(" => 3, not status 2\n"), "{printed}");
     let Some((_, printed, _)) = run(&["--check", "sh -c 'echo refused 8; exit 1'", "--all"]) else { return };
     assert!(!printed.contains(" => 8, not") && printed.contains(" => 9, not refused 8\n") && printed.contains(" => 0, not refused 8\n"), "{printed}");
 }
 
-/// A check that accepts everything, and a reader that answers nothing, do not pass.
+/// A check that accepts everything, and a reader that returns nothing, do not pass.
 #[test]
 fn others_do_not_pass() {
     let run = |words: &[&str]| Command::new("python3").arg("-B").arg(repository().join("conformance/run.py")).args(words).output();

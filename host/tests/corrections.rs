@@ -1,5 +1,5 @@
-//! One byte corrected: how far it reaches into the answers of count and find, over pairs of texts that differ in one place and pairs of good trees of
-//! theirs, built and not, of settings and layouts of their own.
+//! One byte corrected: how count and find change, over pairs of texts that differ at one place. Each text has a valid tree with settings and a
+//! layout of its own, made by the builder or not.
 
 #[allow(dead_code)] // this test uses a part
 #[path = "support/damage.rs"]
@@ -32,7 +32,7 @@ fn pair(rng: &mut Rng) -> (Vec<u8>, usize, Vec<u8>) {
     (text, place, corrected)
 }
 
-/// A good tree of the text that counts the byte: what the builder writes, or one that it would not.
+/// A valid tree of the text that counts the byte, made by the builder or in another way.
 fn tree(rng: &mut Rng, text: &[u8], byte: u8) -> Vec<u8> {
     let shape = damage::shape(rng);
     let mut counted = damage::counted(rng);
@@ -61,7 +61,7 @@ fn find(tree: &[u8], byte: u8, j: u64) -> Option<usize> {
     }
 }
 
-/// What has happened, so that no test passes for want of cases.
+/// Counts the cases that occurred, so that no test passes for lack of cases.
 #[derive(Default)]
 struct Seen {
     more: u64,
@@ -76,7 +76,7 @@ fn compare(seen: &mut Seen, trees: [&[u8]; 2], texts: [&[u8]; 2], place: usize, 
     let [before, after] = texts.map(|text| u64::from(text[place] == byte));
     for i in 0..=texts[0].len() {
         let [one, other] = trees.map(|tree| count(tree, byte, i));
-        // by the byte taken out and the byte put in, so by at most one
+        // one byte was removed and one added, so the counts differ by at most one
         let (taken, put) = if i <= place { (0, 0) } else { (before, after) };
         assert_eq!(one + put, other + taken, "count {byte} {i}, corrected at {place}: {} {}", to_hex(trees[0]), to_hex(trees[1]));
         assert!(one.abs_diff(other) <= 1);

@@ -67,9 +67,9 @@ fn objects() {
         .contains("{\"change\":\"added\",\"new\":{\"row\":2,\"hex\":\"ff2031\"}}\n"));
 }
 
-/// Trouble is status 2: a tree that the check refuses is not compared, neither as a tree nor as a book.
+/// Failures have status 2: a tree that the check refuses is not compared, neither as a tree nor as a book.
 #[test]
-fn trouble() {
+fn failures_have_status_2() {
     let folder = editions("diff-trouble");
     let tree = folder.read("old.tree");
     folder.write("cut.tree", &tree[..tree.len() - 1]);

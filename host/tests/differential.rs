@@ -1,6 +1,6 @@
-//! The library against the model: random texts, settings and questions; good trees, damaged ones and wild ones; short and long.
+//! The library compared with the model: random texts, settings and questions; valid, damaged and wild trees; short and long.
 //!
-//! ROUNDS sets how many rounds the tests on short texts go (valgrind-damaged asks for few); SEED where they start.
+//! ROUNDS sets the number of rounds of the tests on short texts (valgrind-damaged sets a small one), SEED the start of the random numbers.
 
 #[path = "support/damage.rs"]
 mod damage;
@@ -17,7 +17,7 @@ use std::collections::{BTreeMap, BTreeSet};
 use support::books::{book, Kind};
 use support::{hostile, rounds, setting, to_hex, Rng};
 
-/// A table of so many words, every one filled.
+/// A table of this many words, each filled with one value.
 fn lent_words(words: usize) -> Box<[u32]> {
     vec![FILL_WORD; words].into_boxed_slice()
 }
@@ -66,13 +66,13 @@ fn build_refusals() {
     });
 }
 
-/// A table of exactly so many words, of any content.
+/// A table of exactly this many words, of any content.
 fn table(rng: &mut Rng, words: usize) -> Box<[u32]> {
     (0..words).map(|_| rng.next() as u32).collect()
 }
 
-/// The builder with one scan a level, in a table of any content: what it answers and leaves in the buffer. Whatever it answers but 0 and 4, the table is
-/// untouched; whatever but 18, the first builder answers and leaves the same.
+/// The builder with one scan a level, in a table of any content: its result and the buffer afterwards. Unless the result is 0 or 4, the table is
+/// unchanged; unless it is 18, the first builder returns and writes the same.
 fn library_scan(rng: &mut Rng, text: &[u8], shape: Shape, counted: &[u8], words: usize, out: &mut [u8]) -> (u32, u32, u32) {
     let mut first = out.to_vec().into_boxed_slice();
     let before = table(rng, words);
@@ -132,7 +132,7 @@ fn scan_refusals() {
         assert!(got == expected);
         reached.insert(answer.0);
     });
-    // 1 is for texts past the longest (`past_the_longest`)
+    // refusal 1 is tested by `past_the_longest`
     if setting("ROUNDS", 4000) >= 1000 {
         assert_eq!(reached, [0, 2, 3, 4, 18].into());
     }
@@ -148,7 +148,7 @@ fn scan_words() {
 }
 
 #[test]
-fn good_trees() {
+fn valid_trees() {
     rounds(3000, |rng| {
         let text = damage::text(rng, 100);
         let (shape, counted) = (damage::shape(rng), damage::counted(rng));
@@ -213,16 +213,16 @@ fn patterns() {
             let pattern = &text[from..text.len().min(from + if rng.one_in(2) { 3 } else { 300 })];
             ask_places(rng, &tree, pattern);
         }
-        // a pattern that goes back as often as it can at every byte
+        // a pattern for which the search backtracks as often as possible at every byte
         let mut pattern = vec![b'A'; rng.within(1, 255)];
         pattern.push(b'B');
         ask_places(rng, &tree, &pattern);
     });
 }
 
-/// 13 is asked of the lines' own length, after 15 and 5 to 9; a refusal has length 0 and leaves the buffer.
+/// Question 13 compares the buffer with the lines' own length, after 15 and 5 to 9; a refusal has length 0 and leaves the buffer unchanged.
 #[test]
-fn list_and_its_room() {
+fn list_and_its_buffer() {
     let tree = build::plain_tree(b"ABCD", Shape::new(2, 2, 2), b"");
     let lines = b"0 1 1 0\n1 2 2 0\n";
     for room in 0..lines.len() {
@@ -241,7 +241,7 @@ fn list_and_its_room() {
     }
 }
 
-/// Put the check, the list and `questions` of each other kind to a tree.
+/// Compares the check, the list, and `questions` calls of each other kind, on a tree.
 fn ask(rng: &mut Rng, tree: &[u8], questions: usize) {
     assert_eq!(calls::check(tree), check::check(tree), "check {}", to_hex(tree));
     let (number, lines) = check::list(tree);
@@ -262,7 +262,7 @@ fn ask(rng: &mut Rng, tree: &[u8], questions: usize) {
     }
 }
 
-/// A pattern, mostly cut from the tree's own bytes, now and then of a length that is refused.
+/// A pattern, mostly taken from the tree's own bytes, sometimes of a length that is refused.
 fn pattern(rng: &mut Rng, tree: &[u8]) -> Vec<u8> {
     let length = match rng.below(12) {
         0 => *rng.pick(&[0, 255, 256, 257, 300]),
@@ -287,7 +287,7 @@ fn ask_places(rng: &mut Rng, tree: &[u8], pattern: &[u8]) {
     }
 }
 
-/// The ranges of a worn key, now and then ones that are refused.
+/// The ranges of a worn key, sometimes ones that are refused.
 fn ranges(rng: &mut Rng) -> Vec<u8> {
     let cuts = if rng.one_in(10) { *rng.pick(&[0, 9, 10, 11, 130]) } else { rng.within(1, 3) };
     let mut ranges: Vec<u8> = (0..cuts).flat_map(|_| [rng.below(5) as u8, rng.within(4, 9) as u8]).collect();
@@ -309,7 +309,7 @@ fn ask_match(tree: &[u8], ranges: &[u8], mark: u32) -> (u32, u32, u32) {
     got
 }
 
-/// Rows of keys, of rows that are nearly keys, and of others: from mark 0 to none each match is shown, once, in order, and a wider question shows no fewer.
+/// Books of keys, rows that are nearly keys, and other rows: calls from mark 0 until none return each match once, in order, and wider ranges return no fewer.
 #[test]
 fn worn_keys() {
     rounds(4000, |rng| {
@@ -336,7 +336,7 @@ fn worn_keys() {
     });
 }
 
-/// The rows that are shown from mark 0 to none.
+/// The matches from mark 0 until none.
 fn all_matches(tree: &[u8], ranges: &[u8]) -> Vec<u32> {
     let mut shown = Vec::new();
     loop {
@@ -357,9 +357,9 @@ fn ask_prefix(tree: &[u8], wanted: &[u8], mark: u32) -> (u32, u32, u32) {
     got
 }
 
-/// The rows returned from mark 0 to none are those that start with the prefix, once each, in order; those of a longer prefix are among them.
+/// Calls from mark 0 until none return the rows that start with the prefix, once each, in order; the rows of a longer prefix are among them.
 #[test]
-fn rows_by_their_first_bytes() {
+fn rows_by_prefix() {
     rounds(4000, |rng| {
         let mut text = Vec::new();
         for _ in 0..rng.below(16) {
@@ -378,7 +378,7 @@ fn rows_by_their_first_bytes() {
     });
 }
 
-/// The rows that are returned from mark 0 to none.
+/// The rows with a prefix from mark 0 until none.
 fn all_with_prefix(tree: &[u8], wanted: &[u8]) -> Vec<u32> {
     let mut rows = Vec::new();
     loop {
@@ -432,7 +432,7 @@ fn ask_at(rng: &mut Rng, tree: &[u8], p: u32) {
     assert!(row_agrees(tree, (answer, &expected), (got, &buffer)), "row {j} in {space} gives {got:?} {} {}", to_hex(&buffer), to_hex(tree));
 }
 
-/// Books of some length: the trees byte for byte, and many questions to each.
+/// Longer books: the trees byte for byte, and many questions on each.
 #[test]
 fn long_books() {
     let mut rng = Rng::new(setting("SEED", 1));
@@ -477,10 +477,10 @@ fn compare_scan(rng: &mut Rng, text: &[u8], shape: Shape, counted: &[u8], expect
     assert!(*tree == *expected, "{shape:?}");
 }
 
-/// Words that a table's first one may be: the seed. The last two give the bases 0 and 1, under which most windows have equal fingerprints.
+/// Seeds, for the first word of a table. The last two give the bases 0 and 1, under which most windows have equal fingerprints.
 const SEEDS: [u32; 6] = [0, u32::MAX, 1, 0x9E37_79B9, 1_540_483_477, 1_540_483_476];
 
-/// Whatever the table holds at entry, the tree and the windows are the same, on hostile texts too.
+/// The tree and the number of windows do not depend on the table's initial words, on hostile texts too.
 #[test]
 fn seeds() {
     let mut rng = Rng::new(setting("SEED", 1));
@@ -502,7 +502,7 @@ fn seeds() {
     }
 }
 
-/// Long books with small blocks, which the first builder would take minutes for: by one scan a level alone.
+/// Long books with small blocks, for which the first builder would need minutes: by one scan a level only.
 #[test]
 fn scanned_books() {
     let mut rng = Rng::new(setting("SEED", 1));
@@ -523,7 +523,7 @@ fn scanned_books() {
     }
 }
 
-/// A book of the longest length: its tree is the model's, is accepted, and gives the book back; one block of level 0 may hold all of it.
+/// A book of the longest length: its tree is the model's, is accepted, and returns the book; one block of level 0 can contain all of it.
 #[test]
 fn longest_book() {
     let mut rng = Rng::new(setting("SEED", 1));
@@ -538,7 +538,7 @@ fn longest_book() {
     }
 }
 
-/// One byte more is refused, and so are blocks of level 0 that are longer; a buffer that is enough, from no bytes to the most.
+/// One byte more is refused, and so are longer blocks of level 0. The size bound, from the empty text to the longest.
 #[test]
 fn past_the_longest() {
     let text = vec![b'A'; MAX_TEXT + 1];
@@ -563,7 +563,7 @@ fn past_the_longest() {
     }
 }
 
-/// The tree of this text is accepted, and answers from it.
+/// The tree of this text is accepted, and the calls return what the text has.
 fn ask_book(rng: &mut Rng, text: &[u8], shape: Shape, counted: &[u8], tree: &[u8], questions: usize) {
     assert_eq!(calls::check(tree), 0);
     for _ in 0..questions {
@@ -604,7 +604,7 @@ fn ask_book(rng: &mut Rng, text: &[u8], shape: Shape, counted: &[u8], tree: &[u8
     }
 }
 
-/// The book's tree, once it is compared and asked.
+/// The book's tree, after comparing it and the calls on it with the model.
 fn compare_book(rng: &mut Rng, text: &[u8], shape: Shape, counted: &[u8], questions: usize) -> Vec<u8> {
     let expected = fast::tree(text, shape, counted);
     let mut tree = lent(expected.len());
@@ -618,9 +618,9 @@ fn compare_book(rng: &mut Rng, text: &[u8], shape: Shape, counted: &[u8], questi
     expected
 }
 
-/// The random trees and questions reach every number that a question can give, and free answers too.
+/// The random trees and questions reach every refusal of each call, and unspecified results too.
 #[test]
-fn every_number_is_reached() {
+fn every_refusal_is_reached() {
     const FREE: u32 = 99;
     let mut reached: BTreeMap<&str, BTreeSet<u32>> = BTreeMap::new();
     for round in 0..2000 {
@@ -640,12 +640,12 @@ fn every_number_is_reached() {
             note("run", read::run(&tree, p).0);
             note("span", read::span(&tree, p, length, &mut buffer).0);
             note("count", read::count(&tree, 10, p).0);
-            note("find", if let Answer::Settled(answer) = read::find(&tree, 10, j) { answer.0 } else { FREE });
+            note("find", if let Answer::Exact(answer) = read::find(&tree, 10, j) { answer.0 } else { FREE });
             note("places", read::places(&tree, &text[..text.len().min(p as usize % 3)], &mut [0; 2]).0);
-            note("match", if let Answer::Settled(answer) = keys::next_match(&tree, &ranges(rng), j) { answer.0 } else { FREE });
+            note("match", if let Answer::Exact(answer) = keys::next_match(&tree, &ranges(rng), j) { answer.0 } else { FREE });
             let wanted: &[u8] = if p == 0 { &[] } else { &text[..text.len().min(p as usize % 3 + 1)] };
-            note("prefix", if let Answer::Settled(answer) = prefix::next_with_prefix(&tree, wanted, j) { answer.0 } else { FREE });
-            note("row", if let Answer::Settled(answer) = read::row(&tree, j, &mut buffer) { answer.0 } else { FREE });
+            note("prefix", if let Answer::Exact(answer) = prefix::next_with_prefix(&tree, wanted, j) { answer.0 } else { FREE });
+            note("row", if let Answer::Exact(answer) = read::row(&tree, j, &mut buffer) { answer.0 } else { FREE });
         }
     }
     let expected: [(&str, &[u32]); 11] = [
@@ -666,15 +666,19 @@ fn every_number_is_reached() {
     }
 }
 
-/// The judge of free answers turns away what the format does not let pass.
+/// The test of unspecified results rejects what the format does not allow.
 #[test]
-fn free_answers_are_judged() {
-    assert!(find_agrees(Answer::Free(20), (0, 19, 7)) && find_agrees(Answer::Free(20), (14, 0, 0)));
-    assert!(!find_agrees(Answer::Free(20), (0, 20, 1)) && !find_agrees(Answer::Free(20), (14, 1, 0)) && !find_agrees(Answer::Free(20), (12, 0, 0)));
-    let shown = |got| match_agrees(Answer::Free(5), 3, got);
+fn unspecified_results_are_tested() {
+    assert!(find_agrees(Answer::Unspecified(20), (0, 19, 7)) && find_agrees(Answer::Unspecified(20), (14, 0, 0)));
+    assert!(
+        !find_agrees(Answer::Unspecified(20), (0, 20, 1))
+            && !find_agrees(Answer::Unspecified(20), (14, 1, 0))
+            && !find_agrees(Answer::Unspecified(20), (12, 0, 0))
+    );
+    let shown = |got| match_agrees(Answer::Unspecified(5), 3, got);
     assert!([(14, 0, 3), (0, 0, 3), (0, 0, 5), (0, 4, 4), (0, 5, 5)].into_iter().all(shown));
     assert!(![(14, 0, 4), (0, 0, 2), (0, 0, 6), (0, 3, 3), (0, 6, 6), (0, 4, 5), (11, 0, 3)].into_iter().any(shown));
-    let free = |tree: &[u8], got, buffer: &[u8]| row_agrees(tree, (Answer::Free(4), &[]), (got, buffer));
+    let free = |tree: &[u8], got, buffer: &[u8]| row_agrees(tree, (Answer::Unspecified(4), &[]), (got, buffer));
     let tree = build::plain_tree(b"ABAC", Shape::new(2, 2, 2), b"A");
     assert!(free(&tree, (0, 2), b"BA\xEE") && free(&tree, (0, 0), b"\xEE") && free(&tree, (14, 0), b"\0\0\xEE") && free(&tree, (13, 0), b"\xEE"));
     assert!(

@@ -1,6 +1,6 @@
-//! SHA-256 of texts and of trees' texts: the library beside the model and the system's sha256sum.
+//! SHA-256 of texts and of trees' texts: the library compared with the model and the system's sha256sum.
 //!
-//! ROUNDS sets how many rounds the differential test goes; SEED where it starts.
+//! ROUNDS sets the number of rounds of the differential test, SEED the start of the random numbers.
 
 #[path = "support/damage.rs"]
 mod damage;
@@ -15,7 +15,7 @@ use std::path::{Path, PathBuf};
 use std::process::Command;
 use support::{rounds, setting, to_hex, Rng};
 
-/// What a buffer holds before a call.
+/// The value of every byte of a buffer before a call.
 const FILL: u8 = 0xEE;
 
 /// The model on the examples published for the standard, the empty message, a million letters, and lengths around the ends of blocks.
@@ -63,7 +63,7 @@ fn messages() -> (PathBuf, Vec<(String, Vec<u8>)>) {
     (folder, files)
 }
 
-/// digest_text and the model on messages of these lengths, and digest on a tree of each, beside sha256sum.
+/// digest_text and the model on messages of these lengths, and digest on a tree of each, compared with sha256sum.
 #[test]
 fn every_length() {
     let (folder, files) = messages();
@@ -85,7 +85,7 @@ fn every_length() {
     fs::remove_dir_all(folder).expect("a folder");
 }
 
-/// Both calls beside the model, in buffers of 0 to 40 bytes; the numbers met.
+/// Both calls compared with the model, in buffers of 0 to 40 bytes. Returns the refusals that occurred.
 fn ask(rng: &mut Rng, tree: &[u8], reached: &mut BTreeSet<u32>) {
     for room in [rng.below(41), rng.within(31, 33), 32] {
         let (mut ours, mut theirs) = (vec![FILL; room].into_boxed_slice(), vec![FILL; room]);
@@ -105,7 +105,7 @@ fn ask(rng: &mut Rng, tree: &[u8], reached: &mut BTreeSet<u32>) {
 fn valid_trees() {
     let mut reached = BTreeSet::new();
     rounds(3000, |rng| {
-        // now and then more than one part of 1,024 bytes
+        // sometimes more than one part of 1,024 bytes
         let longest = if rng.one_in(8) { 3100 } else { 200 };
         let (text, shape, counted) = (damage::text(rng, longest), damage::shape(rng), damage::counted(rng));
         let tree = match rng.one_in(2) && text.len() < 200 {

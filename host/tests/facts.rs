@@ -1,6 +1,6 @@
-//! What a caller must know of a tree: the library against the model on good trees, damaged ones and wild ones; and what is told is enough.
+//! The figures of a tree: the library compared with the model on valid, damaged and wild trees; and buffers of the returned sizes suffice.
 //!
-//! ROUNDS sets how many rounds the tests go; SEED where they start.
+//! ROUNDS sets the number of rounds, SEED the start of the random numbers.
 
 #[path = "support/damage.rs"]
 mod damage;
@@ -27,8 +27,8 @@ fn ask(rng: &mut Rng, tree: &[u8]) {
         let q = if rng.one_in(6) { damage::odd_word(rng, rows as u32) } else { rng.below(rows.min(9) as usize + 3) as u32 };
         let got = calls::row_length(tree, q);
         let agrees = match facts::row_length(tree, q) {
-            Answer::Settled(expected) => got == expected,
-            Answer::Free(most) => got == (14, 0) || (got.0 == 0 && u64::from(got.1) <= most),
+            Answer::Exact(expected) => got == expected,
+            Answer::Unspecified(most) => got == (14, 0) || (got.0 == 0 && u64::from(got.1) <= most),
         };
         assert!(agrees, "length of row {q} gives {got:?} {}", to_hex(tree));
 
@@ -37,7 +37,7 @@ fn ask(rng: &mut Rng, tree: &[u8]) {
     }
 }
 
-/// Each row fits a buffer of its length and no shorter one, and the places of a pattern a table of the words told.
+/// Each row fits a buffer of its length and no shorter one, and the places of a pattern fit a table of the returned number of words.
 fn ask_enough(rng: &mut Rng, tree: &[u8], text: &[u8]) {
     let (number, rows) = calls::row_count(tree);
     if number == 0 {
@@ -52,7 +52,7 @@ fn ask_enough(rng: &mut Rng, tree: &[u8], text: &[u8]) {
         assert_eq!(calls::row_length(tree, rows as u32 + 1), (12, 0));
     }
     for _ in 0..3 {
-        // one letter alone has as many places as there can be
+        // a text of one repeated letter has the most places
         let length = rng.within(1, 9);
         let pattern = if rng.one_in(2) { vec![*text.first().unwrap_or(&65); length] } else { damage::text(rng, length) };
         if pattern.is_empty() {
@@ -74,7 +74,7 @@ fn text(rng: &mut Rng) -> Vec<u8> {
 }
 
 #[test]
-fn good_trees() {
+fn valid_trees() {
     rounds(3000, |rng| {
         let (text, shape, counted) = (text(rng), damage::shape(rng), damage::counted(rng));
         let tree =
@@ -96,7 +96,7 @@ fn damaged_and_wild_trees() {
 }
 
 #[test]
-fn told_in_words() {
+fn texts_of_refusals() {
     let settings = Settings { leaf: 4, arity: 2, levels: 3, counted: vec![10, 65] };
     let bytes = build(b"AB\nAAB\r\nB", &settings).expect("a tree");
     let tree = Tree::checked(&bytes).expect("an accepted tree");
@@ -115,7 +115,7 @@ fn header_agrees() {
     assert!(header.contains(&format!("#define BT_FIGURES {}u ", calls::FIGURES)));
     let (major, minor, patch) = version();
     assert_eq!(major * 10_000 + minor * 100 + patch, calls::version());
-    // the library, the tool and its package have one version
+    // the library, the tool and its package have the same version
     assert_eq!(format!("{major}.{minor}.{patch}"), env!("CARGO_PKG_VERSION"));
     let mut headings = include_str!("../../CHANGELOG.md").lines().filter_map(|line| line.strip_prefix("## "));
     let newest = headings.find(|heading| *heading != "Unreleased");

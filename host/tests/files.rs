@@ -1,4 +1,4 @@
-//! Files that are written: their permissions and times, runs at the same time, and files that are read and written at once.
+//! Written files: their permissions and times, concurrent runs, and files that are both read and written.
 
 #[path = "support/folder.rs"]
 mod folder;
@@ -32,7 +32,7 @@ fn a_tree_has_the_permissions_of_its_book() {
             folder.shell(&format!("umask 022; {named}codebook build small.txt -q -o {tree}")).succeeds();
             assert_eq!(mode(&folder, &tree), bits, "{tree}");
         }
-        // what is made of a tree, and of a book by columns
+        // files made from a tree, and from a book by columns
         for (line, made) in [
             ("guide make 600.tree -q -o made.guide", "made.guide"),
             ("picture 600.tree -q -o made.svg", "made.svg"),
@@ -46,13 +46,13 @@ fn a_tree_has_the_permissions_of_its_book() {
             folder.shell(&format!("umask 022; {named}codebook {line}")).succeeds();
             assert_eq!(mode(&folder, made), 0o600, "{line}");
         }
-        // what comes from a pipe has none: the shell's
+        // a pipe has no permissions to take over: the file gets the shell's
         folder.shell(&format!("umask 027; cat small.txt | {named}codebook build -q -o pipe.tree")).succeeds();
         assert_eq!(mode(&folder, "pipe.tree"), 0o640);
     });
 }
 
-/// A file that is replaced by force gets what both the old one and the book allow.
+/// A file that replaces another by --force gets only permissions that both the old file and the book have.
 #[test]
 fn force_makes_no_file_wider() {
     both_ways(|named, name| {
@@ -68,7 +68,7 @@ fn force_makes_no_file_wider() {
 }
 
 #[test]
-fn times_are_kept_where_they_are_asked_for() {
+fn times_are_kept_on_request() {
     let folder = Folder::new("times");
     folder.shell("touch -d @1000000000.25 small.txt").succeeds();
     let written = |name: &str| fs::metadata(folder.0.join(name)).map(|file| (file.mtime(), file.mtime_nsec())).expect("a file");
@@ -92,9 +92,9 @@ fn times_are_kept_where_they_are_asked_for() {
     assert!(!folder.0.join("pipe.tree").exists());
 }
 
-// runs at the same time
+// concurrent runs
 
-/// Several runs at once, each with a book of its own, to one file.
+/// Several runs at once, each with its own book, write to one file.
 fn at_once(folder: &Folder, named: bool, runs: usize) -> Vec<(usize, Child)> {
     let run = |number: usize| {
         let mut tool = folder.tool();
@@ -107,7 +107,7 @@ fn at_once(folder: &Folder, named: bool, runs: usize) -> Vec<(usize, Child)> {
     (0..runs).map(run).collect()
 }
 
-/// One run writes the file, and the others are told that it exists: it stays as the first one wrote it.
+/// One run writes the file, and the others report that it exists: the file is the first run's.
 #[test]
 fn no_run_overwrites_the_file_of_another() {
     for named in [false, true] {
@@ -132,9 +132,9 @@ fn no_run_overwrites_the_file_of_another() {
     }
 }
 
-/// A file that comes while the tool works is replaced with --force, and left without.
+/// A file that appears while the tool works is replaced with --force, and left alone without it.
 #[test]
-fn a_file_that_comes_meanwhile() {
+fn a_file_that_appears_meanwhile() {
     for named in [false, true] {
         for (words, replaced) in [("build - -q -o late.tree --force", true), ("build - -q -o late.tree", false)] {
             let folder = Folder::new(&format!("meanwhile-{named}-{replaced}"));
@@ -155,9 +155,9 @@ fn a_file_that_comes_meanwhile() {
     }
 }
 
-// files that are read and written at once
+// files that are both read and written
 
-/// Standard output goes to a file that is read, or written: nothing is added to it.
+/// If standard output goes to a file that is read or written, nothing is added to it.
 #[test]
 fn standard_output_is_no_file_of_the_call() {
     let folder = Folder::with_tree("appended");
@@ -192,15 +192,15 @@ fn standard_output_is_no_file_of_the_call() {
     // a wrong call adds no object either
     folder.shell("codebook row none small.tree --json >> small.tree").status(2);
     assert!(folder.read("small.tree") == tree);
-    // a word that is no file may have a file's name
+    // an argument that is no file may equal a file's name
     folder.shell("codebook row 5 small.tree > 5").succeeds();
     assert_eq!(folder.read("5"), b"CH0505 444233\n");
-    // the shell has emptied the book before the tool starts: no tree of nothing is written to it
+    // the shell has emptied the book before the tool starts: no tree of the empty text is written to it
     folder.shell("codebook build -o - small.txt > small.txt").status(2);
     assert_eq!(folder.read("small.txt"), b"");
 }
 
-/// What is read later is not written before.
+/// No file is written that is read later.
 #[test]
 fn no_tree_is_written_to_another_book() {
     let folder = Folder::new("both");
@@ -215,7 +215,7 @@ fn no_tree_is_written_to_another_book() {
     assert!(folder.run("slim small.tree small.small.tree --force").status(2).errors().starts_with(says));
 }
 
-/// Two books would go to standard output, or one input be read twice.
+/// Two books would go to standard output, or one input would be read twice.
 #[test]
 fn standard_input_twice() {
     let folder = Folder::with_tree("twice");

@@ -1,4 +1,4 @@
-//! The manual page and the completions, as they are kept in the repository, are what the tool prints of its table; and help names all that they name.
+//! The manual page and the completions in the repository are those that the tool prints from its table, and help has all that they have.
 
 #[path = "support/folder.rs"]
 mod folder;
@@ -12,7 +12,7 @@ fn kept(name: &str) -> String {
     fs::read_to_string(Path::new(env!("CARGO_MANIFEST_DIR")).join(name)).expect("a file")
 }
 
-/// `host/generate` makes them anew.
+/// `host/generate` writes these files.
 #[test]
 fn files_are_current() {
     let folder = Folder::new("generated");
@@ -31,7 +31,7 @@ fn script_succeeds(script: &str, option: &str) {
     }
 }
 
-/// The drawings and tables are those that their scripts make, what comments and documents cite is there, and the crates keep the conventions.
+/// The drawings and tables are those that their scripts make, what comments and documents cite exists, and the crates keep the conventions.
 #[test]
 fn drawings_tables_citations_and_conventions() {
     for script in ["drawings/draw.py", "lines.py", "check_citations.py", "check_conventions.py", "check_names.py"] {
@@ -41,7 +41,7 @@ fn drawings_tables_citations_and_conventions() {
 
 /// The script that reads why must-fail edits were refused accepts samples of false facts, and no sample of a proof file that does not fit.
 #[test]
-fn first_errors_are_told_apart() {
+fn first_errors_are_distinguished() {
     script_succeeds("must_fail_logs.py", "--self-test");
 }
 
@@ -63,7 +63,7 @@ fn nothing_is_missing() {
     }
 }
 
-/// What a shell or groff says of its own file, where it is installed.
+/// A shell, or groff, accepts its file, if it is installed.
 fn accepted(program: &str, words: &[&str], file: &str) {
     let path = Path::new(env!("CARGO_MANIFEST_DIR")).join(file);
     match Command::new(program).args(words).arg(path).output() {
@@ -79,7 +79,7 @@ fn shells_and_groff_accept_them() {
     accepted("groff", &["-man", "-Tutf8", "-ww", "-z"], "share/codebook.1");
 }
 
-/// What bash would offer.
+/// The completions that bash offers.
 #[test]
 fn bash_completes() {
     let script = Path::new(env!("CARGO_MANIFEST_DIR")).join("share/codebook.bash");

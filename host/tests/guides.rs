@@ -1,6 +1,6 @@
-//! Guides: the library against the model on good trees, damaged ones and wild ones, with the tree's own guide, damaged guides and any bytes.
+//! Guides: the library compared with the model on valid, damaged and wild trees, with the tree's own guide, damaged guides and any bytes.
 //!
-//! ROUNDS sets how many rounds the tests on short texts go; SEED where they start.
+//! ROUNDS sets the number of rounds of the tests on short texts, SEED the start of the random numbers.
 
 #[path = "support/damage.rs"]
 mod damage;
@@ -17,11 +17,11 @@ use model::{fast, guides, prefix, read, Shape};
 use support::books::{book, Kind};
 use support::{rounds, to_hex, Rng};
 
-/// Does `got` (number, place, blocks entered, steps) agree?
+/// Whether `got` (refusal, place, blocks entered, steps) is an allowed result.
 fn guided_agrees(expected: Answer<(u32, u32, u32, u32)>, got: (u32, u32, u32, u32)) -> bool {
     match expected {
-        Answer::Settled(answer) => got == answer,
-        Answer::Free(n) => find_agrees(Answer::Free(n), (got.0, got.1, got.2)) && (got.0 == 0 || got.3 == 0),
+        Answer::Exact(answer) => got == answer,
+        Answer::Unspecified(n) => find_agrees(Answer::Unspecified(n), (got.0, got.1, got.2)) && (got.0 == 0 || got.3 == 0),
     }
 }
 
@@ -91,7 +91,7 @@ fn ask(rng: &mut Rng, tree: &[u8]) {
     }
 }
 
-/// A text in which a counted byte stands often, so that more than one occurrence is listed; now and then no bytes.
+/// A text in which a counted byte occurs often, so that more than one occurrence is listed; sometimes the empty text.
 fn text(rng: &mut Rng) -> Vec<u8> {
     if rng.one_in(12) {
         return Vec::new();
@@ -104,7 +104,7 @@ fn text(rng: &mut Rng) -> Vec<u8> {
 }
 
 #[test]
-fn good_trees() {
+fn valid_trees() {
     rounds(4000, |rng| {
         let (text, shape, counted) = (text(rng), damage::shape(rng), damage::counted(rng));
         let tree =
@@ -124,7 +124,7 @@ fn damaged_and_wild_trees() {
     });
 }
 
-/// On books of some length every find and row with the guide is find's and row's, within as many steps as lie between two entries.
+/// On longer books, find and row with the guide return what find and row do, with no more steps than blocks between two entries.
 #[test]
 fn long_books() {
     for (seed, (m, r, h)) in [(64, 2, 4), (48, 2, 5), (16, 4, 3), (256, 2, 1), (1, 2, 8)].into_iter().enumerate() {

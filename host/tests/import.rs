@@ -11,7 +11,7 @@ fn import(folder: &Folder, words: &str, table: &[u8]) -> Done {
     folder.pipe(&format!("import {words}"), table)
 }
 
-/// The same two rows, however they are written.
+/// The same two rows in different forms.
 #[test]
 fn one_book_from_many_tables() {
     let folder = Folder::new("import-forms");
@@ -86,7 +86,7 @@ fn what_is_dropped_is_listed() {
     let summary = "table.csv: 2 rows to book.txt; code from column 1, cuts from column 2, separated by semicolons; 1 header line, 7 lines dropped\n";
     done.status(1).prints(summary).says(&format!("codebook: table.csv:1: header line: 'Code', 'Cuts'\n{DROPPED}"));
     assert_eq!(folder.read("book.txt"), BOOK.as_bytes());
-    // a book that exists stays, and so does one of which nothing would be left
+    // an existing book is not replaced, nor is one replaced by an empty book
     folder.run("import table.csv -o book.txt").status(2).prints("").says("codebook: book.txt: exists; --force overwrites it\n");
     folder.write("none.csv", b"Code;Cuts\nCH0501;4x\n");
     let done = folder.run("import none.csv -o book.txt --force --lenient");
@@ -98,14 +98,14 @@ fn what_is_dropped_is_listed() {
     assert_eq!(folder.read("book.txt"), BOOK.as_bytes());
     folder.write("odd.csv", b"\xFF\xFEA");
     folder.run("import odd.csv").status(2).prints("").says("codebook: odd.csv: is UTF-16, and ends in the middle of a character\n");
-    // a character of UTF-16 that is none is no part of a code
+    // an invalid UTF-16 character is not part of a code
     let unpaired: Vec<u8> = [0xFEFF, 0xD800, 0x3B, 0x31, 0x0A].into_iter().flat_map(u16::to_le_bytes).collect();
     let done = import(&folder, "-q", &[unpaired, "A;1\n".encode_utf16().flat_map(u16::to_le_bytes).collect()].concat());
     done.status(1).prints("A 1\n");
     assert!(done.errors().starts_with("codebook: standard input:1: dropped: its code '\\xef\\xbf\\xbd' has "), "{}", done.errors());
 }
 
-/// What is imported is built and read as any book.
+/// An imported book is built and read like any other.
 #[test]
 fn from_a_table_to_a_row() {
     let folder = Folder::new("import-tree");

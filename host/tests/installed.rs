@@ -1,4 +1,4 @@
-//! `make install` and `make uninstall`, the library as C and Python find it then, and the scripts around them.
+//! `make install` and `make uninstall`, the installed library used from C and Python, and the scripts around them.
 
 use std::fs;
 use std::path::{Path, PathBuf};
@@ -22,7 +22,7 @@ fn output(command: &mut Command) -> Output {
     output
 }
 
-/// make, with the tool and the archive that are tested; what it says.
+/// Runs make with the tool and the archive under test. Returns its output.
 fn make(root: &Path, target: &str) -> String {
     let set = |name: &str, value: &Path| format!("{name}={}", value.display());
     let values = [
@@ -35,10 +35,10 @@ fn make(root: &Path, target: &str) -> String {
     String::from_utf8_lossy(&done.stdout).into_owned()
 }
 
-/// The shared library's name in programs: by the first number of the version.
+/// The soname of the shared library, which has the first number of the version.
 const SONAME: &str = concat!("libblocktree.so.", env!("CARGO_PKG_VERSION_MAJOR"));
 
-/// Whether the loader must be told of an installed library; with an `ldconfig` that says what is given.
+/// Whether the loader must be told of an installed library; with an `ldconfig` that prints the given text.
 #[test]
 fn the_loader() {
     let folder = folder("loader");
@@ -152,7 +152,7 @@ fn pip_install(root: &Path) {
     assert_eq!(String::from_utf8_lossy(&output(&mut python).stdout), format!("{} B 2\n", env!("CARGO_PKG_VERSION")));
 }
 
-/// What file(1) says of a tree, of a book, and of other trees.
+/// The output of file(1) for a tree, a book, and other trees.
 #[test]
 fn the_kind_of_file() {
     let magic = repository().join("host/share/blocktree.magic");
@@ -169,7 +169,7 @@ fn the_kind_of_file() {
     }
 }
 
-/// The module against the public cases.
+/// The module passes the public cases.
 #[test]
 fn python_cases() {
     let root = folder("python");
@@ -179,12 +179,12 @@ fn python_cases() {
         Err(_) => println!("python3 is not installed: not tried"),
         Ok(output) => {
             let said = String::from_utf8_lossy(&output.stdout).into_owned();
-            assert!(output.status.success() && said.ends_with("cases, all as they should be\n"), "{said}{}", String::from_utf8_lossy(&output.stderr));
+            assert!(output.status.success() && said.ends_with(" cases passed\n"), "{said}{}", String::from_utf8_lossy(&output.stderr));
         }
     }
 }
 
-/// The module has the words of every refusal, and the length of what list writes.
+/// The module has the text of every refusal, and the greatest length of what list writes.
 #[test]
 fn python_reasons() {
     let module = fs::read_to_string(repository().join("python/blocktree.py")).expect("the module");
@@ -204,7 +204,7 @@ fn python_version_and_settings() {
     assert!(module.contains(&format!("\nSHORT_LIST = {:?}\n", codebook::SHORT_LIST)));
 }
 
-/// The lists that `bench/run settings` judges are those of the tool.
+/// The lists that `bench/run settings` evaluates are those of the tool.
 #[test]
 fn settings_of_the_benchmark() {
     let program = fs::read_to_string(repository().join("bench/settings.cpp")).expect("the program");
@@ -214,7 +214,7 @@ fn settings_of_the_benchmark() {
     }
 }
 
-/// What is missing is told at once.
+/// A missing program is reported at once.
 #[test]
 fn needs() {
     let empty = folder("no-tools");
@@ -228,7 +228,7 @@ fn needs() {
     for tool in ["rt", "cargo", "gcc"] {
         assert!(said.contains(&format!("{tool} is not installed: ")), "{said}");
     }
-    // another version of rt is told, and is no failure
+    // another version of rt is reported, and is no failure
     fs::write(empty.join("rt"), "#!/bin/sh\necho another\n").expect("a file");
     fs::set_permissions(empty.join("rt"), std::os::unix::fs::PermissionsExt::from_mode(0o755)).expect("permissions");
     let done = Command::new(repository().join("host/needs")).arg("rt").env("PATH", &empty).output().expect("a script");
@@ -257,9 +257,9 @@ fn the_demo() {
     assert!(!String::from_utf8_lossy(&done.stderr).contains("warning: the tree is no smaller"), "{said}");
 }
 
-/// Proofs are made again where a crate changed, and only there; with an `rt` that writes down that it was called.
+/// Only crates that changed are proved again; tested with an `rt` that records its calls.
 #[test]
-fn the_archive_is_made_of_the_crates_as_they_stand() {
+fn the_archive_is_made_of_the_present_crates() {
     let root = folder("archive");
     for name in ["host", "tools", "crates/abi"] {
         fs::create_dir_all(root.join(name)).expect("a folder");

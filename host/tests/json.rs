@@ -136,7 +136,7 @@ fn every_command() {
     }
 }
 
-/// What goes to standard output leaves the object standard error.
+/// If a tree goes to standard output, the object goes to standard error.
 #[test]
 fn bytes_on_standard_output() {
     let folder = shelf("json-output");
@@ -159,7 +159,7 @@ fn bytes_on_standard_output() {
     assert_eq!(objects(&done.errors()), [Json::parse("{\"tree\":\"small.tree\",\"picture\":\"standard output\"}").expect("an object")]);
 }
 
-/// Refused trees and questions, files that are not there, and calls that are wrong.
+/// Refused trees and questions, missing files, and wrong calls.
 const FAILURES: [&str; 31] = [
     "build none.txt",
     "build small.txt -o small.tree",
@@ -209,7 +209,7 @@ fn failures() {
         assert!(status > 0, "{call}");
         assert_eq!(member(object, "status"), Some(Json::Number(status.into())), "{call}");
         assert_eq!(member(object, "failed").map(|failed| failed.kind()), Some("text"), "{call}");
-        // the words are those on standard error
+        // the message is the one on standard error
         let Some(Json::Text(words)) = member(object, "words") else { panic!("{call}") };
         assert!(done.errors().contains(&words), "{call}: {words}");
         if let Some(Json::Text(usage)) = member(object, "usage") {

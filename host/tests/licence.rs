@@ -1,4 +1,4 @@
-//! The term of a licence: the library against the model on every day of its range, on random terms, and on bytes that are no date.
+//! Licence dates: the library compared with the model on every day of its range, on random licences, and on bytes that are no date.
 
 mod model;
 mod support;
@@ -7,7 +7,7 @@ use codebook::calls;
 use model::dates::{self, calendar};
 use support::{to_hex, Rng};
 
-/// Renew a lent copy: the number, and what it then holds.
+/// Renews a copy of a day: the refusal, and the copy afterwards.
 fn renew(day: &[u8]) -> (u32, Vec<u8>) {
     let mut lent = day.to_vec().into_boxed_slice();
     let number = calls::renew(&mut lent);
@@ -59,7 +59,7 @@ fn every_edge() {
 }
 
 #[test]
-fn terms() {
+fn random_licences() {
     let mut seen = [0; 3];
     for round in 0..100_000 {
         let mut rng = Rng::new(0x112 << 32 | round);
@@ -73,7 +73,7 @@ fn terms() {
     assert!(seen.iter().all(|&many| many > 5000), "{seen:?}");
 }
 
-/// A date mostly, near to others now and then; or bytes that are none: a digit changed, cut off, with more, or anything.
+/// Mostly a date, sometimes near another one; or bytes that are no date: a digit changed, bytes removed or added, or any bytes.
 fn some_bytes(rng: &mut Rng) -> Box<[u8]> {
     let days = calendar();
     let near = 8_800 + rng.below(40);
@@ -95,7 +95,7 @@ fn some_bytes(rng: &mut Rng) -> Box<[u8]> {
     bytes.into_boxed_slice()
 }
 
-/// All three calls; what open answers.
+/// All three calls. Returns the result of open.
 fn compare(first: &[u8], last: &[u8], today: &[u8]) -> (u32, u32) {
     let open = calls::open_on(first, last, today);
     assert_eq!(open, dates::open_on(first, last, today), "open {} {} {}", to_hex(first), to_hex(last), to_hex(today));

@@ -1,4 +1,4 @@
-//! The manifest beside a tree: written by `build`, compared by `check`, kept in step by `slim` and `guide make`, and what questions make of it.
+//! The manifest beside a tree: `build` writes it, `check` compares it, `slim` and `guide make` update it, and questions use it.
 
 #[path = "support/folder.rs"]
 mod folder;
@@ -16,7 +16,7 @@ use waiting::{both_ways, waiting};
 const TREE: &str = "58c9c17dc6d736f67d80edb8d1195a581665615d597ad25f53fb41b435bd57e1";
 const TEXT: &str = "e913aa0d736292973c8ab01c65bd84ff6524fb868d54c9621602942b5dfceb6e";
 
-/// What `build` finds of the tree of small.txt.
+/// The figures of the tree that `build` makes of small.txt.
 fn figures() -> String {
     format!(
         "\"size\":5680,\"length\":2800,\"layout\":2,\"leaf\":32,\"arity\":6,\"levels\":2,\"counted\":[10],\"sha256\":\"{TREE}\",\"text_sha256\":\"{TEXT}\""
@@ -37,7 +37,7 @@ fn mode(folder: &Folder, name: &str) -> u32 {
     fs::metadata(folder.0.join(name)).expect("a file").permissions().mode() & 0o777
 }
 
-// what build writes
+// build
 
 #[test]
 fn what_is_written() {
@@ -102,7 +102,7 @@ fn files_are_kept() {
         fs::remove_file(folder.0.join("small.tree")).expect("a file");
         build("").status(2).says("codebook: small.tree.json: exists; --force overwrites it\n");
         assert_eq!(folder.names(), ["small.tree.json", "small.txt"]);
-        // a narrower tree that is replaced makes its manifest narrower, and the other way round
+        // if the replaced tree has narrower permissions, so has the new manifest, and the other way round
         folder.write("small.tree", b"old");
         fs::set_permissions(folder.0.join("small.tree"), PermissionsExt::from_mode(0o600)).expect("permissions");
         build("--force --keep-time").succeeds();
@@ -113,7 +113,7 @@ fn files_are_kept() {
     });
 }
 
-/// Where the tree cannot be written, no manifest is left of it, and the other way round.
+/// If the tree cannot be written, no manifest is left, and the other way round.
 #[test]
 fn both_or_neither() {
     both_ways(|named, name| {
@@ -121,7 +121,7 @@ fn both_or_neither() {
         let full = |words: &str| folder.shell(&format!("ulimit -f 1; trap '' XFSZ; {named}codebook build small.txt --maker M {words}"));
         assert!(full("").status(2).errors().starts_with("codebook: small.tree: cannot be written: "));
         assert_eq!(folder.names(), ["small.txt"]);
-        // a file of the tree's name, or of the manifest's, comes while the tool works
+        // a file with the tree's or the manifest's name appears while the tool works
         for (late, words) in [("late.tree", "build - -q -o late.tree --maker M"), ("late.tree.json", "build - -q -o late.tree --maker M")] {
             let mut child = waiting(&folder, !named.is_empty(), words);
             waiting::wait_until_ready(&folder, &child, !named.is_empty(), 2);
@@ -179,7 +179,7 @@ fn no_manifest_of_another_tree_is_left() {
 
 // check
 
-/// Each thing that the manifest says is compared, and a difference is told with both values.
+/// Each member of the manifest is compared, and a difference is reported with both values.
 #[test]
 fn check_compares() {
     let folder = licensed("manifest-check");
@@ -199,7 +199,7 @@ fn check_compares() {
     ] {
         folder.write("small.tree.json", good.replacen(due, changed, 1).as_bytes());
         folder.run("check small.tree").status(1).prints("").says(&format!("codebook: small.tree: by small.tree.json {words}\n"));
-        // what a length and a header say is compared by every question too, and a digest by check alone
+        // every question compares the figures of the length and the header; only check compares digests
         let status = if words.contains("SHA-256") { 0 } else { 1 };
         for question in ["row 1 small.tree", "text small.tree", "code CH0501 small.tree"] {
             let done = folder.run(&format!("{question} --any-day"));
@@ -224,7 +224,7 @@ fn check_compares() {
     folder.run("guide make small.tree -o small.guide").status(1).prints("").says(malformed);
 }
 
-/// What may be found in the manifest's place.
+/// Things other than a manifest under its name.
 #[test]
 fn what_is_no_file() {
     let folder = Folder::with_tree("manifest-special");
@@ -260,7 +260,7 @@ const QUESTIONS: [&str; 12] = [
     "text small.tree",
 ];
 
-/// A book is open from the first day to the last, both included; a closed one answers nothing unless told to.
+/// A book is open from the first day to the last, both included; questions refuse a closed one unless --any-day is given.
 #[test]
 fn closed_books() {
     let folder = licensed("manifest-closed");
@@ -279,20 +279,20 @@ fn closed_books() {
         let object = folder.run(&format!("{question} --today 2025-01-01 --json")).status(1).printed();
         assert!(object.starts_with("{\"failed\":\"small.tree\",\"status\":1,\"words\":\"closed on 2025-01-01, 1 day past: "), "{object}");
     }
-    // diff reads rows too; its trouble is 2
+    // diff reads rows too; its failures have status 2
     folder.run("diff small.txt small.tree --today 2024-05-01").succeeds();
     folder.run("diff small.txt small.tree --today 2025-01-01").status(2).prints("").says(&closed("2025-01-01", "1 day past"));
-    // of several books those that are open answer
+    // of several books those that are open are read
     folder.run("build small.txt -q -o open.tree --first 2024-06-01 --last 2025-06-01").succeeds();
     let both = folder.run("code CH0502 small.tree open.tree --today 2025-02-01");
     assert_eq!((both.status(1).printed().lines().count(), both.errors()), (5, closed("2025-02-01", "32 days past")));
-    // what says nothing of a row does not ask
+    // commands that print no row do not check the licence
     for words in ["check", "stats", "list", "digest", "verify small.txt"] {
         folder.run(&format!("{words} small.tree")).succeeds();
     }
 }
 
-/// The clock's day: a term of all days, and one that is long past.
+/// The clock's day: a licence that is always open, and one that ended long ago.
 #[test]
 fn by_the_clock() {
     let folder = Folder::new("manifest-clock");
@@ -301,7 +301,7 @@ fn by_the_clock() {
     folder.run("build small.txt -q -f --first 2000-01-01 --last 2000-12-31").succeeds();
     let done = folder.run("row 1 small.tree");
     assert!(done.status(1).errors().contains("days past: by small.tree.json its licence is 2000-01-01 to 2000-12-31"), "{}", done.errors());
-    // one day is no term
+    // a single day is no licence
     folder.write("small.tree.json", b"{\"last\":\"2000-12-31\"}");
     folder.run("row 1 small.tree").succeeds().prints("CH0501 444224\n").says("");
 }
@@ -325,7 +325,7 @@ fn widths() {
     folder.run("row 2 small.tree --columns 14").status(1).says(says);
 }
 
-/// What is printed is not added to a manifest.
+/// Output is not added to a manifest.
 #[test]
 fn standard_output_is_no_manifest() {
     let folder = licensed("manifest-printed");
@@ -372,7 +372,7 @@ fn slim_keeps_it() {
     folder.run("check small.small.tree -q").succeeds();
     folder.run("row 1 small.small.tree --today 2025-01-01").status(1);
     folder.run("slim small.tree").status(2);
-    // what is not carried over is told; nothing is written beside standard output
+    // members that are not taken over are reported; no manifest is written for a tree on standard output
     folder.run("guide make small.tree -q -o small.guide").succeeds();
     let more = manifest(&folder, "small.tree.json").replacen('{', "{\"blank\":[\"HU66\"],", 1);
     folder.write("small.tree.json", more.as_bytes());
@@ -410,7 +410,7 @@ fn guide_enters_itself() {
     assert!(folder.run("check small.tree").status(1).errors().starts_with("codebook: small.guide: refused (24)"));
     fs::remove_file(folder.0.join("small.guide")).expect("a file");
     folder.run("check small.tree").status(2).says("codebook: small.guide: cannot be read: No such file or directory (os error 2)\n");
-    // a guide elsewhere is not named
+    // the manifest does not name a guide in another folder
     folder.write("small.tree.json", after.as_bytes());
     fs::create_dir(folder.0.join("guides")).expect("a folder");
     let left = "codebook: small.tree.json: warning: left as it is: it names a guide beside the tree alone\n";

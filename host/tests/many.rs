@@ -26,7 +26,7 @@ fn builds() {
     let printed = done.status(2).printed();
     assert_eq!(printed.lines().take(2).map(|line| line.split(':').next().unwrap_or("")).collect::<Vec<_>>(), ["small.tree", "late.tree"]);
     assert!(done.errors().contains(&format!("codebook: none.txt: {NONE}\n")));
-    // a tree that is there is told, and the others are built
+    // an existing tree is reported, and the others are built
     folder.write("more.txt", b"E 1\n");
     let done = folder.run("build small.txt more.txt -q");
     done.status(2).says("codebook: small.tree: exists; --force overwrites it\n");

@@ -1,6 +1,6 @@
-//! All matches of a book in one pass over the text: the same rows as the library's calls show one by one, on good, damaged and wild trees.
+//! All matches of a book in one pass over the text: the same rows as the library's calls return one by one, on valid, damaged and wild trees.
 //!
-//! ROUNDS sets how many rounds the test on short texts goes; SEED where it starts.
+//! ROUNDS sets the number of rounds of the test on short texts, SEED the start of the random numbers.
 
 #[path = "support/damage.rs"]
 mod damage;
@@ -33,7 +33,7 @@ fn one_by_one(tree: Tree, ranges: &[Range], mut mark: u32) -> Rows {
     Ok(rows)
 }
 
-/// The same for any bytes: the first match and its place by the library's calls, then one by one in a good tree of the text from there on.
+/// The same for any bytes: the first match and its place by the library's calls, then one by one in a valid tree of the text from there on.
 fn from_the_first(tree: Tree, ranges: &[Range], mut mark: u32) -> Rows {
     let Some(first) = tree.next_match(ranges, &mut mark)? else { return Ok(Vec::new()) };
     let start = if first == 1 { 0 } else { tree.find(10, first - 1)?.value + 1 };
@@ -57,7 +57,7 @@ fn nearly_keys(rng: &mut Rng) -> Vec<u8> {
         .collect()
 }
 
-/// Ranges for 1 to 10 cuts, wide ones and single depths; now and then refused ones.
+/// Ranges for 1 to 10 cuts, wide ones and single depths; sometimes refused ones.
 fn ranges(rng: &mut Rng) -> Vec<Range> {
     let range = |rng: &mut Rng| match rng.below(16) {
         0 => Range { low: 3, high: 2 },
@@ -73,7 +73,7 @@ fn ranges(rng: &mut Rng) -> Vec<Range> {
 }
 
 #[test]
-fn as_the_calls_show_them() {
+fn the_same_rows_as_single_calls() {
     let (mut reached, mut shown) = (BTreeSet::new(), 0);
     rounds(20_000, |rng| {
         let text = nearly_keys(rng);
@@ -103,7 +103,7 @@ fn as_the_calls_show_them() {
     }
 }
 
-/// What is done, in the shortest time of three.
+/// The run that took the shortest time of three, and its time.
 fn timed(folder: &Folder, words: &str) -> (Done, Duration) {
     let runs = (0..3).map(|_| {
         let start = Instant::now();

@@ -1,11 +1,11 @@
-//! What the tool says of a wrong call, and how wide its help is.
+//! The messages for wrong calls, and the width of the help.
 
 #[path = "support/folder.rs"]
 mod folder;
 
 use folder::Folder;
 
-/// The first line of what is said, and status 2.
+/// The first line of the message; the status must be 2.
 fn says(folder: &Folder, words: &str, line: &str) {
     let done = folder.run(words);
     done.status(2).prints("");
@@ -25,7 +25,7 @@ fn help_fits_80_columns() {
 }
 
 #[test]
-fn what_was_meant() {
+fn suggestions() {
     let folder = Folder::with_tree("meant");
     says(&folder, "biuld small.txt", "there is no command 'biuld'; did you mean 'build'?");
     says(&folder, "stat small.tree", "there is no command 'stat'; did you mean 'stats'?");
@@ -78,7 +78,7 @@ fn folders() {
     }
 }
 
-/// What was given stands beside what is right.
+/// The message has the given value and what is allowed.
 #[test]
 fn values_and_bounds() {
     let folder = Folder::with_tree("bounds");

@@ -1,6 +1,6 @@
-//! The order of two trees' texts: the library against the model, on good, damaged and wild trees.
+//! The order of two trees' texts: the library compared with the model, on valid, damaged and wild trees.
 //!
-//! ROUNDS sets how many rounds each test goes; SEED where it starts.
+//! ROUNDS sets the number of rounds of each test, SEED the start of the random numbers.
 
 #[path = "support/damage.rs"]
 mod damage;
@@ -34,7 +34,7 @@ fn tree_of(rng: &mut Rng, text: &[u8]) -> Vec<u8> {
     }
 }
 
-/// A text that shares a beginning with another: the same, one byte changed, cut short (to none now and then), gone on with, or a new one.
+/// A text that shares a beginning with another: the same text, one with a byte changed, cut short (sometimes to nothing) or extended, or a new one.
 fn beside(rng: &mut Rng, text: &[u8]) -> Vec<u8> {
     let mut other = text.to_vec();
     match rng.below(6) {
@@ -50,7 +50,7 @@ fn beside(rng: &mut Rng, text: &[u8]) -> Vec<u8> {
     other
 }
 
-/// The library's answer, which is the model's.
+/// The library's result, which must be the model's.
 fn ask(one: &[u8], other: &[u8]) -> (u32, u32, u32, u32) {
     let got = calls::compare(one, other);
     assert_eq!(got, order(one, other), "order {} {}", to_hex(one), to_hex(other));
@@ -58,7 +58,7 @@ fn ask(one: &[u8], other: &[u8]) -> (u32, u32, u32, u32) {
 }
 
 #[test]
-fn good_trees() {
+fn valid_trees() {
     let mut reached = BTreeSet::new();
     rounds(4000, |rng| {
         let text = damage::text(rng, 90);
@@ -77,7 +77,7 @@ fn good_trees() {
     }
 }
 
-/// Damage to either tree, before and past the first difference, so that every number and every outcome comes.
+/// Damage to either tree, before and after the first difference, so that every refusal and every result occurs.
 #[test]
 fn damaged_trees() {
     let mut reached = BTreeSet::new();
@@ -113,9 +113,9 @@ fn wild_trees() {
     });
 }
 
-/// A path that breaks is met up to the first difference, and not past it; the questions of both trees come before it.
+/// A broken path matters up to the first difference, and not after it; questions 5 to 7 of both trees come first.
 #[test]
-fn what_is_read() {
+fn places_that_are_read() {
     let two = Shape::new(2, 2, 2);
     let book = build::plain_tree(b"QABCDABCDEFGABCDABCD", two, b"A");
     let broken = |block: usize| {
@@ -134,7 +134,7 @@ fn what_is_read() {
     assert_eq!((ask(&book[..99], &book[1..]).0, ask(&book[1..], &book[..99]).0, ask(&book[..531], &book[..99]).0), (5, 6, 7));
 }
 
-/// The empty text stands before every other, whatever breaks in the other: no place is read.
+/// The empty text comes before every other, even if paths of the other break: no place is read.
 #[test]
 fn the_empty_text() {
     let empty = [Shape::new(2, 2, 2), Shape::new(256, 2, 1)].map(|shape| build::plain_tree(b"", shape, b"\n"));
@@ -146,9 +146,9 @@ fn the_empty_text() {
     assert_eq!((ask(&empty[0], &zero[..99]).0, ask(&empty[0][..99], &zero).0), (5, 5));
 }
 
-/// A shelf sorted by the library stands as its texts do.
+/// Trees sorted by the library are in the order of their texts.
 #[test]
-fn shelves() {
+fn sorted_trees() {
     rounds(200, |rng| {
         let mut texts = vec![damage::text(rng, 40)];
         for _ in 0..rng.within(1, 12) {

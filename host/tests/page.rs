@@ -1,4 +1,4 @@
-//! `codebook page`: one file that holds what it must and nothing that runs besides. What it shows is tried by host/page/test-in-browser.
+//! `codebook page`: the contents of the file, and that nothing else can run in it. host/page/test-in-browser tests what it shows.
 
 #[path = "support/folder.rs"]
 mod folder;
@@ -12,7 +12,7 @@ use std::fs::{self, Permissions};
 use std::os::unix::fs::PermissionsExt;
 use support::books::{book, Kind};
 
-/// A module that exports nothing: the command looks at its first bytes alone.
+/// A module that exports nothing: the command reads only its first bytes.
 const MODULE: &[u8] = b"\0asm\x01\0\0\0";
 const MODULE_SHA256: &str = "93a44bbb96c751218e4c00d479e4c14358122a389acca16205b1e4d0dc5f9476";
 
@@ -22,7 +22,7 @@ fn shelf(name: &str) -> Folder {
     folder
 }
 
-/// What lies between two texts, the first of which occurs once.
+/// The text between two others, the first of which must occur once.
 fn between<'a>(page: &'a str, before: &str, after: &str) -> &'a str {
     assert_eq!(page.matches(before).count(), 1, "{before}");
     page.split(before).nth(1).and_then(|rest| rest.split(after).next()).expect("it ends")
@@ -70,9 +70,9 @@ fn one_file() {
     assert_eq!(folder.run("page small.tree -q --module empty.wasm").output.stdout, page.as_bytes());
 }
 
-/// Only the page's own script and style are let run, by their digests, and nothing is let out; the page names no address but that of SVG.
+/// The policy allows only the page's own script and style, by their digests, and no connection; the page names no address but that of SVG.
 #[test]
-fn nothing_is_let_out() {
+fn no_connections() {
     let folder = shelf("page-policy");
     let page = folder.run("page small.tree --module empty.wasm").printed();
     let policy = between(&page, "http-equiv=\"Content-Security-Policy\" content=\"", "\"");
@@ -88,7 +88,7 @@ fn nothing_is_let_out() {
     }
 }
 
-/// Names and manifests are words, not tags.
+/// Names and manifests are escaped: they add no tags.
 #[test]
 fn names() {
     let folder = shelf("page-names");
@@ -103,7 +103,7 @@ fn names() {
     assert_eq!((member(&books[0], "first"), member(&books[0], "last")), (Some("2024-01-01"), Some("2024-12-31")));
 }
 
-/// Several trees are in one page, in the order of the call, which has no permission that one of them lacks.
+/// Several trees are in one page, in the order of the call; the file has no permission that one of them lacks.
 #[test]
 fn several_trees() {
     let folder = shelf("page-several");
@@ -123,7 +123,7 @@ fn several_trees() {
     assert_eq!(mode & 0o777, 0o600);
 }
 
-/// What is refused leaves no file.
+/// A refused call leaves no file.
 #[test]
 fn refusals() {
     let folder = shelf("page-refused");

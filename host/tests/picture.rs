@@ -1,4 +1,4 @@
-//! `codebook picture`: a drawing that a reader of SVG takes, with what it must show.
+//! `codebook picture`: a well-formed SVG drawing with the expected contents.
 
 #[path = "support/folder.rs"]
 mod folder;
@@ -22,7 +22,7 @@ fn well_formed(svg: &str) {
     assert!(open.is_empty());
 }
 
-/// How many blocks of a height there are.
+/// The number of blocks of a height.
 fn blocks(svg: &str, height: usize) -> usize {
     svg.matches(&format!("height=\"{height}\" fill=\"")).count()
 }
@@ -55,7 +55,7 @@ fn attribute(tag: &str, name: &str) -> usize {
     value.and_then(|value| value.parse().ok()).unwrap_or_else(|| panic!("no {name}: {tag}"))
 }
 
-/// Blocks narrower than a pixel are drawn as the share of the pixel's text that is kept, and that points: by its area a level says how much is.
+/// Blocks narrower than a pixel are drawn as the shares of the pixel's text that are kept and that point, so that areas are proportional to bytes.
 #[test]
 fn a_long_book() {
     let folder = Folder::new("long-picture");
@@ -66,7 +66,7 @@ fn a_long_book() {
         let svg = String::from_utf8(folder.read(&format!("{name}.svg"))).expect("a text");
         well_formed(&svg);
         assert!(svg.len() < 1_000_000, "{}", svg.len());
-        // no block is drawn by itself, and the legend does not say so; few that point have arrows
+        // no block is drawn by itself, and the legend does not name one; a few pointing blocks have arrows
         assert!(!svg.contains("fill=\"#37404a\"") && !svg.contains("kept: cut") && !svg.contains("pointing: its"));
         assert_eq!(svg.contains("to that place"), svg.contains("marker-end"));
         assert!(svg.contains("the share of a pixel's text that is kept"));
@@ -102,7 +102,7 @@ fn legends() {
     assert_eq!(legend("empty.tree"), [0, 0, 0, 0, 0]);
 }
 
-/// A name is words, not tags.
+/// A name is escaped: it adds no tags.
 #[test]
 fn names() {
     let folder = Folder::new("tags");

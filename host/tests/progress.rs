@@ -1,4 +1,4 @@
-//! What takes long says so: a search for settings before it starts, and a build on a terminal while it goes on.
+//! Long work is announced: a search for settings before it starts, and a build on a terminal while it runs.
 
 #[path = "support/folder.rs"]
 mod folder;
@@ -8,7 +8,7 @@ use folder::Folder;
 use std::time::{Duration, Instant};
 use support::books::{even_book, Kind};
 
-/// The search of --best is announced for a long book, with the time that it is likely to take; not for a short one, and not where nothing is to be said.
+/// The search of --best is announced for a long book, with the time that it is likely to take; not for a short one, and not with -q.
 #[test]
 fn a_search_is_announced() {
     let folder = Folder::new("announced");
@@ -24,7 +24,7 @@ fn a_search_is_announced() {
     }
 }
 
-/// Of several books once, before the first.
+/// With several books it is announced once, before the first.
 #[test]
 fn a_search_of_several_books() {
     let folder = Folder::new("announced-batch");
@@ -38,7 +38,7 @@ fn a_search_of_several_books() {
     }
 }
 
-/// verify builds the tree again: a terminal shows how long that takes, as it does for build.
+/// verify builds the tree again and shows the progress on a terminal, as build does.
 #[test]
 fn a_build_on_a_terminal() {
     let folder = Folder::new("terminal");

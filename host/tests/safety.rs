@@ -1,4 +1,4 @@
-//! Nothing is lost: what is written, what is refused, what is told.
+//! No data is lost: what is written, refused and reported.
 
 #[path = "support/folder.rs"]
 mod folder;
@@ -24,13 +24,13 @@ fn with_old(name: &str) -> Folder {
     folder
 }
 
-// 1: the old file stays as it was, and no rest is left
+// 1: the old file is unchanged, and no temporary file is left
 
 #[test]
 fn a_full_disk_leaves_the_old_file() {
     both_ways(|named, name| {
         let folder = with_old(&format!("full-{name}"));
-        // a file may have 1,024 bytes, and the signal is ignored: as on a full disk, writing fails half way
+        // files are limited to 1,024 bytes, and the signal is ignored: writing fails half way, as on a full disk
         let line = format!("ulimit -f 1; trap '' XFSZ; {named}codebook build small.txt -o small.tree --force");
         let done = folder.shell(&line);
         done.status(2).prints("");
@@ -71,9 +71,9 @@ fn the_new_file_takes_the_place_of_the_old() {
     }
 }
 
-/// The place is told before the book is read: here nobody ever writes the book.
+/// A place that cannot be written is reported before the book is read: here nobody ever writes the book.
 #[test]
-fn an_unwritable_place_is_told_at_once() {
+fn an_unwritable_place_is_reported_at_once() {
     let folder = Folder::new("unwritable");
     let says = |out: &str, words: &str| {
         let mut child = folder.tool().args(["build", "-", "-o", out]).stdin(Stdio::piped()).stderr(Stdio::piped()).spawn().expect("the tool starts");
@@ -100,7 +100,7 @@ fn devices_are_written_as_they_are() {
     folder.shell("codebook build small.txt -q -o /dev/stdout > small.tree && codebook check -q small.tree").succeeds();
 }
 
-// 2: what is read is not written, and nothing is overwritten unless told
+// 2: no file that is read is written, and nothing is overwritten without --force
 
 #[test]
 fn a_book_is_not_overwritten_by_its_tree() {
@@ -141,7 +141,7 @@ fn files_are_overwritten_only_by_force() {
     }
     folder.run("build small.txt --force").succeeds();
     assert_eq!(folder.read("small.tree").len(), 5680);
-    // through a link: the link stays, and what it leads to is replaced
+    // through a link: the link stays, and its target is replaced
     symlink("small.tree", folder.0.join("link.tree")).expect("a link");
     folder.run("build small.txt -fo link.tree --leaf 16 --arity 4 --levels 2").succeeds();
     assert!(folder.0.join("link.tree").is_symlink());
@@ -191,7 +191,7 @@ fn standard_error_that_is_full_or_closed() {
     folder.shell("codebook text small.tree >&-").status(0);
 }
 
-/// A tree must arrive whole; of an answer a reader may have seen enough.
+/// A tree must arrive complete; the reader of other output may close the pipe early.
 #[test]
 fn a_pipe_that_closes() {
     let folder = Folder::new("closed");
@@ -216,7 +216,7 @@ fn a_pipe_that_closes() {
     }
 }
 
-/// Files of a terabyte, which have no bytes on the disk: nobody could read them.
+/// Sparse files of a terabyte, which are not read.
 #[test]
 fn files_that_are_too_long_are_not_read() {
     let folder = Folder::with_tree("terabyte");
@@ -253,13 +253,13 @@ fn files_that_are_too_long_are_not_read() {
     assert!(start.elapsed() < Duration::from_secs(20));
 }
 
-// 4: which text a tree stands for
+// 4: which text a tree represents
 
 #[test]
-fn a_tree_is_held_against_its_book() {
+fn a_tree_is_compared_with_its_book() {
     let folder = Folder::with_tree("verify");
     folder.run("verify small.txt small.tree").succeeds().prints("small.tree: the block tree of small.txt, 2,800 bytes\n").says("");
-    // one leaf byte and the edges that have it: a good tree of another text
+    // one leaf byte changed, and the edges that contain it: a valid tree of another text
     let other = String::from_utf8(folder.read("small.txt")).expect("a text").replacen("HON1012 52162", "HON1012 52163", 3);
     folder.write("other.txt", other.as_bytes());
     folder.run("build other.txt").succeeds();
@@ -327,7 +327,7 @@ fn digests() {
     }
 }
 
-/// `digest` prints what sha256sum prints of the book; a tree that is refused has no line.
+/// `digest` prints what sha256sum prints for the book, and no line for a refused tree.
 #[test]
 fn digests_of_texts() {
     let folder = Folder::with_tree("texts");
@@ -341,7 +341,7 @@ fn digests_of_texts() {
     // the digest is of the text, whatever the tree
     folder.run("build small.txt -q -o large.tree --leaf 1 --arity 2 --levels 1").succeeds();
     folder.run("digest large.tree").succeeds().prints(&line.replace("small.tree", "large.tree"));
-    // the kind of the first block is no kind
+    // the first block has an invalid kind
     let mut tree = folder.read("small.tree");
     tree[104] = 2;
     folder.write("damaged.tree", &tree);
@@ -351,7 +351,7 @@ fn digests_of_texts() {
     assert!(folder.run("digest --unchecked cut.tree").status(1).prints("").errors().starts_with("codebook: cut.tree: refused (5): "));
 }
 
-// 5: what a reader would miss
+// 5: warnings
 
 #[test]
 fn warnings() {
@@ -370,6 +370,6 @@ fn warnings() {
     warned(b"\xEF\xBB\xBFA 1\n", "", &[mark, larger]);
     warned(b"", "", &["the book has no rows yet"]);
     warned(b"A 1\n", "--count none", &["byte 10 is not counted, so no row can be read", larger]);
-    // a book that repeats itself, with nothing to warn of
+    // a book that repeats itself, without warnings
     warned(&b"CH0501 444224\n".repeat(2000), "", &[]);
 }

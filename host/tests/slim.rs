@@ -1,4 +1,4 @@
-//! Trees without edges by the tool: `slim`, `build --small`, and what `stats`, `verify` and `build` say of layouts.
+//! Trees without edges in the tool: `slim`, `build --small`, and what `stats`, `verify` and `build` print about layouts.
 
 #[path = "support/folder.rs"]
 mod folder;
@@ -10,12 +10,12 @@ use folder::Folder;
 use model::{build, Shape};
 use support::books::{book, Kind};
 
-/// What is printed after the first words of a line and before the digest.
+/// The part of a line after its first words and before the digest.
 fn sizes(printed: &str) -> String {
     printed.lines().filter(|line| line.contains(" bytes, ")).map(|line| line.split("; SHA-256").next().unwrap_or_default()).collect()
 }
 
-/// A number with its thousands parted.
+/// A number with separated thousands.
 fn grouped(number: usize) -> String {
     if number < 1000 {
         return number.to_string();
@@ -36,7 +36,7 @@ fn writes_a_tree_without_edges() {
         assert_eq!(folder.run(&format!("{words} small.tree")).printed(), folder.run(&format!("{words} small.small.tree")).printed(), "{words}");
     }
     folder.run("compare small.tree small.small.tree").succeeds();
-    // an existing file is left alone, and the tree that is read always
+    // an existing file is not replaced, and the tree that is read never is
     folder.run("slim small.tree").status(2).prints("").says("codebook: small.small.tree: exists; --force overwrites it\n");
     let same = "codebook: small.tree: is the file that is read (small.tree); it is left as it is\n";
     folder.run("slim small.tree -o small.tree --force").status(2).prints("").says(same);
@@ -70,7 +70,7 @@ fn several_trees() {
     );
 }
 
-/// The tree is checked first, and nothing is written of a refused one.
+/// The tree is checked first, and nothing is written for a refused one.
 #[test]
 fn refused_trees() {
     let folder = Folder::with_tree("slim-refused");
@@ -112,9 +112,9 @@ fn builds_small_trees() {
     folder.pipe("build --small", b"").succeeds();
 }
 
-/// What `stats` says that a tree has without its edges is what it has; `build` says what --small gives where that is smaller than the text and the tree is not.
+/// The size without edges that `stats` prints is right; `build` prints the size that --small gives if that is smaller than the text and the tree is not.
 #[test]
-fn what_edges_cost() {
+fn sizes_without_edges() {
     let folder = Folder::with_tree("edges-cost");
     folder.run("slim small.tree -q").succeeds();
     let stats = folder.run("stats small.small.tree").succeeds().printed();
@@ -134,7 +134,7 @@ fn what_edges_cost() {
     assert!(tree.len() >= text.len() && small.len() < text.len(), "{} {}", tree.len(), small.len());
     let told = |size: usize| format!(": warning: --small would give {} bytes, ", grouped(size));
     assert!(done.succeeds().errors().contains(&told(small.len())), "{}", done.errors());
-    // of the list, the size that it gives
+    // the smallest size of the list
     assert!(folder
         .run("build small.txt -f")
         .succeeds()
@@ -142,7 +142,7 @@ fn what_edges_cost() {
         .ends_with("small.txt: warning: --small would give 1,928 bytes, 68.9 % of the text\n"));
     folder.run("build small.txt -f --small").succeeds().says("");
     assert_eq!(folder.read("small.tree").len(), 1928);
-    // not where that is no smaller than the text, or the tree is
+    // not if that is no smaller than the text, or if the tree is smaller
     folder.write("short.txt", b"A 1\n");
     assert!(!folder.run("build short.txt").succeeds().errors().contains("--small"));
     folder.write("same.txt", &b"CH0501 444224\n".repeat(2000));

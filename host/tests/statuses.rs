@@ -44,7 +44,7 @@ fn licences() {
     folder.run("licence left 20240101 20250601").status(0);
 }
 
-/// Of several files the highest status is given, whatever the order.
+/// With several files the status is the highest, whatever the order.
 #[test]
 fn several_files() {
     let folder = Folder::with_tree("several-statuses");

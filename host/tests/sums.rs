@@ -1,4 +1,4 @@
-//! `check --sums` and `check -c`, beside the system's sha256sum.
+//! `check --sums` and `check -c`, compared with the system's sha256sum.
 
 #[path = "support/folder.rs"]
 mod folder;
@@ -19,12 +19,12 @@ fn shelf(name: &str) -> Folder {
     folder
 }
 
-/// The tool with these trees.
+/// Runs the tool with these trees.
 fn check(folder: &Folder, words: &[&str], trees: &[&[u8]]) -> std::process::Output {
     folder.tool().arg("check").args(words).args(trees.iter().map(|name| OsStr::from_bytes(name))).output().expect("the tool ends")
 }
 
-/// What is printed is what sha256sum prints, and what it accepts.
+/// The output is what sha256sum prints, and sha256sum accepts it.
 #[test]
 fn lines_of_sha256sum() {
     let folder = shelf("sums");
@@ -42,12 +42,12 @@ fn lines_of_sha256sum() {
     let both = folder.run("check --sums cut.tree small.tree");
     both.status(1).prints(&folder.shell("sha256sum small.tree").printed());
     assert!(both.errors().starts_with("codebook: cut.tree: refused (7)"));
-    // objects have the digest anyway
+    // objects always have the digest
     let object = folder.run("check --sums small.tree --json").succeeds().printed();
     assert_eq!(object, folder.run("check small.tree --json").printed());
 }
 
-/// Lists of sha256sum in its three forms are read, and ours.
+/// Lists of sha256sum in its three forms are read, and those of the tool.
 #[test]
 fn lists_are_read() {
     let folder = shelf("sums-read");
@@ -66,7 +66,7 @@ fn lists_are_read() {
 }
 
 #[test]
-fn what_differs_is_said() {
+fn differences_are_reported() {
     let folder = Folder::with_tree("sums-wrong");
     let digest = folder.shell("sha256sum < small.tree").printed()[..64].to_owned();
     let other = "0".repeat(64);

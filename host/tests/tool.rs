@@ -9,7 +9,7 @@ use support::books::{book, Kind};
 
 const NO_SMALLER: &str = "the tree is no smaller than the text: the book is short, or repeats itself too little";
 
-/// What is printed before the digest.
+/// The part of the output before the digest.
 fn before_digest(done: &folder::Done) -> String {
     done.printed().split("SHA-256 of the tree ").next().unwrap_or_default().to_owned()
 }
@@ -58,7 +58,7 @@ fn builds_with_given_settings() {
     let sizes = "large.tree: 86,900 bytes, 3103.6 % of the text; leaf 1, arity 2, levels 1; bytes counted: 0x0a\n";
     assert_eq!(before_digest(done.succeeds()), format!("small.txt: 2,800 bytes\n{sizes}"));
     folder.run("find C 41 two.tree").succeeds().prints("728 (3 blocks entered)\n");
-    // named after the book, or into a folder
+    // named after the book, or in a folder
     folder.run("build small.txt -q -f").succeeds().prints("").says("");
     std::fs::create_dir(folder.0.join("trees")).expect("a folder");
     folder.run("build small.txt -q -o trees").succeeds();
@@ -297,7 +297,7 @@ fn by_columns_that_is_refused() {
     assert!(!folder.0.join("no.tree").exists());
 }
 
-/// A guide is made, checked, and leads finds and rows to the same answers.
+/// A guide is made and checked; finds and rows with it return the same.
 #[test]
 fn guides() {
     let folder = Folder::with_tree("guides");
@@ -481,7 +481,7 @@ fn book_without_rows() {
     assert_eq!(folder.read("piped.tree").len(), 100);
 }
 
-/// On a terminal a long build says how far it is, and takes that away at its end.
+/// On a terminal a long build shows its progress, and removes the line at its end.
 #[test]
 fn progress() {
     let folder = Folder::new("progress");
@@ -631,7 +631,7 @@ fn help_names_the_short_list() {
     }
 }
 
-/// The term of a licence: no file is read, and today is always given here.
+/// Licence dates: no file is read, and today is always given here.
 #[test]
 fn licences() {
     let folder = Folder::new("licences");

@@ -1,4 +1,4 @@
-//! README.md, docs/TOUR.md and docs/JSON.md: their commands are run, and what they print is compared with the page.
+//! Runs the commands of README.md, docs/TOUR.md and docs/JSON.md and compares their output with the page.
 
 use std::fs;
 use std::os::unix::fs::symlink;
@@ -36,7 +36,7 @@ fn objects_are_as_described() {
     assert!(compared("docs/JSON.md", "objects") > 20);
 }
 
-/// Run a page's commands in a folder that looks like the repository after `./demo`; how many there are.
+/// Runs a page's commands in a folder that looks like the repository after `./demo`. Returns their number.
 fn compared(page: &str, folder: &str) -> usize {
     let repository = Path::new(env!("CARGO_MANIFEST_DIR")).join("..");
     let folder = Path::new(env!("CARGO_TARGET_TMPDIR")).join(folder);

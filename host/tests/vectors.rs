@@ -1,4 +1,4 @@
-//! The cases of vectors.txt, and those that the program `cases` runs, put to the library and to the model. The head of vectors.txt says how a line is read.
+//! Runs the cases of vectors.txt and of the program `cases` on the library and on the model. The head of vectors.txt describes its lines.
 
 #[path = "support/judge.rs"]
 mod judge;
@@ -14,10 +14,10 @@ use std::fmt::Display;
 use support::{from_hex, to_hex};
 
 const VECTORS: &str = include_str!("vectors.txt");
-/// What the program `cases` must write; its lines that are wrong on purpose are its own.
+/// The expected output of the program `cases`; its lines that are wrong on purpose concern only that program.
 const CASES: &str = include_str!("../../crates/cases/stdout");
 
-/// The next row after a mark that bytes ask for.
+/// A search for the next row after a mark, by the bytes of its ranges or prefix.
 type NextRow = fn(&[u8], &[u8], u32) -> Answer<(u32, u32, u32)>;
 
 /// The calls of one implementation.
@@ -62,18 +62,18 @@ fn library() {
         run: calls::run_range,
         span: calls::span,
         count: calls::count,
-        find: |tree, byte, j| Answer::Settled(calls::find(tree, byte, j)),
-        row: |tree, q, buffer| Answer::Settled(calls::row(tree, q, buffer)),
+        find: |tree, byte, j| Answer::Exact(calls::find(tree, byte, j)),
+        row: |tree, q, buffer| Answer::Exact(calls::row(tree, q, buffer)),
         places: calls::places,
         next_match: |tree, ranges, mark| {
             let mut after = mark;
             let (number, row) = calls::next_match(tree, ranges, &mut after);
-            Answer::Settled((number, row, after))
+            Answer::Exact((number, row, after))
         },
         next_with_prefix: |tree, prefix, mark| {
             let mut after = mark;
             let (number, row) = calls::next_with_prefix(tree, prefix, &mut after);
-            Answer::Settled((number, row, after))
+            Answer::Exact((number, row, after))
         },
         to_columns: calls::to_columns,
         from_columns: calls::from_columns,
@@ -93,7 +93,7 @@ fn library() {
         },
         make_guide: calls::make_guide,
         check_guide: calls::check_guide,
-        find_guided: |tree, guide, byte, j| Answer::Settled(calls::find_guided(tree, guide, byte, j)),
+        find_guided: |tree, guide, byte, j| Answer::Exact(calls::find_guided(tree, guide, byte, j)),
         order: calls::compare,
         without_edges: calls::without_edges,
     });
@@ -131,7 +131,7 @@ fn model() {
     });
 }
 
-/// The builder with one scan a level, in a table of so many words, every byte of which is filled. What it then holds is free, except on a refusal other than 4.
+/// The builder with one scan a level, in a table of this many words, filled with one value. Afterwards it is unspecified, except on a refusal other than 4.
 fn library_scan(text: &[u8], shape: Shape, counted: &[u8], words: usize, out: &mut [u8]) -> (u32, u32, u32) {
     let filled = u32::from_le_bytes([FILL; 4]);
     let mut work = vec![filled; words];
@@ -179,7 +179,7 @@ fn run_file(calls: &Calls, file: &str) {
     assert!(wrong.is_empty(), "{} of {run} items are wrong:\n{}", wrong.len(), wrong.join("\n"));
 }
 
-/// Run one item; the answer where it is not the expected one.
+/// Runs one item. Returns the result if it is not the expected one.
 fn item(calls: &Calls, bytes: &HashMap<&str, Vec<u8>>, item: &[&str], expected: &[&str]) -> Result<(), String> {
     let number = |at: usize| item[at].parse::<u32>().expect("a number");
     let lent = |at: usize| vec![FILL; item[at].parse().expect("a length")];
@@ -259,7 +259,7 @@ fn item(calls: &Calls, bytes: &HashMap<&str, Vec<u8>>, item: &[&str], expected: 
     }
 }
 
-/// An item on the term of a licence: its days are given in hexadecimal, and no tree.
+/// An item on licence dates: its days are in hexadecimal, and it has no tree.
 fn on_days(calls: &Calls, item: &[&str]) -> Option<String> {
     let day = |at: usize| from_hex(item[at]);
     Some(match item[0] {
@@ -271,7 +271,7 @@ fn on_days(calls: &Calls, item: &[&str]) -> Option<String> {
             let (number, days) = (calls.days_left)(&day(1), &day(2));
             format!("{number} {days}")
         }
-        // a refusal leaves the lent day as it was, and the item has `-`
+        // a refusal leaves the day unchanged, and the item has `-`
         "renew" => match (calls.renew)(&day(1)) {
             (0, after) => format!("0 {}", to_hex(&after)),
             (number, after) if after == day(1) => format!("{number} -"),
@@ -285,7 +285,7 @@ fn figures((number, first, second): (u32, impl Display, u32)) -> String {
     format!("{number} {first} {second}")
 }
 
-/// Words in decimal, parted by commas.
+/// Words in decimal, separated by commas.
 fn words(table: &[u32]) -> String {
     if table.is_empty() {
         return "-".to_owned();
@@ -296,13 +296,13 @@ fn words(table: &[u32]) -> String {
 fn find(calls: &Calls, tree: &[u8], byte: u32, j: u32, expected: &[&str]) -> Result<(), String> {
     let number = |at: usize| expected[at].parse::<u32>().expect("a number");
     let expected = match expected {
-        ["free", n] => Answer::Free(n.parse().expect("a number")),
-        _ => Answer::Settled((number(0), number(1), number(2))),
+        ["free", n] => Answer::Unspecified(n.parse().expect("a number")),
+        _ => Answer::Exact((number(0), number(1), number(2))),
     };
     let got = (calls.find)(tree, byte, j);
     let agrees = match got {
-        Answer::Settled(got) => find_agrees(expected, got),
-        Answer::Free(_) => got == expected,
+        Answer::Exact(got) => find_agrees(expected, got),
+        Answer::Unspecified(_) => got == expected,
     };
     if agrees {
         Ok(())
@@ -314,13 +314,13 @@ fn find(calls: &Calls, tree: &[u8], byte: u32, j: u32, expected: &[&str]) -> Res
 fn row(calls: &Calls, tree: &[u8], q: u32, mut buffer: Vec<u8>, expected: &[&str]) -> Result<(), String> {
     let number = |at: usize| expected[at].parse::<u32>().expect("a number");
     let (answer, expected_buffer) = match expected {
-        ["free", n] => (Answer::Free(n.parse().expect("a number")), Vec::new()),
-        _ => (Answer::Settled((number(0), number(1))), from_hex(expected[2])),
+        ["free", n] => (Answer::Unspecified(n.parse().expect("a number")), Vec::new()),
+        _ => (Answer::Exact((number(0), number(1))), from_hex(expected[2])),
     };
     let got = (calls.row)(tree, q, &mut buffer);
     let agrees = match got {
-        Answer::Settled(got) => row_agrees(tree, (answer, &expected_buffer), (got, &buffer)),
-        Answer::Free(_) => got == answer,
+        Answer::Exact(got) => row_agrees(tree, (answer, &expected_buffer), (got, &buffer)),
+        Answer::Unspecified(_) => got == answer,
     };
     if agrees {
         Ok(())
@@ -329,7 +329,7 @@ fn row(calls: &Calls, tree: &[u8], q: u32, mut buffer: Vec<u8>, expected: &[&str
     }
 }
 
-/// The ranges of a worn key as they are lent: in hexadecimal, or as LOW-HIGH,LOW-HIGH,..
+/// The ranges of a worn key as the call takes them: in hexadecimal, or as LOW-HIGH,LOW-HIGH,..
 fn ranges(token: &str) -> Vec<u8> {
     let pair = |range: &str| range.split_once('-').and_then(|(low, high)| Some([low.parse().ok()?, high.parse().ok()?]));
     let pairs: Option<Vec<[u8; 2]>> = token.split(',').map(pair).collect();
@@ -339,13 +339,13 @@ fn ranges(token: &str) -> Vec<u8> {
 fn next_row(call: NextRow, tree: &[u8], wanted: &[u8], mark: u32, expected: &[&str]) -> Result<(), String> {
     let number = |at: usize| expected[at].parse::<u32>().expect("a number");
     let expected = match expected {
-        ["free"] => Answer::Free(u64::MAX),
-        _ => Answer::Settled((number(0), number(1), number(2))),
+        ["free"] => Answer::Unspecified(u64::MAX),
+        _ => Answer::Exact((number(0), number(1), number(2))),
     };
     let got = call(tree, wanted, mark);
     let agrees = match got {
-        Answer::Settled(got) => match_agrees(expected, mark, got),
-        Answer::Free(_) => matches!(expected, Answer::Free(_)),
+        Answer::Exact(got) => match_agrees(expected, mark, got),
+        Answer::Unspecified(_) => matches!(expected, Answer::Unspecified(_)),
     };
     if agrees {
         Ok(())
@@ -354,7 +354,7 @@ fn next_row(call: NextRow, tree: &[u8], wanted: &[u8], mark: u32, expected: &[&s
     }
 }
 
-/// The bytes of a guide: its words in decimal, parted by commas, or `-`.
+/// The bytes of a guide: its words in decimal, separated by commas, or `-`.
 fn guide(token: &str) -> Vec<u8> {
     let words = token.split(',').filter(|&word| word != "-");
     words.flat_map(|word| word.parse::<u32>().expect("a word").to_le_bytes()).collect()
@@ -364,11 +364,11 @@ fn find_guided(calls: &Calls, tree: &[u8], guide: &[u8], byte: u32, j: u32, expe
     let number = |at: usize| expected[at].parse::<u32>().expect("a number");
     let got = (calls.find_guided)(tree, guide, byte, j);
     let agrees = match (expected[0], got) {
-        ("free", Answer::Settled((refusal, place, entered, steps))) => {
-            find_agrees(Answer::Free(number(1).into()), (refusal, place, entered)) && (refusal == 0 || steps == 0)
+        ("free", Answer::Exact((refusal, place, entered, steps))) => {
+            find_agrees(Answer::Unspecified(number(1).into()), (refusal, place, entered)) && (refusal == 0 || steps == 0)
         }
-        ("free", Answer::Free(n)) => u64::from(number(1)) == n,
-        (_, Answer::Settled(got)) => got == (number(0), number(1), number(2), number(3)),
+        ("free", Answer::Unspecified(n)) => u64::from(number(1)) == n,
+        (_, Answer::Exact(got)) => got == (number(0), number(1), number(2), number(3)),
         _ => false,
     };
     if agrees {

@@ -67,7 +67,7 @@ fn no_larger_tree_by_columns() {
     let says = format!("codebook: small.txt: {compared}; it is not written; --allow-larger writes it\n");
     folder.run("build small.txt --columns auto").status(1).prints("").says(&says);
     assert_eq!(folder.names(), ["small.txt"]);
-    // the option says nothing of a tree by rows
+    // the option does not apply to a tree by rows
     let done = folder.run("build small.txt --allow-larger");
     assert!(done.status(2).errors().starts_with("codebook: --allow-larger can only be used with --columns\nusage: "), "{}", done.errors());
     assert_eq!(folder.names(), ["small.txt"]);

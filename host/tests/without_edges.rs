@@ -1,6 +1,6 @@
-//! Trees without their edges: the library against the model on good, damaged and wild trees, and every question on both layouts.
+//! Trees without their edges: the library compared with the model on valid, damaged and wild trees, and every question on both layouts.
 //!
-//! ROUNDS sets how many rounds each test goes; SEED where it starts.
+//! ROUNDS sets the number of rounds of each test, SEED the start of the random numbers.
 
 #[path = "support/damage.rs"]
 mod damage;
@@ -17,7 +17,7 @@ use std::collections::BTreeSet;
 use support::books::{book, Kind};
 use support::{rounds, setting, to_hex, Rng};
 
-/// The library's answer with a buffer of `room` bytes: the model's, with the same bytes in the buffer. Refused, the buffer is as it was.
+/// The library's result with a buffer of `room` bytes must be the model's, with the same bytes in the buffer. A refusal leaves the buffer unchanged.
 fn ask(tree: &[u8], room: usize) -> (u32, Vec<u8>) {
     let (mut got, mut expected) = (lent(room), lent(room));
     let (number, size) = calls::without_edges(tree, &mut got);
@@ -27,7 +27,7 @@ fn ask(tree: &[u8], room: usize) -> (u32, Vec<u8>) {
     (number, got[..size as usize].to_vec())
 }
 
-/// With a buffer of the exact size, a larger one, one byte less, and none.
+/// Buffers of the exact size, larger, one byte shorter, and empty.
 fn ask_with_all_rooms(rng: &mut Rng, tree: &[u8]) -> (u32, Vec<u8>) {
     let (number, small) = ask(tree, tree.len());
     assert!(small.len() <= tree.len());
@@ -39,9 +39,9 @@ fn ask_with_all_rooms(rng: &mut Rng, tree: &[u8]) -> (u32, Vec<u8>) {
     (number, small)
 }
 
-/// Of a built tree, the block tree of the text in layout 1; of another good tree, one that the check accepts, of the same text.
+/// From a built tree the call makes the block tree of the text in layout 1; from another valid tree, an accepted tree of the same text.
 #[test]
-fn good_trees() {
+fn valid_trees() {
     rounds(3000, |rng| {
         let (text, shape, counted) = (damage::text(rng, 120), damage::shape(rng), damage::counted(rng));
         let (number, small) = ask_with_all_rooms(rng, &build::plain_tree(&text, shape, &counted));
@@ -54,7 +54,7 @@ fn good_trees() {
     });
 }
 
-/// Questions 5 to 7 and 13 come in their order, and what passes keeps its text and every byte's path.
+/// Questions 5 to 7 and 13 are tested in order, and a rewritten tree keeps its text and every byte's path.
 #[test]
 fn damaged_and_wild_trees() {
     let mut reached = BTreeSet::new();
@@ -68,7 +68,7 @@ fn damaged_and_wild_trees() {
         if number != 0 {
             return;
         }
-        // as the check of the tree, but that edges play no part
+        // the check's result, if edges are ignored
         let verdicts = (calls::check(&tree), calls::check(&small));
         assert!(verdicts.0 == verdicts.1 || verdicts == (9, 0), "{verdicts:?} {}", to_hex(&tree));
         for place in 0..=model::word(&tree, 4).min(40) {
@@ -91,7 +91,7 @@ fn wrong_edges() {
     assert_eq!((ask(&tree[..99], 480).0, ask(&tree[1..], 480).0, ask(&tree[..531], 479).0), (5, 6, 7));
 }
 
-/// Long books: every question has the same answer on both layouts, but for a run's offset and a short span's blocks entered.
+/// Long books: every question has the same result on both layouts, except a run's offset and a short span's blocks entered.
 #[test]
 fn long_books() {
     for (kind, seed) in [(Kind::Repetitive, 1), (Kind::Mixed, 2), (Kind::NearlyRandom, 3)] {

@@ -1,4 +1,4 @@
-//! The model on the format's worked book, and its methods for long books held to its plain ones.
+//! The model on the format's worked book, and its faster methods for long books compared with its plain ones.
 
 mod model;
 mod support;
@@ -60,10 +60,10 @@ fn worked_questions(tree: &[u8], leaves: u64) {
     assert_eq!(count(tree, 65, 17), (0, 4, 3));
     assert_eq!(count(tree, 65, 0), (0, 0, 0));
     assert_eq!(count(tree, 65, 21), (10, 0, 0));
-    assert_eq!(find(tree, 65, 4), Answer::Settled((0, 16, 3)));
-    assert_eq!(find(tree, 65, 5), Answer::Settled((12, 0, 0)));
+    assert_eq!(find(tree, 65, 4), Answer::Exact((0, 16, 3)));
+    assert_eq!(find(tree, 65, 5), Answer::Exact((12, 0, 0)));
     assert_eq!(run(tree, 17), (0, leaves + 2, 2));
-    assert_eq!(row(tree, 1, &mut []), Answer::Settled((11, 0)));
+    assert_eq!(row(tree, 1, &mut []), Answer::Exact((11, 0)));
     assert_eq!(span(tree, 20, 0, &mut []), (0, 0));
 }
 
@@ -80,7 +80,7 @@ fn blocks_that_point() {
 }
 
 #[test]
-fn lent_buffers() {
+fn buffers_after_a_call() {
     let shape = Shape::new(2, 2, 2);
     let mut long = [0xEE; 535];
     assert_eq!(build(WORKED, shape, b"A", &mut long), (0, 532));
@@ -92,7 +92,7 @@ fn lent_buffers() {
     assert_eq!(build(&vec![65; 8_388_609], shape, b"A", &mut short), (1, 0));
 }
 
-/// Sides taken where the format's words could be read in two ways, on damaged worked trees.
+/// The readings of docs/READINGS.md, on damaged worked trees.
 #[test]
 fn readings() {
     let with = |words: &[(usize, u32)]| {
@@ -115,7 +115,7 @@ fn readings() {
     let mut buffer = [0xEE; 3];
     assert_eq!((span(&kind, 0, 3, &mut buffer[..2]).0, buffer), (13, [0xEE; 3]));
     assert_eq!((span(&kind, 0, 2, &mut buffer).0, buffer), (14, [0, 0, 0xEE]));
-    // with kind 2 in blocks 0 and 1 a span over their border is read all the same
+    // with kind 2 in blocks 0 and 1 a span over their border is still read
     let mut edges = worked(2);
     for at in [104, 136] {
         edges[at] = 2;
@@ -125,7 +125,7 @@ fn readings() {
     assert_eq!((byte(&edges, 3).0, byte(&edges, 4).0), (14, 14));
 }
 
-/// The places of a pattern: its questions in order, and the lent table.
+/// The places of a pattern: the questions in order, and the table afterwards.
 #[test]
 fn places_of_patterns() {
     let tree = worked(2);
@@ -150,7 +150,7 @@ fn places_of_patterns() {
     assert_eq!((ask(&tree[..99], b"", 0).0, ask(&tree[1..], b"", 0).0, ask(&tree[..479], b"", 0).0), (5, 6, 7));
 }
 
-/// The next match after a mark: its questions in order, forms of rows, and where the mark goes.
+/// The next match after a mark: the questions in order, forms of rows, and where the mark moves.
 #[test]
 fn matches_of_worn_keys() {
     let tree_of = |text: &[u8], counted: &[u8]| plain_tree(text, Shape::new(2, 2, 3), counted);
@@ -158,17 +158,17 @@ fn matches_of_worn_keys() {
     let ask = |tree: &[u8], ranges: &[u8], mark| keys::next_match(tree, ranges, mark);
     let worn = [1, 1, 2, 3];
     for (mark, row, after) in [(0, 1, 1), (1, 2, 2), (2, 4, 4), (4, 0, 4), (5, 0, 5)] {
-        assert_eq!(ask(&book, &worn, mark), Answer::Settled((0, row, after)));
+        assert_eq!(ask(&book, &worn, mark), Answer::Exact((0, row, after)));
     }
-    assert_eq!(ask(&book, &[9, 9], 0), Answer::Settled((0, 0, 4)));
+    assert_eq!(ask(&book, &[9, 9], 0), Answer::Exact((0, 0, 4)));
     for wrong in [vec![], vec![1, 1, 2], vec![5, 4], vec![0, 10], vec![0; 22]] {
-        assert_eq!(ask(&book, &wrong, 1), Answer::Settled((19, 0, 1)));
+        assert_eq!(ask(&book, &wrong, 1), Answer::Exact((19, 0, 1)));
     }
     assert_eq!(keys::matches_in(b"A 1\r", &[1, 1]), []);
     assert_eq!(keys::matches_in(b"A 1\r\r\nA\r 1\n 1\nA  1\nA 1 \nA \nA1\nA 11\nABCDEFGHIJKL 1\nABCDEFGHIJKLM 1", &[1, 1]), [2, 9]);
     let other = tree_of(b"A 1\n", b"A");
-    assert_eq!((ask(&other, &[2, 1], 7), ask(&other, &[1, 1], 7)), (Answer::Settled((19, 0, 7)), Answer::Settled((11, 0, 7))));
-    assert_eq!(ask(&other[..99], &[], 7), Answer::Settled((5, 0, 7)));
+    assert_eq!((ask(&other, &[2, 1], 7), ask(&other, &[1, 1], 7)), (Answer::Exact((19, 0, 7)), Answer::Exact((11, 0, 7))));
+    assert_eq!(ask(&other[..99], &[], 7), Answer::Exact((5, 0, 7)));
 }
 
 #[test]
@@ -194,9 +194,9 @@ fn fast_methods_agree() {
         let tree = plain_tree(&text, shape, b"\nA");
         assert!(tree == fast::tree(&text, shape, b"\nA"), "{shape:?} {text:?}");
         for j in 0..text.iter().filter(|&&byte| byte == 10).count().min(30) as u32 + 3 {
-            assert_eq!(Answer::Settled(fast::find(&tree, 10, j)), find(&tree, 10, j), "{shape:?} {text:?} {j}");
+            assert_eq!(Answer::Exact(fast::find(&tree, 10, j)), find(&tree, 10, j), "{shape:?} {text:?} {j}");
             let (mut plain, mut quick) = ([0xEE; 40], [0xEE; 40]);
-            assert_eq!(Answer::Settled(fast::row(&tree, j, &mut quick)), row(&tree, j, &mut plain));
+            assert_eq!(Answer::Exact(fast::row(&tree, j, &mut quick)), row(&tree, j, &mut plain));
             assert_eq!(plain, quick);
         }
     }

@@ -22,7 +22,7 @@ static uint64_t file(const char *path, uint8_t *bytes)
 
 static uint32_t digit(char c) { return (uint32_t)(c <= '9' ? c - '0' : c - 'a' + 10); }
 
-/* Bytes in hexadecimal, - for none; how many. */
+/* Reads bytes in hexadecimal, - for none. Returns their number. */
 static uint32_t from_hex(const char *word)
 {
     uint32_t n = 0;
@@ -30,7 +30,7 @@ static uint32_t from_hex(const char *word)
     return n;
 }
 
-/* Numbers separated by , or -, each of `width` bytes, lowest first; how many bytes. */
+/* Reads numbers separated by , or - as little-endian numbers of `width` bytes. Returns the number of bytes. */
 static uint32_t from_list(const char *word, uint32_t width)
 {
     uint32_t n = 0;
@@ -64,7 +64,7 @@ static void say_figures(uint32_t number, uint64_t one, uint64_t other_one)
     say_figure(one);
     say_figure(other_one);
 }
-/* The number, and the bytes of the buffer: none where the call is refused. */
+/* The refusal, and the bytes of the buffer: none if the call is refused. */
 static void say_bytes(uint32_t number, uint64_t n)
 {
     say_number(number);

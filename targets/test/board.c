@@ -18,7 +18,7 @@ static int semihosting(int operation, void *argument)
     return r0;
 }
 
-/* The words of the command line, which have no spaces; how many. */
+/* The arguments of the command line, which have no spaces. Returns their number. */
 static int split_words(void)
 {
     struct { char *at; unsigned room; } block = {line, sizeof line};

@@ -1,4 +1,4 @@
-/* The longest text there is, 8 MiB: its tree built, checked and read by every kind of question. The lines must be the same on every processor. */
+/* Builds, checks and reads the tree of the longest text, 8 MiB, by every kind of question. The lines must be the same on every processor. */
 #include "os.h"
 
 #include "blocktree.h"

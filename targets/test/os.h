@@ -1,4 +1,4 @@
-/* What the test programs need of a system: os_libc.c has it over a C library, os_wasm.c over imports. Besides, what they all share. */
+/* What the test programs need from a system: os_libc.c has it over a C library, os_wasm.c over imports. Also the code that they share. */
 #ifndef OS_H
 #define OS_H
 

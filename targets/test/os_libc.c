@@ -33,7 +33,7 @@ int os_write(const char *path, const uint8_t *bytes, long n)
     return fclose(file) || !whole;
 }
 
-/* A board has no standard input and output: there the first two words are @IN and OUT, files of the machine that emulates it. */
+/* A board has no standard input and output: its first two arguments are @IN and OUT, files of the machine that emulates it. */
 int main(int words, char **word)
 {
     in = stdin;

@@ -14,7 +14,7 @@ int os_write(const char *path, const uint8_t *bytes, long n) { return js_write(p
 
 static char given[4096], *word[16];
 
-/* Where the words of the command line are written, each with a zero after it. */
+/* The arguments of the command line, each with a zero after it. */
 __attribute__((export_name("words_at"))) char *words_at(void) { return given; }
 
 __attribute__((export_name("start"))) int start(int words)

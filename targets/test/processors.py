@@ -27,7 +27,7 @@ class Failure(Exception):
 
 
 def run(words, **options):
-    """What a command prints; Failure with its words where its status is not 0."""
+    """The output of a command; raises Failure with the command if it fails."""
     done = subprocess.run([str(word) for word in words], cwd=ROOT, stdout=subprocess.PIPE, stderr=subprocess.STDOUT, text=True, check=False, **options)
     if done.returncode:
         raise Failure("%s: status %d\n%s" % (" ".join(map(str, words)), done.returncode, done.stdout[-2000:]))
@@ -39,7 +39,7 @@ def missing(target):
 
 
 def compiled(target, program, archive, folder=None, flags=()):
-    """A test program for a target, linked with an archive of the library; its path."""
+    """Links a test program for a target with an archive of the library. Returns its path."""
     source, out = [TESTS / (program + ".c"), TESTS / "os_libc.c"], (folder or WORK / target) / program
     out.parent.mkdir(parents=True, exist_ok=True)
     words = [*WARNINGS, *flags, "-I", ROOT / "include"]
@@ -73,7 +73,7 @@ def compiled_to_wasm(program, out):
 
 
 def on(target, program, *words, wasm=None, timeout=1800):
-    """What a program prints on its processor."""
+    """The output of a program on its processor."""
     environment = dict(os.environ, **({"BLOCKTREE_WASM": str(wasm)} if wasm else {}))
     return run([TESTS / "on", target, program, *words], env=environment, stdin=subprocess.DEVNULL, timeout=timeout)
 

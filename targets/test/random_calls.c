@@ -1,4 +1,4 @@
-/* Random calls of every function of the header, on good trees, damaged trees and random bytes. All that a call returns and writes goes into a hash; the same
+/* Random calls of every function of the header, on valid trees, damaged trees and random bytes. All that a call returns and writes goes into a hash; the same
  * seed must print the same lines on every processor.
  *
  *     random_calls SEED ROUNDS [shown ROUND | stack]
@@ -6,7 +6,7 @@
  * prints the hash after each round, then how often each function returned each number. `shown ROUND` also prints a line for each call of that round. `stack`
  * builds trees of eight levels and prints, in place of hashes, the most stack in bytes that each function used.
  *
- * Arguments that are drawn stand in variables of their own: C does not say in which order the arguments of a call are evaluated. */
+ * Random arguments are drawn into variables first, since C does not specify in which order the arguments of a call are evaluated. */
 #include "os.h"
 
 #include "blocktree.h"
@@ -154,7 +154,7 @@ static const uint8_t *lent_guide(const uint8_t *lent, uint64_t length, uint64_t 
     return made ? guide : lent;
 }
 
-/* One function for each call: draws what it is lent, calls it, mixes in what it wrote, returns its number. */
+/* One function for each call: draws its arguments, calls it, hashes what it wrote, returns its number. */
 typedef uint32_t question(const uint8_t *lent, uint64_t length);
 static uint32_t first, second, third;
 static uint64_t large;
@@ -231,7 +231,7 @@ static uint32_t ask_row_length(const uint8_t *lent, uint64_t length)
 }
 static uint32_t ask_row_count(const uint8_t *lent, uint64_t length) { return CALL(bt_row_count(lent, length, &large)); }
 
-/* A pattern of the text, now and then with other bytes behind it; its length. */
+/* A pattern of the text, sometimes with other bytes after it. Returns its length. */
 static uint8_t pattern[260];
 static uint32_t draw_pattern(void)
 {
@@ -397,7 +397,7 @@ static uint32_t ask_renew(const uint8_t *lent, uint64_t length)
     return answer;
 }
 
-/* What both builders are lent, drawn anew for each build. */
+/* The arguments of both builders, drawn for each build. */
 static uint8_t counted[8];
 static uint32_t leaf, arity, levels, many_counted, room, work_words;
 static uint32_t ask_build(const uint8_t *lent, uint64_t length)
@@ -414,7 +414,7 @@ static uint32_t ask_build_scanned(const uint8_t *lent, uint64_t length)
     return answer;
 }
 
-/* Every function of the header; test-targets compares the names. The builders stand first and are called once a round, the others at random. */
+/* Every function of the header; test-targets compares the names. The builders come first and are called once a round, the others at random. */
 static const struct {
     const char *name;
     question *ask;

@@ -5,7 +5,7 @@ use Prim.Native.Nat.{ℕ}
 use Rattle.format.specs.Answers.{Answer, replied}
 use Rattle.format.specs.AnswerLaws.{unless-number}
 use Rattle.query_access.specs.declared.SpanAnswer.{SpanAnswer}
-use Rattle.query_access.specs.declared.SpanAnswer.the-variants as copied
+use Rattle.query_access.specs.declared.SpanAnswer.the-variants as span
 use Rattle.query_access.specs.ReadAnswers.{spanReply}
 use Rattle.query_columns.specs.ColumnRows.{rowByColumnsRefusal, rowByColumnsAnswer, IsRowByColumnsAnswer}
 
@@ -14,8 +14,8 @@ module _ (t : List ℕ) (w a room : ℕ) (r : SpanAnswer) (k : IsRowByColumnsAns
   unfolding rowByColumnsAnswer
   number-is = ap (λ (s : Answer). s .number) (k .answers) ∙ unless-number (rowByColumnsRefusal t w a room) _ refl
 
-  pub column-answered : (n entered : ℕ) → r ≡ copied.Bytes n entered → 0 ≡ rowByColumnsRefusal t w a room
+  pub column-answered : (n entered : ℕ) → r ≡ span.Bytes n entered → 0 ≡ rowByColumnsRefusal t w a room
   column-answered n entered e = sym (ap (λ (x : SpanAnswer). replied (spanReply x) .number) e) ∙ number-is
 
-  pub column-refused : (q : ℕ) → r ≡ copied.Refused q → q ≡ rowByColumnsRefusal t w a room
+  pub column-refused : (q : ℕ) → r ≡ span.Refused q → q ≡ rowByColumnsRefusal t w a room
   column-refused q e = sym (ap (λ (x : SpanAnswer). replied (spanReply x) .number) e) ∙ number-is

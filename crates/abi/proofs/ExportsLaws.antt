@@ -15,7 +15,7 @@ use Rattle.format.specs.TreeReading.{Path, pathOf, headerResult}
 use Rattle.format.specs.LayoutLaws.{header-facts}
 use Rattle.theory_paths.specs.Shift.{left-most}
 use Rattle.query_access.specs.declared.SpanAnswer.{SpanAnswer}
-use Rattle.query_access.specs.declared.SpanAnswer.the-variants as copied
+use Rattle.query_access.specs.declared.SpanAnswer.the-variants as span
 use Rattle.query_access.specs.ReadAnswers.{spanReply, IsSpanAnswer}
 use Rattle.build_by_search.specs.declared.BuildAnswer.{BuildAnswer}
 use Rattle.build_by_search.specs.declared.BuildAnswer.the-variants as built
@@ -65,10 +65,10 @@ run-short t p =
 -- span
 
 module _ (t : List ℕ) (p len room : ℕ) (r : SpanAnswer) (k : IsSpanAnswer t p len room r) where
-  pub span-answered : (n entered : ℕ) → r ≡ copied.Bytes n entered → (0 ≡ spanAnswer t p len room .number) × (entered ≡ spanAnswer t p len room .entered)
+  pub span-answered : (n entered : ℕ) → r ≡ span.Bytes n entered → (0 ≡ spanAnswer t p len room .number) × (entered ≡ spanAnswer t p len room .entered)
   span-answered n entered e = let z = sym (ap (λ (x : SpanAnswer). replied (spanReply x)) e) ∙ k .answers in
       (ap (λ (s : Answer). s .number) z, ap (λ (s : Answer). s .entered) z)
 
-  pub span-refused : (q : ℕ) → r ≡ copied.Refused q → (q ≡ spanAnswer t p len room .number) × (0 ≡ spanAnswer t p len room .entered)
+  pub span-refused : (q : ℕ) → r ≡ span.Refused q → (q ≡ spanAnswer t p len room .number) × (0 ≡ spanAnswer t p len room .entered)
   span-refused q e = let z = sym (ap (λ (x : SpanAnswer). replied (spanReply x)) e)
       ∙ k .answers in (ap (λ (s : Answer). s .number) z, ap (λ (s : Answer). s .entered) z)

@@ -1,4 +1,4 @@
--- The term of a licence, as numbers.
+-- Licence dates, as numbers.
 use mathlib.Core.List.{List}
 use mathlib.Core.Bool.{Bool, cond}
 use mathlib.Core.Path.{_≡_, sym, ap, _∙_}

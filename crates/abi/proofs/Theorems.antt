@@ -1,7 +1,7 @@
 -- Demand 1 for the exported calls, a line for each: the call terminates and accesses only the memory that it was given (`TotallyCorrect`), and it has no
 -- precondition
 -- (`NoPrecondition`).
--- docs/FORMAT.md: "What is promised".
+-- docs/FORMAT.md: "What is proved".
 use mathlib.Core.List.{List, [], _∷_}
 use mathlib.Core.Path.{refl}
 use Rattle.theory_adequacy.specs.TotalCorrectness.{TotallyCorrect}

@@ -12,19 +12,20 @@ use Rattle.build_records.specs.declared.level_written.Level.{Level}
 use Rattle.build_records.specs.State.{recordSettingsOf}
 use Rattle.build_records.proofs.Growth.{grown-none}
 use Rattle.build_levels.specs.Trees.{LevelReady}
-use Rattle.build_by_search.proofs.AllLevelsLaws.{Reached}
+use Rattle.build_by_search.proofs.AllLevelsLaws.{LevelReached}
 use Rattle.build_by_scan.specs.ScanAnswers.{windowsAt, windowsOf}
 
--- Before a level.
-pub record Along (first : code.Settings) (cs T out₀ words₀ out words : List ℕ) (level : Level) (windows : ℕ) : Type 0 where
-  pub reached : Reached first cs T out₀ out level
+-- Before a level: the tree is written up to it, and the windows of the levels above are counted.
+pub record ScanReached (first : code.Settings) (cs T out₀ words₀ out words : List ℕ) (level : Level) (windows : ℕ) : Type 0 where
+  pub reached : LevelReached first cs T out₀ out level
   pub same-length : length words ≡ length words₀
   pub windows-are : windows ≡ sumBelow (level .number) (windowsAt (recordSettingsOf first cs) T)
   pub windows-few : windows ≤ level .number * (4 * maxText)
 
 module _ (first : code.Settings) (cs T out₀ words₀ : List ℕ) where
   pub along-first : (level : Level)
-      → level .settings ≡ first → level .number ≡ 0 → LevelReady (recordSettingsOf first cs) T out₀ level → Along first cs T out₀ words₀ out₀ words₀ level 0
+      → level .settings ≡ first → level .number ≡ 0 → LevelReady (recordSettingsOf first cs) T out₀ level
+      → ScanReached first cs T out₀ words₀ out₀ words₀ level 0
   unfolding sumBelow
   along-first level s z r = record {
     reached = record { same = s; ready = r; grown = grown-none _ _ };
@@ -33,14 +34,14 @@ module _ (first : code.Settings) (cs T out₀ words₀ : List ℕ) where
     windows-few = omega arith;
   }
 
-  module _ (out words : List ℕ) (level : Level) (windows : ℕ) (a : Along first cs T out₀ words₀ out words level windows) where
+  module _ (out words : List ℕ) (level : Level) (windows : ℕ) (a : ScanReached first cs T out₀ words₀ out words level windows) where
     pub room-here : 4 * pieces (length T) (first .leaf) ≤ length words₀ → 4 * pieces (length T) (level .settings .leaf) ≤ length words
     room-here room = subst (λ (s : code.Settings). 4 * pieces (length T) (s .leaf) ≤ length words) (sym (a .reached .same)) (omega (arith, a .same-length))
 
     module _ (more : ℕ) (more-is : more ≡ windowsAt (recordSettingsOf (level .settings) cs) T (level .number)) (few : more ≤ 4 * maxText) where
       pub along-next : (out′ words′ : List ℕ) (next : Level)
-          → Reached first cs T out₀ out′ next → next .number ≡ level .number + 1 → length words′ ≡ length words
-          → Along first cs T out₀ words₀ out′ words′ next (windows + more)
+          → LevelReached first cs T out₀ out′ next → next .number ≡ level .number + 1 → length words′ ≡ length words
+          → ScanReached first cs T out₀ words₀ out′ words′ next (windows + more)
       along-next out′ words′ next r n same = record {
         reached = r;
         same-length = same ∙ a .same-length;
@@ -57,7 +58,7 @@ module _ (first : code.Settings) (cs T out₀ words₀ : List ℕ) where
         ∙ ap (λ (k : ℕ). sumBelow k (windowsAt (recordSettingsOf first cs) T)) (let q : level .number ≡ first .levels - 1 = omega arith in q)
 
 -- The first level has the settings that were given.
-module _ (first : code.Settings) (cs T out₀ out : List ℕ) (level : Level) (r : Reached first cs T out₀ out level) where
+module _ (first : code.Settings) (cs T out₀ out : List ℕ) (level : Level) (r : LevelReached first cs T out₀ out level) where
   pub room-of : (n : ℕ) → 4 * pieces (length T) (first .leaf) ≤ n → 4 * pieces (length T) (level .settings .leaf) ≤ n
   room-of n room = subst (λ (s : code.Settings). 4 * pieces (length T) (s .leaf) ≤ n) (sym (r .same)) room
 

@@ -15,7 +15,7 @@ use Rattle.build_by_scan.specs.declared.BuildScannedAnswer.{BuildScanned
 use Rattle.build_by_scan.specs.declared.BuildScannedAnswer.the-variants.{Size, Refused}
 
 -- What build_scanned returns, and what the caller's buffer and table contain afterwards.
--- docs/FORMAT.md: "Two builders", "What is left in lent buffers".
+-- docs/FORMAT.md: "Two builders", "Buffers after a call".
 
 -- Whether p holds at one of 0, 1, .., n - 1.
 unfoldable pub anyBelow : ℕ → (ℕ → Bool) → Bool

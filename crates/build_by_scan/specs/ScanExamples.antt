@@ -28,7 +28,7 @@ pub record Scans : Type 0 where
   three-levels : windowsOf (with-levels 3 []) scan-book ≡ 74
   -- A text shorter than a leaf: four words.
   begun : (tableWords 2 2 ≡ 4) × (windowsOf (with-levels 3 []) (65 ∷ 66 ∷ []) ≡ 2)
-  -- A text of no bytes: no words, no windows.
+  -- The empty text: no words, no windows.
   no-text : (tableWords 0 2 ≡ 0) × (windowsOf (with-levels 3 []) [] ≡ 0) × (buildScannedRefusal (with-levels 3 []) [] (replicate 100 7) 0 ≡ 0)
   -- 40 words are required; 18 comes before 4, and 3 before 18.
   table-short : buildScannedRefusal (with-levels 2 (65 ∷ [])) scan-book (replicate 531 7) 39 ≡ 18

@@ -15,7 +15,7 @@ use Rattle.build_levels.specs.declared.level_step.Step.the-variants.{To, Full}
 use Rattle.build_levels.specs.Trees.{LevelReady, StepIs, TreeComplete}
 
 -- Before a level: it has the settings of the first, and the tree is written up to it.
-pub record Reached (first : code.Settings) (cs T out₀ out : List ℕ) (level : Level) : Type 0 where
+pub record LevelReached (first : code.Settings) (cs T out₀ out : List ℕ) (level : Level) : Type 0 where
   pub same : level .settings ≡ first
   pub ready : LevelReady (recordSettingsOf first cs) T out level
   pub grown : WritesOnlyTree (treeOf (recordSettingsOf first cs) T) out₀ out
@@ -30,10 +30,10 @@ module _ (first : code.Settings) (cs T out₀ new : List ℕ) (g : WritesOnlyTre
     pub step-number : next .number ≡ number
     step-number = is .to next e .1
 
-    pub step-reached : Reached first cs T out₀ new next
+    pub step-reached : LevelReached first cs T out₀ new next
     step-reached = record { same = is .to next e .0; ready = is .to next e .2; grown = g }
 
-module _ (first : code.Settings) (cs T out₀ out : List ℕ) (level : Level) (r : Reached first cs T out₀ out level) where
+module _ (first : code.Settings) (cs T out₀ out : List ℕ) (level : Level) (r : LevelReached first cs T out₀ out level) where
   pub ready-here : LevelReady (recordSettingsOf (level .settings) cs) T out level
   ready-here = subst (λ (s : code.Settings). LevelReady (recordSettingsOf s cs) T out level) (sym (r .same)) (r .ready)
 

@@ -1,4 +1,4 @@
--- What docs/FORMAT.md, "Guides", says of making and checking a guide, as theorems over what the calls promise, for any lent bytes.
+-- The sentences of docs/FORMAT.md, "Guides", about making and checking a guide, as theorems over the contracts of the calls, for any bytes.
 use mathlib.Core.List.{List, _++_}
 use mathlib.Core.Bool.{true, false}
 use mathlib.Core.Path.{_≡_, refl, sym, ap, _∙_}

@@ -1,4 +1,4 @@
--- A size that is enough for every tree of texts of n bytes: the header, a leaf byte for each byte of the text, and on each level a record for
+-- The size bound of every tree of texts of n bytes: the header, a leaf byte for each byte of the text, and on each level a record for
 -- each block that the text can be cut into.
 -- docs/FORMAT.md: "Size", "Two builders".
 use mathlib.Core.List.{[], _∷_}

@@ -1,4 +1,4 @@
--- The size is enough: for the tree of every text of that length, and for every tree that passes questions 5 to 8.
+-- The size bound holds for the tree of every text of that length, and for every tree that passes questions 5 to 8.
 use mathlib.Core.List.{List}
 use mathlib.Core.Bool.{true, false}
 use mathlib.Core.Path.{_≡_, refl, sym, _∙_}

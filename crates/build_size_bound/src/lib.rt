@@ -1,4 +1,4 @@
-// A size that is enough for the tree of every text of a length, with given settings.
+// The size bound of the trees of all texts of a length, with given settings.
 use layout::header;
 use layout::settings;
 use layout::settings::Settings;
@@ -17,7 +17,7 @@ pub enum SizeBoundAnswer {
     Refused(u32),
 }
 
-// A size that is enough for the tree of every text of n bytes.
+// The size bound of the tree of every text of n bytes.
 pub fn size_bound(n: u32, leaf: u32, arity: u32, levels: u32, counted: u32) -> SizeBoundAnswer
     ensures { λ r. ⌜ IsSizeBoundAnswer n leaf arity levels counted r ⌝ }
 {

@@ -15,7 +15,7 @@ ghost use Prim.Native.Nat.{_≤_};
 // Room for the table of a scan.
 const TABLE: usize = 512;
 
-// Answers a line; the script has the lines before it.
+// Runs a line; the script has the lines before it.
 pub fn line(script: &[u8], line: &[u8], bytes: &mut [u8], lent: &mut [u8]) {
     if cases_script::is_comment(line) {
         return;
@@ -38,7 +38,7 @@ pub fn line(script: &[u8], line: &[u8], bytes: &mut [u8], lent: &mut [u8]) {
     }
 }
 
-// A line with a word of another file, or with no such word.
+// Runs a line whose first word another file handles, or that no file knows.
 fn other(script: &[u8], line: &[u8], bytes: &mut [u8], lent: &mut [u8]) {
     if output_cases::line(script, line, bytes, lent) {
         return;
@@ -55,7 +55,7 @@ fn other(script: &[u8], line: &[u8], bytes: &mut [u8], lent: &mut [u8]) {
     wrong::say(b"no such word");
 }
 
-// How many tokens a line has that gives bytes a name.
+// The number of tokens of a line that names bytes.
 fn gift_length(gift: Gift) -> u32 {
     match gift {
         Gift::Text | Gift::Tree => 3,
@@ -63,7 +63,7 @@ fn gift_length(gift: Gift) -> u32 {
     }
 }
 
-// Tries a line that gives bytes a name.
+// Tries a line that names bytes.
 fn give(script: &[u8], line: &[u8], bytes: &mut [u8]) {
     if cases_tokens::ends(line, gift_length(cases_script::gift_of(line))) {
         wrong::made(cases_script::make(script, line, bytes));
@@ -80,7 +80,7 @@ pub fn numbers(line: &[u8], from: u32, to: u32) -> bool {
     false
 }
 
-// How many tokens a question to a tree has.
+// The number of tokens of a question about a tree.
 fn length(question: Question) -> u32 {
     match question {
         Question::Byte | Question::Run => 3,
@@ -90,7 +90,7 @@ fn length(question: Question) -> u32 {
     }
 }
 
-// The length of the buffer that a question to a tree lends: its last token.
+// The length of the buffer of a question about a tree: its last token.
 fn lent_length(question: Question, line: &[u8]) -> usize {
     match question {
         Question::Span => cases_tokens::figure(line, 4) as usize,
@@ -99,7 +99,7 @@ fn lent_length(question: Question, line: &[u8]) -> usize {
     }
 }
 
-// A question to a tree.
+// A question about a tree.
 fn of_tree(script: &[u8], line: &[u8], question: Question, bytes: &mut [u8], lent: &mut [u8]) {
     if !numbers(line, 2, length(question)) {
         wrong::fault(Fault::Number);
@@ -144,7 +144,7 @@ fn on_byte(question: Question, tree: &[u8], byte: u32, number: u32) {
     }
 }
 
-// Which token of a line that builds is the last, the length of the buffer.
+// The index of the last token of a line that builds, which is the length of the buffer.
 fn last(question: Question) -> u32
     ensures { λ r. ⌜ r ≤ 7 ⌝ }
 {
@@ -178,7 +178,7 @@ fn build(script: &[u8], line: &[u8], question: Question, bytes: &mut [u8], lent:
     }
 }
 
-// The same of the text.
+// Build, with the text read.
 fn build_of(text: &[u8], line: &[u8], question: Question, lent: &mut [u8]) {
     let mut counted = [0u8; 256];
     let made = cases_tokens::hex(cases_tokens::token(line, 5), &mut counted);
@@ -188,7 +188,7 @@ fn build_of(text: &[u8], line: &[u8], question: Question, lent: &mut [u8]) {
     }
 }
 
-// The same with the counted bytes.
+// Build, with the text and the counted bytes read.
 fn build_counting(text: &[u8], line: &[u8], question: Question, counted: &[u8], lent: &mut [u8]) {
     cases_script::fill(lent, 238);
     let by = Sizes {

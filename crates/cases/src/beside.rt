@@ -20,7 +20,7 @@ pub fn ask(script: &[u8], line: &[u8], question: Question, bytes: &mut [u8]) {
     }
 }
 
-// The same of the tree.
+// The question, with the tree read.
 fn of_tree(question: Question, tree: &[u8], line: &[u8]) {
     let mut beside = [0u8; 300];
     let made = cases_tokens::hex(cases_tokens::token(line, 2), &mut beside);
@@ -30,7 +30,7 @@ fn of_tree(question: Question, tree: &[u8], line: &[u8]) {
     }
 }
 
-// The same with the bytes: the next match after a mark, the next row after it that starts with a prefix, or the places of a pattern.
+// The question, with the tree and the bytes read: the next match after a mark, the next row after it that starts with a prefix, or the places of a pattern.
 fn put(question: Question, tree: &[u8], beside: &[u8], number: u32) {
     match question {
         Question::Match => cases_replies::next_match(tree, beside, number),

@@ -1,4 +1,4 @@
-// Questions on a guide: a tree, the words of a guide in decimal, parted by commas, and numbers.
+// Questions on a guide: a tree, the words of a guide in decimal, separated by commas, and numbers.
 use crate::ask;
 use crate::wrong;
 use cases_tokens::decimal;
@@ -14,7 +14,7 @@ ghost use Rattle.cases_tokens.specs.declared.hexadecimal.Made.the-variants.{Byt
 // Room for a guide's bytes.
 const ROOM: usize = 300;
 
-// Puts the question of a line whose word is one of these; no other line's.
+// Runs a line whose first word is one of these. Returns whether it is.
 pub fn line(script: &[u8], line: &[u8], bytes: &mut [u8]) -> bool {
     let word = cases_tokens::token(line, 0);
     if check::same(word, b"guide") {
@@ -32,7 +32,7 @@ pub fn line(script: &[u8], line: &[u8], bytes: &mut [u8]) -> bool {
     false
 }
 
-// Make: a tree, and how many words the table has.
+// Make: a tree, and the number of words of the table.
 fn make(script: &[u8], line: &[u8], bytes: &mut [u8]) {
     if !ask::numbers(line, 2, 3) {
         wrong::fault(Fault::Number);
@@ -45,7 +45,7 @@ fn make(script: &[u8], line: &[u8], bytes: &mut [u8]) {
     }
 }
 
-// The same of the tree; the words have 238 in every byte.
+// Make, with the tree read; the words have 238 in every byte.
 fn make_of(tree: &[u8], words: usize) {
     if ROOM / 4 < words {
         wrong::fault(Fault::Room);
@@ -69,7 +69,7 @@ fn beside(script: &[u8], line: &[u8], last: u32, bytes: &mut [u8]) {
     }
 }
 
-// The same of the tree.
+// The question, with the tree read.
 fn of_tree(tree: &[u8], line: &[u8]) {
     let mut guide = [0u8; ROOM];
     let made = guide_of(cases_tokens::token(line, 2), &mut guide);
@@ -79,7 +79,7 @@ fn of_tree(tree: &[u8], line: &[u8]) {
     }
 }
 
-// The same with the guide: check it, or find a byte by it.
+// The question, with the tree and the guide read: check the guide, or find a byte with it.
 fn put(tree: &[u8], guide: &[u8], line: &[u8]) {
     if check::same(cases_tokens::token(line, 0), b"guidecheck") {
         cases_replies::guide_replies::check(tree, guide);

@@ -1,4 +1,4 @@
-// The term of a licence: days in hexadecimal, and no tree.
+// Licence dates: days in hexadecimal, and no tree.
 use crate::wrong;
 use cases_tokens::hexadecimal::Fault;
 use cases_tokens::hexadecimal::Made;
@@ -21,7 +21,7 @@ pub fn line(line: &[u8]) -> bool {
     true
 }
 
-// How many days a word takes, 0 for another word.
+// The number of days that the line of a word has, 0 for another word.
 fn days_of(word: &[u8]) -> u32
     ensures { λ r. ⌜ r ≤ 3 ⌝ }
 {

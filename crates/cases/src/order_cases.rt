@@ -27,7 +27,7 @@ fn ask(script: &[u8], line: &[u8], bytes: &mut [u8]) {
     }
 }
 
-// The same of the first tree.
+// The order, with the first tree read.
 fn beside(script: &[u8], line: &[u8], one: &[u8]) {
     let mut room = [0u8; ROOM];
     let made = cases_script::named(script, cases_tokens::token(line, 2), &mut room);

@@ -16,7 +16,7 @@ pub fn line(script: &[u8], line: &[u8], bytes: &mut [u8], lent: &mut [u8]) -> bo
     true
 }
 
-// Which token of a line is the last, the length of the buffer; 0 where the word is none of these.
+// The index of the last token of a line, which is the length of the buffer; 0 for another word.
 fn last(word: &[u8]) -> u32
     ensures { λ r. ⌜ r ≤ 4 ⌝ }
 {
@@ -55,7 +55,7 @@ fn ask(script: &[u8], line: &[u8], last: u32, bytes: &mut [u8], lent: &mut [u8])
     }
 }
 
-// The same of the text or tree; the buffer has 238 in every byte.
+// The question, with the text or tree read; the buffer has 238 in every byte.
 fn put(held: &[u8], line: &[u8], lent: &mut [u8]) {
     cases_script::fill(lent, 238);
     let word = cases_tokens::token(line, 0);

@@ -1,14 +1,14 @@
-// What is printed of a line that is wrong.
+// The output for a wrong line.
 use cases_tokens::hexadecimal::Fault;
 use cases_tokens::hexadecimal::Made;
 
-// What is wrong with a line, in words.
+// Prints what is wrong with a line.
 pub fn say(words: &[u8]) {
     io::write_all(1, b" => wrong: ");
     io::write_all(1, words);
 }
 
-// What is wrong where a line gives no bytes.
+// Prints why a line gives no bytes.
 pub fn fault(fault: Fault) {
     match fault {
         Fault::Name => say(b"no text or tree has this name"),
@@ -18,7 +18,7 @@ pub fn fault(fault: Fault) {
     }
 }
 
-// Nothing where a line gives bytes.
+// Prints nothing if a line gives bytes.
 pub fn made(made: Made) {
     match made {
         Made::Bytes(_) => {}

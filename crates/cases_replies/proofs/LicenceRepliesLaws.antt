@@ -49,7 +49,7 @@ module _ (z : ℤ) (f : SFits w32 z) where
   pub negated : SFits w64 (pos 0 -ℤ wide (back z))
   negated = subst (λ (y : ℤ). SFits w64 (pos 0 -ℤ y)) (sym back-wide) (neg-fits z f)
 
-  -- Of a number below zero, and of another.
+  -- For a negative number, and for any other.
   pub magnitude : ltZ (back z) (pos 0) ≡ true → Unsigned (wide (pos 0 -ℤ wide (back z)))
   magnitude l =
       let e : pos 0 -ℤ z ≡ wide (pos 0 -ℤ wide (back z)) = sym (toZ-ofZ w64 _ negated ∙ ap (λ (y : ℤ). pos 0 -ℤ y) back-wide) in

@@ -1,4 +1,4 @@
-// Answers to digest and digest_text: the number, and what the buffer then holds.
+// The answers of digest and digest_text: the refusal, and the buffer afterwards.
 use crate::say;
 
 pub fn digest(tree: &[u8], out: &mut [u8]) {

@@ -1,10 +1,10 @@
-// The answers of a guide's calls.
+// The answers of the calls on guides.
 use crate::say;
 use layout::word;
 use query::FindGuidedAnswer;
 use query::GuideWordsAnswer;
 
-// How many words the guide has, and the words of the table.
+// The number of words of the guide, and the words of the table.
 pub fn make(tree: &[u8], table: &mut [u8]) {
     let answer = query::make_guide(tree, table);
     match answer {
@@ -32,7 +32,7 @@ fn four(n: u32, a: u32, b: u32, c: u32) {
     say::figure(c as u64);
 }
 
-// A number, a figure, and the words of a table, `-` where it has none.
+// A refusal, a figure, and the words of a table, `-` if it has none.
 fn print_words(n: u32, a: u64, table: &[u8]) {
     say::number(n);
     say::figure(a);
@@ -43,7 +43,7 @@ fn print_words(n: u32, a: u64, table: &[u8]) {
     words(table);
 }
 
-// The words that bytes are, in decimal, parted by commas.
+// Bytes as words, in decimal, separated by commas.
 fn words(bytes: &[u8]) {
     let count = bytes.len() / 4;
     let mut i: usize = 0;

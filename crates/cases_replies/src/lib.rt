@@ -1,5 +1,5 @@
-// The library's answers, printed in the format of the cases: ` => `, the number of the question that refuses or 0, the figures, and what
-// a buffer holds, in hexadecimal.
+// Prints the library's answers in the format of the cases: ` => `, the refusal or 0, the figures, and the contents of
+// a buffer in hexadecimal.
 pub mod column_replies;
 pub mod digest_replies;
 pub mod guide_replies;
@@ -36,7 +36,7 @@ pub fn build(text: &[u8], by: Sizes, counted: &[u8], out: &mut [u8]) {
     }
 }
 
-// Build with one scan a level, in a table; what the table then holds is free, and is not printed.
+// Build with one scan a level, with a table, which is unspecified afterwards and is not printed.
 pub fn scan(text: &[u8], by: Sizes, counted: &[u8], work: &mut [u32], out: &mut [u8]) {
     let answer = tree::build_scanned(text, by.leaf, by.arity, by.levels, counted, work, out);
     match answer {
@@ -54,7 +54,7 @@ pub fn check(tree: &[u8]) {
     say::number(tree::check(tree));
 }
 
-// What the list program prints.
+// The output of the list program.
 pub fn list(tree: &[u8]) {
     let mut out = [0u8; list_lines::MAX_LINES];
     let n = list_lines::print(tree, &mut out);
@@ -94,7 +94,7 @@ pub fn find(tree: &[u8], byte: u8, j: u32) {
     }
 }
 
-// A span's figure is the blocks entered.
+// The figure of a span is the number of blocks entered.
 pub fn span(tree: &[u8], at: u32, len: u32, buffer: &mut [u8]) {
     let answer = query::span(tree, TextPlace(at), len, buffer);
     match answer {
@@ -111,7 +111,7 @@ pub fn row(tree: &[u8], q: u32, buffer: &mut [u8]) {
     }
 }
 
-// How many places there are, and the words of the table.
+// The number of places, and the words of the table.
 pub fn places(tree: &[u8], pattern: &[u8], table: &mut [u32]) {
     let answer = query::places(tree, pattern, table);
     match answer {

@@ -1,4 +1,4 @@
-// The answers on the term of a licence.
+// The answers of the calls on licence dates.
 use crate::say;
 use licence::DaysLeftAnswer;
 use licence::OpenOnAnswer;
@@ -38,7 +38,7 @@ fn signed(days: i32) {
     }
 }
 
-// The day afterwards, `-` where it is refused.
+// The day afterwards, `-` if the call is refused.
 pub fn renew(day: &mut [u8]) {
     let number = licence::renew(day);
     say::number(number);

@@ -13,7 +13,7 @@ pub fn order<'a>(one: &'a [u8], other: &'a [u8]) {
     say::figure(which(first, one) as u64);
 }
 
-// Before, same or after; `-` where the comparison is refused.
+// Before, same or after; `-` if the comparison is refused.
 fn word(standing: u32) {
     match standing {
         1 => {

@@ -1,6 +1,6 @@
-// What is printed of an answer.
+// Prints the parts of an answer.
 
-// A question's number.
+// A refusal.
 pub fn number(number: u32) {
     io::write_all(1, b" => ");
     io::print_decimal(1, number as u64);
@@ -12,27 +12,27 @@ pub fn figure(figure: u64) {
     io::print_decimal(1, figure);
 }
 
-// A number and two figures.
+// A refusal and two figures.
 pub fn three(n: u32, a: u64, b: u64) {
     number(n);
     figure(a);
     figure(b);
 }
 
-// A number, a figure, and what a buffer holds.
+// A refusal, a figure, and the bytes of a buffer.
 pub fn buffer(n: u32, a: u64, bytes: &[u8]) {
     number(n);
     figure(a);
     held(bytes);
 }
 
-// A number, two figures, and what a buffer holds.
+// A refusal, two figures, and the bytes of a buffer.
 pub fn two_and_buffer(n: u32, a: u64, b: u64, bytes: &[u8]) {
     three(n, a, b);
     held(bytes);
 }
 
-// What a buffer holds, `-` where it has no bytes.
+// The bytes of a buffer, `-` if it has none.
 pub fn held(bytes: &[u8]) {
     io::write_all(1, b" ");
     if bytes.len() == 0 {
@@ -41,7 +41,7 @@ pub fn held(bytes: &[u8]) {
     hex(bytes);
 }
 
-// A number, a figure, and what a table holds.
+// A refusal, a figure, and the words of a table.
 pub fn table(n: u32, a: u64, table: &[u32]) {
     number(n);
     figure(a);
@@ -52,7 +52,7 @@ pub fn table(n: u32, a: u64, table: &[u32]) {
     words(table);
 }
 
-// Words in decimal, parted by commas.
+// Words in decimal, separated by commas.
 fn words(table: &[u32]) {
     let mut i: usize = 0;
     while i < table.len() {
@@ -61,7 +61,7 @@ fn words(table: &[u32]) {
     }
 }
 
-// A word, after a comma where it is not the first.
+// A word, after a comma if it is not the first.
 pub fn word(i: usize, value: u32) {
     if 0 < i {
         io::write_all(1, b",");

@@ -2,7 +2,7 @@
 use crate::say;
 use query::WithoutEdgesAnswer;
 
-// The size of the written tree, and what the buffer holds.
+// The size of the written tree, and the buffer.
 pub fn without_edges(tree: &[u8], buffer: &mut [u8]) {
     let answer = query::without_edges(tree, buffer);
     match answer {

@@ -26,12 +26,12 @@ module _ (line l name w : List ℕ) (b : Bool) (e : l ≡ line) (t : w ≡ token
 pub record Left (s name : List ℕ) (at : ℕ) : Type 0 where
   pub inside : at ≤ length s
   pub steps : ℕ
-  pub enough : length s ≤ at + steps
+  pub steps-suffice : length s ≤ at + steps
   pub same : givingFrom steps (drop at s) name ≡ givingLine s name
 
 pub left-all : (s name : List ℕ) → Left s name 0
 unfolding givingLine
-left-all s name = record { inside = omega arith; steps = length s; enough = omega arith; same = refl }
+left-all s name = record { inside = omega arith; steps = length s; steps-suffice = omega arith; same = refl }
 
 module _ (s name : List ℕ) (at : ℕ) (l : Left s name at) (more : at < length s) (g : Bool) (q : g ≡ givesName (front 10 (drop at s)) name) where
   open-giving : (n : ℕ) → l .steps ≡ suc n → cond g (front 10 (drop at s)) (givingFrom n (rest 10 (drop at s)) name) ≡ givingLine s name
@@ -39,7 +39,7 @@ module _ (s name : List ℕ) (at : ℕ) (l : Left s name at) (more : at < length
   open-giving n e = rw q (rw e at (l .same))
 
   pred : l .steps ≡ suc (l .steps - 1)
-  pred = omega (arith, l .enough)
+  pred = omega (arith, l .steps-suffice)
 
   pub left-found : (line : List ℕ) → g ≡ true → line ≡ front 10 (drop at s) → line ≡ givingLine s name
   left-found line z e = e ∙ rw z at (open-giving (l .steps - 1) pred)
@@ -49,7 +49,7 @@ module _ (s name : List ℕ) (at : ℕ) (l : Left s name at) (more : at < length
       record {
         inside = p .inside;
         steps = l .steps - 1;
-        enough = omega (arith, l .enough, p .later more, pred);
+        steps-suffice = omega (arith, l .steps-suffice, p .later more, pred);
         same = ap (λ (x : List ℕ). givingFrom (l .steps - 1) x name) (p .begins) ∙ rw z at (open-giving (l .steps - 1) pred);
       }
 

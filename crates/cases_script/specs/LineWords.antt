@@ -16,7 +16,7 @@ unfoldable pub wordFrom : List ℕ → List ℕ → ℕ → ℕ → ℕ
 wordFrom words word k zero = k
 wordFrom words word k (suc more) = cond (sameList word (tokenOf words k)) k (wordFrom words word (k + 1) more)
 
--- Which of the first n words of a line this one is, counted from 0; n where it is none of them.
+-- The index of a word among the first n words of a line; n if it is none of them.
 unfoldable pub wordNumber : List ℕ → ℕ → List ℕ → ℕ
 wordNumber words n word = wordFrom words word 0 n
 
@@ -28,7 +28,7 @@ giftWords =
     116 ∷ 114 ∷ 101 ∷ 101 ∷ 32 ∷
     112 ∷ 97 ∷ 100 ∷ []
 
--- The number of the word by which a line gives bytes a name; 4 where it gives none.
+-- The index of the word by which a line names bytes; 4 if it names none.
 unfoldable pub giftNumber : List ℕ → ℕ
 giftNumber line = wordNumber giftWords 4 (tokenOf line 0)
 

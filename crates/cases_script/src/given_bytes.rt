@@ -77,7 +77,7 @@ fn times_over(out: &mut [u8], k: usize, times: u32) -> Made
     Made::Bytes(total)
 }
 
-// Makes each byte from k on the one k places before it.
+// Sets each byte from k on to the one k places before it.
 fn again(out: &mut [u8], k: usize)
     requires { ⌜ 0 < k ⌝ }
     ensures { λ _. ⌜ now (out .exit) ≡ tabulate (length (now (out .entry))) (λ i. getD (now (out .entry)) (i % k) 0) ⌝ }
@@ -119,7 +119,7 @@ fn pad_to(out: &mut [u8], n: usize, size: u32) -> Made
     Made::Bytes(to)
 }
 
-// Makes all bytes this one.
+// Sets all bytes to this one.
 pub fn fill(out: &mut [u8], byte: u8)
     ensures { λ _. ⌜ now (out .exit) ≡ replicate (length (now (out .entry))) byte ⌝ }
 {

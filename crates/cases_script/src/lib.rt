@@ -1,4 +1,4 @@
-// Cases written as lines: the question of each line, and the bytes of the texts and trees that lines give a name.
+// Cases written as lines: the question of each line, and the bytes of the texts and trees that lines name.
 mod given_bytes;
 mod line_words;
 mod name_line;

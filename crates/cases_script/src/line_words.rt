@@ -30,7 +30,7 @@ pub enum Question {
     Prefix,
 }
 
-// How the words `text repeat tree pad` give bytes, in this order; nothing after the last.
+// The way of giving bytes for each of the words `text repeat tree pad`, in this order; none after the last.
 const GIFTS: [Gift; 5] = [
     Gift::Text,
     Gift::Repeat,
@@ -39,7 +39,7 @@ const GIFTS: [Gift; 5] = [
     Gift::Nothing,
 ];
 
-// What the words that ask ask, in the order of `question_of`; nothing after the last.
+// The question for each word, in the order of `question_of`; none after the last.
 const QUESTIONS: [Question; 14] = [
     Question::Build,
     Question::Check,
@@ -57,7 +57,7 @@ const QUESTIONS: [Question; 14] = [
     Question::Nothing,
 ];
 
-// Which of the first n words of a line of words this one is, counted from 0; n where it is none of them.
+// The index of a word among the first n words of a line of words; n if it is none of them.
 fn number(words: &[u8], n: u32, word: &[u8]) -> u32
     ensures { λ r. ⌜ r ≡ wordNumber (now (words .entry)) n (now (word .entry)) ⌝ }
     ensures { λ r. ⌜ r ≤ n ⌝ }
@@ -72,7 +72,7 @@ fn number(words: &[u8], n: u32, word: &[u8]) -> u32
     n
 }
 
-// The number of the word by which a line gives bytes a name; 4 where it gives none.
+// The index of the word by which a line names bytes; 4 if it names none.
 pub fn gift_number(line: &[u8]) -> u32
     ensures { λ r. ⌜ r ≡ giftNumber (now (line .entry)) ⌝ }
     ensures { λ r. ⌜ r ≤ 4 ⌝ }

@@ -1,4 +1,4 @@
-// The line that gives a name its bytes.
+// The line that names some bytes.
 use crate::line_words::gift_number;
 ghost use mathlib.Core.Path.{_≡_};
 ghost use Prim.Native.Nat.{_≤_};
@@ -6,14 +6,14 @@ ghost use lib.ListN.{length, drop};
 ghost use Rattle.cases_tokens.specs.Parts.{front};
 ghost use Rattle.cases_script.specs.NameLine.{givesBytes, givesName, givingLine};
 
-// Whether a line gives bytes a name.
+// Whether a line names bytes.
 pub fn gives_bytes(line: &[u8]) -> bool
     ensures { λ r. ⌜ r ≡ givesBytes (now (line .entry)) ⌝ }
 {
     gift_number(line) < 4
 }
 
-// Whether the line that starts at `at` gives bytes this name.
+// Whether the line that starts at `at` names bytes by this name.
 fn gives(s: &[u8], at: usize, name: &[u8]) -> bool
     requires { ⌜ at ≤ length (now s) ⌝ }
     ensures { λ r. ⌜ r ≡ givesName (front 10 (drop at (now (s .entry)))) (now (name .entry)) ⌝ }
@@ -25,7 +25,7 @@ fn gives(s: &[u8], at: usize, name: &[u8]) -> bool
     gives_bytes(line)
 }
 
-// The first line that gives the name; empty where none does.
+// The first line with this name; empty if there is none.
 pub fn giving<'a>(s: &'a [u8], name: &[u8]) -> &'a [u8]
     ensures { λ r. ⌜ now r ≡ givingLine (now (s .entry)) (now (name .entry)) ⌝ }
 {

@@ -37,8 +37,8 @@ fn say_earlier(earlier: bool) {
     }
 }
 
-// By a common choice, by a modulus with which all windows collide, and by numbers that are not
-// usable as they are.
+// With a common base and modulus, with a modulus for which all windows collide, and with numbers that are not
+// usable directly.
 fn ask_by_all(text: &[u8], at: u32, len: u32) {
     ask(text, at, len, 257, 2147483647);
     ask(text, at, len, 257, 1);

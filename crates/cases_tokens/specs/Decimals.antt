@@ -8,7 +8,7 @@ use Rattle.cases_tokens.specs.Parts.{tokenOf}
 use Rattle.cases_tokens.specs.declared.decimal.Number.{Number}
 use Rattle.cases_tokens.specs.declared.decimal.Number.the-variants.{Is, Nothing}
 
--- The number with one digit more: none where it is no digit, 48 to 57, or the number passes 2^32 - 1.
+-- The number with one digit more: none if the byte is no digit, 48 to 57, or the number would be above 2^32 - 1.
 unfoldable pub moreOf : ℕ → ℕ → Number
 moreOf value digit =
     cond (ltb digit 48) Nothing

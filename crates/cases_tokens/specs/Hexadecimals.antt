@@ -13,19 +13,19 @@ use Rattle.cases_tokens.specs.declared.hexadecimal.Made.the-variants.{By
 unfoldable pub digitOf : ℕ → ℕ
 digitOf b = cond (ltb b 48) 16 (cond (leb b 57) (b - 48) (cond (ltb b 97) 16 (cond (leb b 102) (b - 87) 16)))
 
--- The byte that two digits say, 256 or more where one is no digit.
+-- The byte of two hexadecimal digits; 256 or more if one is no digit.
 unfoldable pub byteOf : ℕ → ℕ → ℕ
 byteOf high low = cond (ltb 15 (digitOf low)) 256 (16 * digitOf high + digitOf low)
 
--- The byte that digits 2 i and 2 i + 1 of a word say.
+-- The byte of digits 2 i and 2 i + 1 of a word.
 unfoldable pub tokenByteAt : List ℕ → ℕ → ℕ
 tokenByteAt word i = byteOf (getD word (2 * i) 0) (getD word (2 * i + 1) 0)
 
--- Each two digits say a byte.
+-- Whether each pair of characters is a byte.
 unfoldable pub allHex : List ℕ → Bool
 allHex word = allBelow (length word / 2) (λ i. leb (tokenByteAt word i) 255)
 
--- The bytes that they say.
+-- The bytes that the digits represent.
 unfoldable pub hexBytes : List ℕ → List ℕ
 hexBytes word = tabulate (length word / 2) (tokenByteAt word)
 

@@ -1,4 +1,4 @@
-// Bytes in hexadecimal, two digits to a byte; `-` where there are none.
+// Bytes in hexadecimal, two digits to a byte; `-` for none.
 ghost use mathlib.Core.Path.{_≡_};
 ghost use mathlib.Core.Bool.{true};
 ghost use Prim.Native.Nat.{_+_, _*_, _/_, _≤_, _<_};
@@ -14,7 +14,7 @@ pub enum Fault {
     Room,
 }
 
-// How many bytes were put at the start of the buffer, or why none.
+// The number of bytes written to the start of the buffer, or why there are none.
 pub enum Made {
     Bytes(usize),
     Wrong(Fault),
@@ -39,7 +39,7 @@ fn digit(b: u8) -> u32
     16
 }
 
-// The byte that digits 2 i and 2 i + 1 say, 256 or more where one is no digit.
+// The byte of digits 2 i and 2 i + 1; 256 or more if one is no digit.
 fn byte(word: &[u8], i: usize) -> u32
     requires { ⌜ 2 * i + 1 < length (now word) ⌝ }
     ensures { λ r. ⌜ r ≡ tokenByteAt (now (word .entry)) i ⌝ }
@@ -52,7 +52,7 @@ fn byte(word: &[u8], i: usize) -> u32
     16 * high + low
 }
 
-// Whether each two digits say a byte.
+// Whether each pair of characters is a byte in hexadecimal.
 fn all_bytes(word: &[u8]) -> bool
     ensures { λ r. ⌜ r ≡ allHex (now (word .entry)) ⌝ }
 {
@@ -67,7 +67,7 @@ fn all_bytes(word: &[u8]) -> bool
     true
 }
 
-// Puts the bytes that the digits say.
+// Writes the bytes that the digits represent.
 fn put(word: &[u8], out: &mut [u8])
     requires { ⌜ (allHex (now word) ≡ true) × (length (now word) / 2 ≤ length (now out)) ⌝ }
     ensures { λ _. ⌜ now (out .exit) ≡ paste (now (out .entry)) 0 (hexBytes (now (word .entry))) (length (now (word .entry)) / 2) ⌝ }

@@ -26,7 +26,7 @@ pub fn past(s: &[u8], at: usize, stop: u8) -> usize
     end
 }
 
-// Token k of a line, from 0; empty where there are fewer.
+// Token k of a line, from 0; empty if there are fewer.
 pub fn token(line: &[u8], k: u32) -> &[u8]
     ensures { λ r. ⌜ now r ≡ tokenOf (now (line .entry)) k ⌝ }
 {
@@ -34,7 +34,7 @@ pub fn token(line: &[u8], k: u32) -> &[u8]
     until(line, at, 32)
 }
 
-// Where token k starts; the line's end where there are fewer.
+// Where token k starts; the line's end if there are fewer.
 fn start(line: &[u8], k: u32) -> usize
     ensures { λ r. ⌜ Start (now (line .entry)) k r ⌝ }
 {

@@ -75,7 +75,7 @@ module _ (w : ℕ) (T out U after W : List ℕ) (a : Rearranges w T out U after 
       → (r ≡ 0) × (left ≡ T ++ drop (length T) back)
   back-by f e back left r b room = again back left r (rw (ap f turned ∙ e) at b) room
 
--- What the call wrote, lent to another.
+-- The output of one call, given to the other.
 pub to-columns-input : (κs : Lfts 2) (text : Lent) (w : ℕ) (out after : Lent) → ToColumns κs text w out after 0
     → (W : List ℕ) → W ≡ take (length (now text)) (now after) → W ≡ columns w (now text)
 to-columns-input κs text w out after a W is =

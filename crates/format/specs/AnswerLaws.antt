@@ -24,7 +24,7 @@ pub unless-number : (n : ℕ) (a : Answer) → a .number ≡ 0 → unless n a .n
 unless-number zero a z = z
 unless-number (suc n) a z = refl
 
--- The same of numbers alone.
+-- The same for numbers without figures.
 pub then-is : (n rest : ℕ) → cond (eqb n 0) rest n ≡ unless n (refused rest) .number
 then-is zero rest = refl
 then-is (suc n) rest = rw (ne-eqb (suc n) 0 (λ e. omega arith))

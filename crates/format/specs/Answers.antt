@@ -1,5 +1,5 @@
 -- What build, byte, run, span, count, find and row return, for any bytes as a tree.
--- docs/FORMAT.md: "What can be asked".
+-- docs/FORMAT.md: "Queries".
 use mathlib.Core.Path.{_≡_}
 use Prim.Native.Nat.{ℕ, zero, suc, _≤_, _+_, _-_, min, _<_}
 use mathlib.Core.List.{List, [], _∷_, _++_}
@@ -14,7 +14,7 @@ use Rattle.text.specs.Text.{tabulate, stretch, countIn, placeOf, rowOf}
 use Rattle.format.specs.Layout as at
 use mathlib.Core.Logic.{_⊎_}
 
--- The answer of a call as a refusal and two figures (docs/FORMAT.md, "The questions, in order").
+-- The answer of a call as a refusal and two figures (docs/FORMAT.md, "Questions and refusals").
 
 -- A refusal, 0 for none, and two figures.
 pub record Answer : Type 0 where
@@ -45,7 +45,7 @@ abbrev pub NeverZero : Reply → Type 0
 NeverZero (figures value entered) = Unit {0}
 NeverZero (refusal number) = 1 ≤ number
 
--- r, an enum's value whose cases `reply` gives, is an answer that `allowed` lets through
+-- The value r of an enum, read by `reply`, is an allowed answer, and no refusal in it has the number 0.
 pub record Allowed {A : Type 0} (reply : A → Reply) (allowed : Answer → Type 0) (r : A) : Type 0 where
   pub answers : allowed (replied (reply r))
   pub numbered : NeverZero (reply r)
@@ -59,7 +59,7 @@ abbrev pub answerWith : ℕ → ℕ → ℕ → Answer
 answerWith number value entered = record { number = number; value = value; entered = entered }
 
 -- What build returns, and what the caller's buffer `out` contains afterwards.
--- docs/FORMAT.md: "Two builders", "What is left in lent buffers".
+-- docs/FORMAT.md: "Two builders", "Buffers after a call".
 
 module _ (S : Settings) (T out : List ℕ) where
   -- The refusal: questions 1 to 4 in order; 0 if all pass.
@@ -77,7 +77,7 @@ module _ (S : Settings) (T out : List ℕ) where
       (cond (eqb buildRefusal 4) (replicate (length out) 0) out)
 
 -- What byte, run and span return for any bytes given as a tree, and what the caller's buffer contains afterwards.
--- docs/FORMAT.md: "Byte", "Run", "Span", "What is left in lent buffers".
+-- docs/FORMAT.md: "Byte", "Run", "Span", "Buffers after a call".
 
 module _ (t : List ℕ) where
   -- Byte (access, in the literature): the leaf byte at the end of the path and the number of blocks on it; refused with 14 if there is no path.
@@ -104,7 +104,7 @@ module _ (t : List ℕ) where
   unfoldable pub runAnswer : ℕ → ℕ × ℕ
   runAnswer p = cond (eqb (byteAnswer p .number) 0) (runOf p (pathOf t p)) (0, 0)
 
-  -- The refusal of a span, where `reached` says whether its bytes can be read: questions 5 to 7, then 10, 13 and 14.
+  -- The refusal of a span: questions 5 to 7, then 10, 13 and 14. `reached` is whether its bytes can be read.
   unfoldable pub spanQuestions : ℕ → ℕ → ℕ → Bool → ℕ
   spanQuestions p len room reached =
       orNext (headerResult t) (asks ((10, leb (p + len) (at.textLength t)) ∷ (13, leb len room) ∷ (14, reached) ∷ []))
@@ -244,8 +244,8 @@ module _ (t : List ℕ) where
       unless (headerResult t) (unless asked (cond (eqb i 0) (refused 0) walked))
 
 -- What find (select) may return for any bytes given as a tree: one answer if a question refuses or the tree is valid, else any of those that the format
--- leaves free.
--- docs/FORMAT.md: "Find", "What is left free".
+-- leaves unspecified.
+-- docs/FORMAT.md: "Find", "Unspecified results".
 
 module _ (t : List ℕ) where
   -- The total of counted byte number c: how often it occurs in the text, by the last block of level 0.
@@ -278,7 +278,7 @@ module _ (t : List ℕ) where
 
 -- What row may return for any bytes given as a tree, and what the caller's buffer contains afterwards: one answer if a question refuses or the tree is valid;
 -- else the copy of some substring of the text, or 14.
--- docs/FORMAT.md: "Row", "What is left in lent buffers", "What is left free".
+-- docs/FORMAT.md: "Row", "Buffers after a call", "Unspecified results".
 
 -- The refusal for the last byte of the text, or 12 if that byte is 10.
 abbrev pub lastRowRefusal : Answer → ℕ

@@ -1,4 +1,4 @@
--- A tree is accepted exactly where it passes questions 5 to 9.
+-- A tree is accepted exactly if it passes questions 5 to 9.
 use mathlib.Core.List.{List, [], _∷_}
 use mathlib.Core.Bool.{Bool, true, false, _&&_}
 use mathlib.Core.Path.{_≡_, refl}
@@ -25,14 +25,14 @@ module _ (t : List ℕ) where
   abbrev nine : Bool
   nine = countsTrue (textOf t) t && edgesTrue (textOf t) t
 
-  -- The verdict of a tree that passes questions 5 to 7 is that of 8 and 9.
+  -- If questions 5 to 7 pass, the result of the check is that of questions 8 and 9.
   pub checked-header : headerResult t ≡ 0 → checkResult t ≡ ask 8 (linksOk t) (ask 9 (countsTrue (textOf t) t && edgesTrue (textOf t) t) 0)
   unfolding headerResult checkResult
   checked-header h =
       let p = asks-pass ((5, holdsHeader t) ∷ (6, layoutOk t) ∷ (7, headerOk t) ∷ []) refl h in
       rw (p .0, p .1 .0, p .1 .1 .0)
 
-  -- The verdict of a tree that fails one of them is its number.
+  -- If one of questions 5 to 7 fails, the result of the check is its number.
   pub checked-refused : (q : ℕ) → headerResult t ≡ suc q → checkResult t ≡ suc q
   unfolding headerResult checkResult
   checked-refused q h = refused-first (holdsHeader t) (layoutOk t) (headerOk t) q _ h

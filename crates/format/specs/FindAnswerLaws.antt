@@ -11,7 +11,7 @@ use Rattle.format.specs.AnswerLaws.{next-passes, asks-pass}
 use Rattle.format.specs.Answers.{isCounted, numberOfByte, total, findRefusal, FindBy, Answer}
 
 module _ (t : List ℕ) where
-  -- find's own: settled on accepted trees (with a guide, where the guide is accepted too)
+  -- What find may return: determined on trees that the check accepts.
   abbrev pub FindAnswers : (byte j : ℕ) → Answer → Type 0
   FindAnswers = FindBy t (checkResult t)
 

@@ -1,5 +1,5 @@
 -- Which text fits a tree: its leaf bytes and its pointing blocks are in the text where the tree has them.
--- docs/FORMAT.md: "Which text a tree stands for".
+-- docs/FORMAT.md: "The text that a tree represents".
 use mathlib.Core.List.{List}
 use mathlib.Core.Bool.{Bool, not, _&&_, _||_}
 use Prim.Native.Nat.{ℕ, _+_}

@@ -14,7 +14,7 @@ use Rattle.format.specs.Answers.{byteAnswer, isCounted, numberOfByte, to
 use Rattle.format.specs.FindAnswerLaws.{select-passes}
 
 module _ (t : List ℕ) where
-  -- row's own: settled on accepted trees (with a guide, where the guide is accepted too)
+  -- What row may return: determined on trees that the check accepts.
   abbrev pub RowAnswers : (q : ℕ) → List ℕ → (number size : ℕ) → List ℕ → Type 0
   RowAnswers = RowBy t (checkResult t)
 

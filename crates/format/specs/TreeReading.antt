@@ -1,5 +1,5 @@
 -- A tree read by its bytes alone: the path of a place, the walk of a short span, the tree's text, and the check.
--- docs/FORMAT.md: "Which text a tree stands for", "The path of a place", "The walk of a short span", "The questions".
+-- docs/FORMAT.md: "The text that a tree represents", "The path of a place", "The walk of a short span", "The questions".
 use mathlib.Core.List.{List, [], _∷_, _++_}
 use mathlib.Core.Option.{Option, none, some}
 use mathlib.Core.Bool.{Bool, true, false, cond, _&&_, _||_, not}
@@ -149,7 +149,7 @@ module _ (t : List ℕ) where
 
 -- Questions 8 and 9: whether the blocks of a tree are linked correctly, whether a text fits a tree (the tree represents the text), and whether the counts and
 -- edges are right for the text.
--- docs/FORMAT.md: "Which text a tree stands for", "Question 8", "Question 9".
+-- docs/FORMAT.md: "The text that a tree represents", "Question 8", "Question 9".
 
 module _ (t : List ℕ) where
   -- The number of the last level.
@@ -238,7 +238,7 @@ module _ (T t : List ℕ) where
       not (at.hasEdges t) || allBelow (at.settings t .levels) (λ l. allBelow (at.levelCount t l) (blockEdgesTrue l))
 
 -- The result of the check: 0 for a valid tree, else the number of the first question that fails.
--- docs/FORMAT.md: "The questions, in order".
+-- docs/FORMAT.md: "Questions and refusals".
 
 -- The number of a question if it fails, else the result of the next ones.
 abbrev pub ask : ℕ → Bool → ℕ → ℕ
@@ -250,11 +250,11 @@ abbrev pub asks : List (ℕ × Bool) → ℕ
 asks [] = 0
 asks (q ∷ qs) = ask (q .0) (q .1) (asks qs)
 
--- The number of questions that refuse, else what the next ones say.
+-- The refusal of some questions, or, if they pass, that of the next ones.
 abbrev pub orNext : ℕ → ℕ → ℕ
 orNext number next = cond (eqb number 0) next number
 
--- Questions 5 to 7, which every question put to a tree asks first.
+-- Questions 5 to 7, which every call on a tree tests first.
 unfoldable pub headerResult : List ℕ → ℕ
 headerResult t = asks ((5, at.holdsHeader t) ∷ (6, at.layoutOk t) ∷ (7, at.headerOk t) ∷ [])
 

@@ -45,7 +45,7 @@ abcd = 65 ∷ 66 ∷ 67 ∷ 68 ∷ 65 ∷ 66 ∷ 67 ∷ 68 ∷ 65 ∷ []
 answered : ℕ → ℕ → ℕ → Answer
 answered q v e = record { number = q; value = v; entered = e }
 
--- A span: its number, its length, the blocks entered, and what it leaves of three bytes 1.
+-- A span: its refusal, its length, the blocks entered, and a buffer of three bytes 1 afterwards.
 spanned : List ℕ → ℕ → ℕ → Answer × List ℕ
 spanned t p len = (spanAnswer t p len 3, spanBuffer t p len (1 ∷ 1 ∷ 1 ∷ []))
 
@@ -87,7 +87,7 @@ older-twelve =
     48 0 ++ wordsBytes (212 ∷ 8 ∷ words plain twelve 0 ++ words plain twelve 1) ++ replicate 8 65
 
 -- The table: the worked book's level 0 and where the rest of its tree lies, M1 to M10, the path of place 18, the text read back
--- and the verdict; edges and short spans; and the book's tree in layout 1.
+-- and the result of the check; edges and short spans; and the book's tree in layout 1.
 pub record Marked : Type 0 where
   level0 : tabulate 5 (recordOf two book 0 (startsAt two book 0)) ≡
       (0 ∷ 0 ∷ 0 ∷ 0 ∷ 0 ∷ 1 ∷ 0 ∷ [])
@@ -206,7 +206,7 @@ laid-out first second leaf leaves rest =
 no-bytes-tree : List ℕ
 no-bytes-tree = treeOf two []
 
--- The tree of a text of no bytes: the header alone.
+-- The tree of the empty text: only the header.
 pub record Empty : Type 0 where
   bytes : no-bytes-tree ≡
       wordsBytes (2 ∷ 0 ∷ 2 ∷ 2 ∷ 2 ∷ 1 ∷ 65 ∷ 0 ∷ 100 ∷ 0 ∷ 100 ∷ []) ++ replicate 48 0 ++ wordsBytes (100 ∷ 0 ∷ [])

@@ -1,4 +1,4 @@
--- A stretch scanned byte by byte, or row by row.
+-- A part of the text scanned byte by byte, or row by row.
 use mathlib.Core.List.{List, _∷_}
 use mathlib.Core.Bool.{Bool, true, false}
 use mathlib.Core.Path.{_≡_, refl, sym, ap, _∙_}

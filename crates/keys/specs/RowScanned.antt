@@ -1,4 +1,4 @@
--- A stretch of a text, scanned for a row that matches.
+-- A part of a text, scanned for a row that matches.
 use mathlib.Core.List.{List}
 use mathlib.Core.Bool.{Bool, false}
 use mathlib.Core.Path.{_≡_}

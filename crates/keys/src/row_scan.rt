@@ -59,7 +59,7 @@ fn cuts_fit(ranges: &[u8], part: &[u8], at: usize) -> bool
     true
 }
 
-// Whether the row up to a newline may match: its last bytes are looked at, without reading its code.
+// Whether the row up to a newline may match, by its last bytes alone: its code is not read.
 fn may_match(ranges: &[u8], part: &[u8], from: usize, end: usize) -> bool
     requires { ⌜ (from ≤ end) × (end ≤ length (now part)) × (length (now ranges) ≤ 2 * maxCuts) ⌝ }
     ensures { λ r. ⌜ MayMatch (now (ranges .entry)) (now (part .entry)) from end r ⌝ }
@@ -72,7 +72,7 @@ fn may_match(ranges: &[u8], part: &[u8], from: usize, end: usize) -> bool
     cuts_fit(ranges, part, last - cuts)
 }
 
-// The place after the row that begins at a place, if a newline of the stretch ends it and it cannot match; else the same place.
+// The place after the row that begins at a place, if a newline of the part ends it and it cannot match; else the same place.
 fn past_row(ranges: &[u8], part: &[u8], from: usize) -> usize
     requires { ⌜ (from ≤ length (now part)) × (length (now ranges) ≤ 2 * maxCuts) ⌝ }
     ensures { λ r. ⌜ RowPassed (now (ranges .entry)) (now (part .entry)) from r ⌝ }
@@ -88,7 +88,7 @@ fn past_row(ranges: &[u8], part: &[u8], from: usize) -> usize
     from + k + 1
 }
 
-// As Scanned, with the place from which the scan goes on.
+// The result of a step, with the place from which the scan goes on.
 pub enum Turned {
     Found(u32),
     On(KeyState, u32, usize),
@@ -112,7 +112,7 @@ fn advance(ranges: &[u8], part: &[u8], form: KeyState, row: u32, i: usize) -> Tu
     }
 }
 
-// A stretch of the text, from a row so far read, with its number.
+// Scans a part of the text. `form` is the state of the row that the part continues, `row` its number.
 pub fn scan(ranges: &[u8], part: &[u8], form: KeyState, row: u32) -> RowScanAnswer
     requires { ⌜ (length (now ranges) ≤ 2 * maxCuts) × (row + length (now part) < 4294967296) ⌝ }
     ensures { λ r. ⌜ (asScan r ≡ scanBytes (keyAutomaton (now (ranges .entry))) (now (part .entry)) form row)

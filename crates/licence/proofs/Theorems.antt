@@ -1,6 +1,6 @@
 -- Request 112, as theorems over the contracts of the calls, for any bytes. The laws of the calendar: the day after a day has the next number (`next-number`)
 -- and is a day (`next-date`), the order of dates is the order of their numbers (`in-order`), and no two days have one number (`one-day`).
--- docs/FORMAT.md: "The term of a licence".
+-- docs/FORMAT.md: "Licence dates".
 use mathlib.Core.List.{List, [], _∷_}
 use mathlib.Core.Bool.{Bool, true, false, cond, not, _&&_}
 use mathlib.Core.Path.{_≡_, refl, ap, _∙_}

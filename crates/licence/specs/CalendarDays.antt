@@ -1,5 +1,5 @@
 -- Days of the calendar one after the other, and the bounds of a day's parts.
--- docs/FORMAT.md: "The term of a licence".
+-- docs/FORMAT.md: "Licence dates".
 use mathlib.Core.Bool.{Bool, cond, _&&_, _||_}
 use Prim.Native.Nat.{_+_, _-_, _≤_}
 use lib.Dec.{ltb, eqb}

@@ -1,4 +1,4 @@
--- The term of a licence: the calendar, days as eight digits, the calls on them; and their laws.
+-- Licence dates: the calendar, days as eight digits, the calls on them; and their laws.
 pub mod CalendarDays
 pub mod MonthLaws
 pub mod CalendarLaws

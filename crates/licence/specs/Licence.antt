@@ -1,5 +1,5 @@
--- The term of a licence: the calendar, written days, and what the calls return.
--- docs/FORMAT.md: "The term of a licence".
+-- Licence dates: the calendar, written days, and what the calls return.
+-- docs/FORMAT.md: "Licence dates".
 use mathlib.Core.List.{List, [], _∷_}
 use mathlib.Core.Bool.{Bool, cond, not, _&&_, _||_, true, false}
 use Prim.Native.Nat.{ℕ, _+_, _-_, _%_, _*_, _/_, _≤_}
@@ -15,7 +15,7 @@ use Rattle.licence.specs.declared.DaysLeftAnswer.{DaysLeftAnswer}
 use Rattle.licence.specs.declared.DaysLeftAnswer.the-variants as left
 
 -- The Gregorian calendar: a date has a year, a month and a day of the month; days are numbered from 1 January 2000, which is 0.
--- docs/FORMAT.md: "The term of a licence".
+-- docs/FORMAT.md: "Licence dates".
 
 -- A leap year: every fourth year, but of the full hundreds only every fourth.
 unfoldable pub leap : ℕ → Bool
@@ -57,7 +57,7 @@ unfoldable pub renewed : Date → Date
 renewed d = record { year = d .year + 1; month = d .month; day = cond (eqb (d .month) 2 && eqb (d .day) 29) 28 (d .day) }
 
 -- A day written as eight digits, year, month and day (ISO 8601, basic form): "20240229".
--- docs/FORMAT.md: "The term of a licence".
+-- docs/FORMAT.md: "Licence dates".
 
 -- The number that the two digits from place i write.
 unfoldable pub pairAt : List ℕ → ℕ → ℕ
@@ -82,7 +82,7 @@ written d =
     ∷ ones (d .month / 10) ∷ ones (d .month) ∷ ones (d .day / 10) ∷ ones (d .day) ∷ []
 
 -- The calls on the first and the last day of a licence: whether a book is open on a day, how many days are left, and the same day a year later.
--- docs/FORMAT.md: "The term of a licence".
+-- docs/FORMAT.md: "Licence dates".
 
 -- The number of a written day.
 abbrev pub numberIn : List ℕ → ℕ
@@ -121,9 +121,9 @@ module _ (day : List ℕ) where
   unfoldable pub renewBuffer : List ℕ
   renewBuffer = cond (eqb renewRefusal 0) (written (renewed (dateIn day))) day
 
--- The answers of the calls on a licence by their refusals and values (docs/FORMAT.md, "The term of a licence").
+-- The answers of the calls on a licence by their refusals and values (docs/FORMAT.md, "Licence dates").
 
--- An answer's number, and whether it says open.
+-- An answer's refusal, and whether the book is open.
 abbrev pub openOnReplyRefusal : OpenOnAnswer → ℕ
 openOnReplyRefusal opened.Open = 0
 openOnReplyRefusal opened.Closed = 0

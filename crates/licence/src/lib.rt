@@ -1,4 +1,4 @@
-// The term of a licence: a first and a last day, each written as eight digits. Open on a day, days left, renewal.
+// Licence dates: a first and a last day, each written as eight digits. Open on a day, days left, renewal.
 mod calendar;
 mod days;
 

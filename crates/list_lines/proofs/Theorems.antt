@@ -1,7 +1,7 @@
 -- Demand 1 for list and for print: each terminates, accesses only the memory that it was given (`TotallyCorrect`), and has no precondition. List is refused
 -- with 15, 5
 -- to 9 or 13, and the buffer is then unchanged.
--- docs/FORMAT.md: "What is promised", "The list program".
+-- docs/FORMAT.md: "What is proved", "The list program".
 use mathlib.Core.List.{List, [], _∷_, _++_}
 use mathlib.Core.Bool.{Bool, true, false, cond}
 use mathlib.Core.Path.{_≡_, refl, _∙_}

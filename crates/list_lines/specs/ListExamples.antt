@@ -26,7 +26,7 @@ pub record Printed : Type 0 where
   book-lines : printed (treeOf list-two list-book) ≡ 48 ∷ 32 ∷ 53 ∷ 32 ∷ 52 ∷ 32 ∷ 49 ∷ 10 ∷ 49 ∷ 32 ∷ 56 ∷ 32 ∷ 56 ∷ 32 ∷ 48 ∷ 10 ∷ []
   short-tree : printed (take 531 (treeOf list-two list-book)) ≡ 114 ∷ 101 ∷ 102 ∷ 117 ∷ 115 ∷ 101 ∷ 100 ∷ 32 ∷ 55 ∷ 10 ∷ []
   short-header : printed (take 99 (treeOf list-two list-book)) ≡ 114 ∷ 101 ∷ 102 ∷ 117 ∷ 115 ∷ 101 ∷ 100 ∷ 32 ∷ 53 ∷ 10 ∷ []
-  -- A text of no bytes: 0 0 0 0, and 1 0 0 0.
+  -- The empty text: 0 0 0 0, and 1 0 0 0.
   no-text : printed (treeOf list-two []) ≡ 48 ∷ 32 ∷ 48 ∷ 32 ∷ 48 ∷ 32 ∷ 48 ∷ 10 ∷ 49 ∷ 32 ∷ 48 ∷ 32 ∷ 48 ∷ 32 ∷ 48 ∷ 10 ∷ []
   three-digits : decimal 532 ≡ 53 ∷ 51 ∷ 50 ∷ []
 

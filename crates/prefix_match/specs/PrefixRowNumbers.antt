@@ -1,5 +1,5 @@
 -- The numbers of the rows that start with a prefix, and the next one after a mark.
--- docs/FORMAT.md: "Rows by their first bytes".
+-- docs/FORMAT.md: "Rows by prefix".
 use mathlib.Core.List.{List}
 use Prim.Native.Nat.{ℕ}
 use Rattle.row_filter.specs.SelectedRows.{nextSelected, startsWith}

@@ -1,6 +1,6 @@
 -- The demands on byte and run, as theorems over what the calls promise, on every tree that passes questions 5 to 8, and on span, on every tree that
 -- the check accepts.
--- docs/FORMAT.md: "What is promised", "Byte", "Run", "Span".
+-- docs/FORMAT.md: "What is proved", "Byte", "Run", "Span".
 use mathlib.Core.List.{List, _++_}
 use mathlib.Core.Option.{some}
 use mathlib.Core.Bool.{true}

@@ -1,4 +1,4 @@
--- The answers of byte, span and run by their refusals and figures (docs/FORMAT.md, "The questions, in order").
+-- The answers of byte, span and run by their refusals and figures (docs/FORMAT.md, "Questions and refusals").
 use mathlib.Core.List.{List}
 use mathlib.Core.Path.{_≡_}
 use Prim.Native.Nat.{ℕ, _+_, _≤_}

@@ -25,7 +25,7 @@ use Rattle.layout.specs.HeaderFields.{HeaderOf, header-refused, header-small}
 use Rattle.query_access.specs.declared.ByteAnswer.{ByteAnswer}
 use Rattle.query_access.specs.declared.ByteAnswer.the-variants as answer
 use Rattle.query_access.specs.declared.SpanAnswer.{SpanAnswer}
-use Rattle.query_access.specs.declared.SpanAnswer.the-variants as copied
+use Rattle.query_access.specs.declared.SpanAnswer.the-variants as span
 use Rattle.query_access.specs.ReadAnswers.{byteReply}
 use Rattle.query_access.proofs.CopyLaws as bytes
 use Rattle.query_columns.specs.ColumnRows.{cell, cellsHold, rowByColumnsRefusal, rowByColumnsBuffer, rowByColumnsAnswer, IsRowByColumnsAnswer}
@@ -37,11 +37,11 @@ module _ (t : List ℕ) (w a : ℕ) (d : List ℕ) where
   Read r e = IsRowByColumnsAnswer t w a (length d) r × (e ≡ rowByColumnsBuffer t w a d)
 
   -- Refused before any byte is read: the buffer stays.
-  stays : (n : ℕ) → rowByColumnsRefusal t w a (length d) ≡ suc n → (suc n ≡ 14 → ⊥) → Read (copied.Refused (suc n)) d
+  stays : (n : ℕ) → rowByColumnsRefusal t w a (length d) ≡ suc n → (suc n ≡ 14 → ⊥) → Read (span.Refused (suc n)) d
   unfolding rowByColumnsAnswer rowByColumnsBuffer
   stays n e other = (record { answers = rw e; numbered = omega arith }, rw (e, ne-eqb (suc n) 0 (λ z. omega arith), ne-eqb (suc n) 14 other))
 
-  pub read-unread : (x : HeaderAnswer) → x ≡ headerAnswer t → (q : ℕ) → x ≡ read.Refused q → Read (copied.Refused q) d
+  pub read-unread : (x : HeaderAnswer) → x ≡ headerAnswer t → (q : ℕ) → x ≡ read.Refused q → Read (span.Refused q) d
   unfolding rowByColumnsRefusal
   read-unread x is q e =
       let z = header-refused t x is q e in
@@ -49,7 +49,7 @@ module _ (t : List ℕ) (w a : ℕ) (d : List ℕ) where
       rw (z .2) (stays (z .0) n (λ y. omega (arith, header-small t, z .1)))
 
   module _ (h : Header) (k : HeaderOf t h) where
-    pub read-width : widthOk w (h .«text_length») ≡ false → Read (copied.Refused 20) d
+    pub read-width : widthOk w (h .«text_length») ≡ false → Read (span.Refused 20) d
     unfolding rowByColumnsRefusal
     read-width other = let z : widthOk w (at.textLength t) ≡ false = rw (k .length-is) at other in stays 19 (rw (k .passes, z)) (λ y. omega arith)
 
@@ -57,11 +57,11 @@ module _ (t : List ℕ) (w a : ℕ) (d : List ℕ) where
       ok-t : widthOk w (at.textLength t) ≡ true
       ok-t = rw (k .length-is) at ok
 
-      pub read-past : h .«text_length» / w ≤ a → Read (copied.Refused 10) d
+      pub read-past : h .«text_length» / w ≤ a → Read (span.Refused 10) d
       unfolding rowByColumnsRefusal
       read-past e = stays 9 (rw (k .passes, ok-t, le-ltb a (at.textLength t / w) (rw (k .length-is) at e))) (λ z. omega arith)
 
-      pub read-short : a < h .«text_length» / w → length d < w → Read (copied.Refused 13) d
+      pub read-short : a < h .«text_length» / w → length d < w → Read (span.Refused 13) d
       unfolding rowByColumnsRefusal
       read-short low e =
           stays 12 (rw (k .passes, ok-t, lt-ltb a (at.textLength t / w) (rw (k .length-is) at low), lt-leb w (length d) e)) (λ z. omega arith)
@@ -114,7 +114,7 @@ module _ (t : List ℕ) (h : Header) (w rows a : ℕ) (d : List ℕ) (k : RowThe
 
       -- One is refused, and the row's part is cleared.
       pub read-broken : (q : ℕ) → x ≡ answer.Refused q → (n : ℕ) → n ≡ replied (byteReply x) .number → (z : List ℕ) → z ≡ replicate w 0 ++ drop w e
-          → Read t w a d (copied.Refused n) z
+          → Read t w a d (span.Refused n) z
       unfolding rowByColumnsAnswer rowByColumnsBuffer cellsHold
       read-broken q is n n-is z z-is =
           let broken = bytes.byte-refused t h (k .header) (b * rows + a) (cell-below b more) x x-is q is in
@@ -125,7 +125,7 @@ module _ (t : List ℕ) (h : Header) (w rows a : ℕ) (d : List ℕ) (k : RowThe
           (record { answers = rw (number, n-14); numbered = omega arith }, z-is ∙ rw (number, c .past))
 
     -- All are read.
-    pub read-all : b ≡ w → Read t w a d (copied.Bytes w 0) e
+    pub read-all : b ≡ w → Read t w a d (span.Bytes w 0) e
     unfolding rowByColumnsAnswer rowByColumnsBuffer cellsHold
     read-all all =
         let test : ℕ → Bool = λ i. eqb (byteAnswer t (cell t w a i) .number) 0 in

@@ -1,5 +1,5 @@
 -- The demands on the reading of a row by columns, as theorems over what the call promises: of any tree that passes questions 5 to 7, and of every tree
--- that the check accepts, whoever built it.
+-- that the check accepts, however it was built.
 -- docs/FORMAT.md: "Columns before rows".
 use mathlib.Core.List.{List, _++_}
 use mathlib.Core.Bool.{true, false}
@@ -22,7 +22,7 @@ use Rattle.format.specs.CheckResultLaws.{accepted-header, accepted-links}
 use Rattle.format.specs.Answers.{Answer, byteAnswer}
 use Rattle.theory_paths.specs.Theorems as paths
 use Rattle.query_access.specs.declared.SpanAnswer.{SpanAnswer}
-use Rattle.query_access.specs.declared.SpanAnswer.the-variants as copied
+use Rattle.query_access.specs.declared.SpanAnswer.the-variants as span
 use Rattle.query_access.proofs.Theorems.{copied-is, copied-no}
 use Rattle.query_columns.specs.ColumnRows.{cell, cellsHold, rowByColumnsRefusal, rowByColumnsBuffer, rowByColumnsAnswer}
 use Rattle.query_columns.proofs.row_by_columns.Reads as reads
@@ -34,31 +34,31 @@ ByColumns κs t w a buffer after r = reads.Post κs (t, (w, (a, (buffer, tt)))) 
 -- For any bytes.
 module _ (κs : Lfts 2) (t : RefT (List ℕ)) (w a : ℕ) (buffer after : RefT (List ℕ)) (r : SpanAnswer) (c : ByColumns κs t w a buffer after r) where
   -- A refusal other than 14 leaves the buffer.
-  refuses : (n : ℕ) → rowByColumnsRefusal (now t) w a (length (now buffer)) ≡ suc n → (suc n ≡ 14 → ⊥) → (r ≡ copied.Refused (suc n)) × (now after ≡ now buffer)
+  refuses : (n : ℕ) → rowByColumnsRefusal (now t) w a (length (now buffer)) ≡ suc n → (suc n ≡ 14 → ⊥) → (r ≡ span.Refused (suc n)) × (now after ≡ now buffer)
   unfolding rowByColumnsAnswer rowByColumnsBuffer
   refuses n e other =
       (copied-no r n (c .0 .answers ∙ rw e), c .1 ∙ rw (e, ne-eqb (suc n) 0 (λ z. omega arith), ne-eqb (suc n) 14 other))
 
   -- Refused with 5, 6 or 7.
-  pub column-unread : (n : ℕ) → headerResult (now t) ≡ suc n → suc n < 14 → (r ≡ copied.Refused (suc n)) × (now after ≡ now buffer)
+  pub column-unread : (n : ℕ) → headerResult (now t) ≡ suc n → suc n < 14 → (r ≡ span.Refused (suc n)) × (now after ≡ now buffer)
   unfolding rowByColumnsRefusal
   column-unread n e low = refuses n (rw (e, ne-eqb (suc n) 0 (λ z. omega arith))) (λ z. omega arith)
 
   module _ (pass : headerResult (now t) ≡ 0) where
     -- Refused with 20: the width is 0 or does not divide n.
-    pub column-width : widthOk w (at.textLength (now t)) ≡ false → (r ≡ copied.Refused 20) × (now after ≡ now buffer)
+    pub column-width : widthOk w (at.textLength (now t)) ≡ false → (r ≡ span.Refused 20) × (now after ≡ now buffer)
     unfolding rowByColumnsRefusal
     column-width other = refuses 19 (rw (pass, other)) (λ z. omega arith)
 
     module _ (ok : widthOk w (at.textLength (now t)) ≡ true) where
       -- Refused with 10: there is no row a.
-      pub column-past : at.textLength (now t) / w ≤ a → (r ≡ copied.Refused 10) × (now after ≡ now buffer)
+      pub column-past : at.textLength (now t) / w ≤ a → (r ≡ span.Refused 10) × (now after ≡ now buffer)
       unfolding rowByColumnsRefusal
       column-past h = refuses 9 (rw (pass, ok, le-ltb a (at.textLength (now t) / w) h)) (λ z. omega arith)
 
       module _ (low : a < at.textLength (now t) / w) where
         -- Refused with 13: the buffer has fewer than w bytes.
-        pub column-short : length (now buffer) < w → (r ≡ copied.Refused 13) × (now after ≡ now buffer)
+        pub column-short : length (now buffer) < w → (r ≡ span.Refused 13) × (now after ≡ now buffer)
         unfolding rowByColumnsRefusal
         column-short h =
             refuses 12 (rw (pass, ok, lt-ltb a (at.textLength (now t) / w) low, lt-leb w (length (now buffer)) h)) (λ z. omega arith)
@@ -66,7 +66,7 @@ module _ (κs : Lfts 2) (t : RefT (List ℕ)) (w a : ℕ) (buffer after : RefT (
         module _ (room : w ≤ length (now buffer)) where
           -- Refused with 14: the path of one of the row's places breaks. The first w bytes of the buffer are then zero.
           pub column-broken : (b : ℕ) → b < w → byteAnswer (now t) (b * (at.textLength (now t) / w) + a) .number ≡ 14
-              → (r ≡ copied.Refused 14) × (now after ≡ replicate w 0 ++ drop w (now buffer))
+              → (r ≡ span.Refused 14) × (now after ≡ replicate w 0 ++ drop w (now buffer))
           unfolding rowByColumnsRefusal rowByColumnsAnswer rowByColumnsBuffer cellsHold cell
           column-broken b more e =
               let broken : cellsHold (now t) w a ≡ false =
@@ -77,7 +77,7 @@ module _ (κs : Lfts 2) (t : RefT (List ℕ)) (w a : ℕ) (buffer after : RefT (
 
           -- Where each holds, the row is what the paths give.
           pub column-read : ((b : ℕ) → b < w → byteAnswer (now t) (b * (at.textLength (now t) / w) + a) .number ≡ 0)
-              → (r ≡ copied.Bytes w 0)
+              → (r ≡ span.Bytes w 0)
               × (now after ≡ tabulate w (λ b. byteAnswer (now t) (b * (at.textLength (now t) / w) + a) .value) ++ drop w (now buffer))
           unfolding rowByColumnsRefusal rowByColumnsAnswer rowByColumnsBuffer cellsHold cell
           column-read each =
@@ -91,7 +91,7 @@ module _ (κs : Lfts 2) (t : RefT (List ℕ)) (w a : ℕ) (buffer after : RefT (
 module _ (κs : Lfts 2) (t : RefT (List ℕ)) (v : checkResult (now t) ≡ 0) (w a : ℕ) (buffer after : RefT (List ℕ)) (r : SpanAnswer)
     (c : ByColumns κs t w a buffer after r) where
   pub column-copies : widthOk w (length (textOf (now t))) ≡ true → a < length (textOf (now t)) / w → w ≤ length (now buffer)
-      → (r ≡ copied.Bytes w 0) × (now after ≡ stretch (uncolumns w (textOf (now t))) (a * w) w ++ drop w (now buffer))
+      → (r ≡ span.Bytes w 0) × (now after ≡ stretch (uncolumns w (textOf (now t))) (a * w) w ++ drop w (now buffer))
   column-copies ok low room =
       let z = column-read κs t w a buffer after r c pass (rw size at ok) (rw size at low) room (λ b l. byte-is b l .0) in
       (z .0, z .1 ∙ ap (λ (l : List ℕ). l ++ drop w (now buffer)) row-is)
@@ -121,7 +121,7 @@ module _ (κs : Lfts 2) (t : RefT (List ℕ)) (v : checkResult (now t) ≡ 0) (w
 
   -- From the tree of a rearranged text the call gives row a of the original text.
   pub row-of-text : (T : List ℕ) → widthOk w (length T) ≡ true → textOf (now t) ≡ columns w T → a < length T / w → w ≤ length (now buffer)
-      → (r ≡ copied.Bytes w 0) × (now after ≡ stretch T (a * w) w ++ drop w (now buffer))
+      → (r ≡ span.Bytes w 0) × (now after ≡ stretch T (a * w) w ++ drop w (now buffer))
   row-of-text T ok is low room =
       let size : length (textOf (now t)) ≡ length T = ap length is ∙ columns-length w T ok in
       let z = column-copies (rw size ok) (rw size low) room in

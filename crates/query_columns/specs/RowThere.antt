@@ -1,4 +1,4 @@
--- What the reading of a row's bytes rests on.
+-- The precondition of reading a row's bytes.
 use mathlib.Core.List.{List}
 use mathlib.Core.Bool.{true}
 use mathlib.Core.Path.{_≡_}
@@ -7,7 +7,7 @@ use Rattle.columns.specs.Columns.{widthOk}
 use Rattle.layout.specs.declared.header.Header.{Header}
 use Rattle.layout.specs.HeaderFields.{HeaderOf}
 
--- What the reading of the row's bytes rests on: the header's figures, and that questions 20, 10 and 13 let it through.
+-- The header's figures are known, and questions 20, 10 and 13 passed.
 pub record RowThere (t : List ℕ) (h : Header) (w rows a room : ℕ) : Type 0 where
   pub header : HeaderOf t h
   pub width : widthOk w (h .«text_length») ≡ true

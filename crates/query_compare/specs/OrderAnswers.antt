@@ -1,4 +1,4 @@
--- What is returned where two trees are compared.
+-- What compare returns.
 -- docs/FORMAT.md: "The order of books".
 use mathlib.Core.List.{List, []}
 use mathlib.Core.Bool.{cond}
@@ -35,7 +35,7 @@ unfoldable pub byLength : ℕ → ℕ → ℕ → Answer
 byLength n m p = cond (ltb n m) (stands before p) (cond (ltb m n) (stands after p) (stands same p))
 
 module _ (t u : List ℕ) where
-  -- From place p on, with so many places left in the shorter text: each is read in the first tree and then in the second.
+  -- From place p on, with this many places left in the shorter text: each is read in the first tree and then in the second.
   unfoldable pub comparedFrom : ℕ → ℕ → Answer
   comparedFrom zero p = byLength (at.textLength t) (at.textLength u) p
   comparedFrom (suc more) p =
@@ -56,7 +56,7 @@ compareReply (compared.Same n) = figures (code same) n
 compareReply (compared.After n) = figures (code after) n
 compareReply (compared.Refused q) = refusal q
 
--- What is answered of two trees; the first figure is never 0, so a refusal is distinct from every answer.
+-- The answer of compare for two trees; the first figure is never 0, so a refusal is distinct from every answer.
 pub record IsCompareAnswer (t u : List ℕ) (r : CompareAnswer) : Type 0 where
   pub answers : replied (compareReply r) ≡ compareAnswer t u
 

@@ -1,4 +1,4 @@
--- Trees of short texts compared, good and damaged ones, computed from the definitions.
+-- Trees of short texts compared, valid and damaged ones, computed from the definitions.
 use mathlib.Core.List.{List, [], _∷_, _++_}
 use mathlib.Core.Path.{_≡_, refl}
 use Prim.Native.Nat.{ℕ}

@@ -14,7 +14,7 @@ outcome before n = compared.Before n
 outcome same n = compared.Same n
 outcome after n = compared.After n
 
--- Of two values that of the text that comes first; the first value for equal texts.
+-- The value of the text that comes first; the first value for equal texts.
 abbrev pub firstOf {ℓ} : {A : Type ℓ} → Ordering → A → A → A
 firstOf before x y = x
 firstOf same x y = x

@@ -1,4 +1,4 @@
--- Theorems about digest, from its contract alone: for any bytes, for every tree that the check accepts, whoever built it, and for the tree that build writes.
+-- Theorems about digest, from its contract alone: for any bytes, for every tree that the check accepts, however built, and for the tree that build writes.
 -- docs/FORMAT.md: "Digest".
 use mathlib.Core.List.{List, _++_}
 use mathlib.Core.Option.{none}

@@ -105,7 +105,7 @@ word-of ws i l small =
     let e : 0 + 4 * i ≡ 4 * i = omega arith in
     ap (λ (x : List ℕ). wordAt x (4 * i)) (sym (append-nil (wordsBytes ws))) ∙ rw e at (word-at [] ws [] 0 i refl l small)
 
--- Of an accepted tree.
+-- For an accepted tree.
 module _ (t : List ℕ) (v : checkResult t ≡ 0) where
   -- Each entry fits a word.
   entry-few : (i : ℕ) → i < length (guideOf t) → getD (guideOf t) i 0 < maxText

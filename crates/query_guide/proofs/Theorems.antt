@@ -15,7 +15,7 @@ use Rattle.format.specs.CheckResultLaws.{accepted-header, accepted-links}
 use Rattle.theory_paths.specs.Links.{linked-facts}
 use Rattle.theory_counts.specs.Finds as finds
 use Rattle.theory_counts.specs.CountsLocal.{byteOf}
-use Rattle.theory_counts.specs.Theorems as tallies
+use Rattle.theory_counts.specs.Theorems as counts
 use Rattle.query_guide.specs.declared.GuideWordsAnswer.{GuideWordsAnswer}
 use Rattle.query_guide.specs.declared.GuideWordsAnswer.the-variants.{Words, Refused}
 use Rattle.query_guide.specs.Guides.{listedEvery, blockOf, entriesOf, entriesBefore, guideWords, guideBytes, guideWordsReply}
@@ -42,7 +42,7 @@ module _ (t : List ℕ) (v : checkResult t ≡ 0) (c : ℕ) (hc : c < at.counted
   pub guide-entries : entriesOf t c ≡ pieces (countIn (byteOf t c) (textOf t)) listedEvery
   unfolding entriesOf
   guide-entries = ap (λ (n : ℕ). pieces n listedEvery)
-      (finds.total-is t (header-facts t (accepted-header t v)) (linked-facts t (accepted-links t v)) (tallies.levels t v) c hc)
+      (finds.total-is t (header-facts t (accepted-header t v)) (linked-facts t (accepted-links t v)) (counts.levels t v) c hc)
 
   pub guide-holds : (e : ℕ) → e < entriesOf t c
       → wordAt (guideBytes t) (4 * (entriesBefore t c + e)) ≡ placeOf (byteOf t c) (listedEvery * e + 1) (textOf t) / at.fullLength t 0

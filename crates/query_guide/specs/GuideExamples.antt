@@ -53,7 +53,7 @@ pub record GuideMarked : Type 0 where
   seventeen : (lastListed 100 ≡ 65) × (blockOf (blocks 2 (65 ∷ []) (replicate 200 65)) 0 100 ≡ 49) × (lastListed 64 ≡ 1) × (lastListed 65 ≡ 65)
   -- Two counted bytes, one after the other.
   pairs : (guideOf (blocks 2 (65 ∷ 66 ∷ []) (both 100)) ≡ 0 ∷ 64 ∷ 0 ∷ 64 ∷ []) × (entriesBefore (blocks 2 (65 ∷ 66 ∷ []) (both 100)) 1 ≡ 2)
-  -- A text of no bytes.
+  -- The empty text.
   empty : (guideOf (blocks 2 (65 ∷ []) []) ≡ []) × (guideRefusal (blocks 2 (65 ∷ []) []) [] ≡ 0)
       × (guideRefusal (blocks 2 (65 ∷ []) []) (replicate 4 0) ≡ 24) × (makeGuideAnswer (blocks 2 (65 ∷ []) []) [] ≡ guide-answered 0 0)
   -- None counted; none there.

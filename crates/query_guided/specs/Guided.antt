@@ -1,6 +1,6 @@
 -- What find with a guide may return for any bytes given as a tree and as a guide: one answer if a question refuses or both are valid, else any of those that
 -- the format leaves free.
--- docs/FORMAT.md: "Guides", "What is left free".
+-- docs/FORMAT.md: "Guides", "Unspecified results".
 use mathlib.Core.List.{List}
 use mathlib.Core.Path.{_≡_}
 use Prim.Native.Nat.{ℕ, _-_, _<_}

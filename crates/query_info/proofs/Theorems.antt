@@ -1,5 +1,5 @@
 -- What a caller learns of a tree, as theorems over what the calls promise.
--- docs/FORMAT.md: "What is told without the text".
+-- docs/FORMAT.md: "Figures and sizes".
 use mathlib.Core.List.{List}
 use mathlib.Core.Path.{_≡_, refl, sym, ap, _∙_}
 use Prim.Native.Nat.{ℕ, zero, suc, _+_, _<_}
@@ -18,7 +18,7 @@ use Rattle.format.specs.LayoutLaws.{header-facts}
 use Rattle.theory_paths.specs.Links.{linked-facts}
 use Rattle.theory_paths.specs.OneText.{text-length}
 use Rattle.theory_counts.specs.CountsLocal.{byteOf}
-use Rattle.theory_counts.specs.Theorems as tallies
+use Rattle.theory_counts.specs.Theorems as counts
 use Rattle.theory_counts.specs.Finds as finds
 use Rattle.query_info.specs.Info.{plainFigures, totalsFrom, figureCount, countedByte, totalOf, figuresOf, infoBuffer}
 use Rattle.query_info.proofs.info.Reads as info-reads
@@ -59,7 +59,7 @@ counted-at t c h low = rw (getD-take, getD-take, getD-drop)
 total-right : (t : List ℕ) → checkResult t ≡ 0 → (c : ℕ) → c < at.countedCount t → c < maxCounted → totalOf t c ≡ countIn (countedByte t c) (textOf t)
 unfolding totalOf
 total-right t v c h low =
-    let e = finds.total-is t (header-facts t (accepted-header t v)) (linked-facts t (accepted-links t v)) (tallies.levels t v) c h in
+    let e = finds.total-is t (header-facts t (accepted-header t v)) (linked-facts t (accepted-links t v)) (counts.levels t v) c h in
     rw (lt-ltb c (at.countedCount t) h, ← counted-at t c h low) e
 
 module _ (κs : Lfts 2) (t figures after : RefT (List ℕ)) (r : ℕ) (a : Info κs t figures after r) where
@@ -75,18 +75,18 @@ module _ (κs : Lfts 2) (t figures after : RefT (List ℕ)) (r : ℕ) (a : Info 
 
   -- For an accepted tree n is the length of the text, and the total of each counted byte is how often it occurs in the text.
   module _ (v : checkResult (now t) ≡ 0) where
-    told : now after ≡ figuresOf (now t)
-    told = info-answered (accepted-header (now t) v) .1
+    written : now after ≡ figuresOf (now t)
+    written = info-answered (accepted-header (now t) v) .1
 
     pub info-length : getD (now after) 1 0 ≡ length (textOf (now t))
     unfolding figuresOf
-    info-length = rw told (sym (text-length (now t)))
+    info-length = rw written (sym (text-length (now t)))
 
     pub info-totals : (c : ℕ)
         → c < getD (now after) 6 0 → getD (now after) (totalsFrom + c) 0 ≡ countIn (getD (now after) (plainFigures + c) 0) (textOf (now t))
     unfolding figuresOf
     info-totals c h =
         let few = header-facts (now t) (accepted-header (now t) v) .bounds .counted-high in
-        let k : c < at.countedCount (now t) = rw told at h in
+        let k : c < at.countedCount (now t) = rw written at h in
         let low : c < maxCounted = omega arith in
-        rw told (total-figure (now t) c low ∙ total-right (now t) v c k low ∙ ap (λ (b : ℕ). countIn b (textOf (now t))) (sym (byte-figure (now t) c low)))
+        rw written (total-figure (now t) c low ∙ total-right (now t) v c k low ∙ ap (λ (b : ℕ). countIn b (textOf (now t))) (sym (byte-figure (now t) c low)))

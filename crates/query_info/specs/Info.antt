@@ -1,5 +1,5 @@
 -- The figures of a tree that info returns for any bytes given as a tree, without reading the text; and the version of the library.
--- docs/FORMAT.md: "What is told without the text".
+-- docs/FORMAT.md: "Figures and sizes".
 use mathlib.Core.List.{List, _∷_, _++_}
 use mathlib.Core.Bool.{cond}
 use Prim.Native.Nat.{ℕ, _+_, _*_}

@@ -91,7 +91,7 @@ module _ (t ranges : List ℕ) where
     unfolding matchesOf
     all-matches = next-row.all-called t (checkResult t) (λ v. v) (queryRefusal t 19 (rangesOk ranges)) (matches ranges) v
 
-  -- For any bytes again: what holds of every answer, also of a free one.
+  -- For any bytes: what holds of every answer, also of an unspecified one.
 
   -- A returned row is after the mark, and at most one more than the total of byte 10.
   pub row-after : (mark n : ℕ) → IsMatchAnswer t ranges mark (Row n) → (mark < n) × (n ≤ maxRows t)

@@ -1,5 +1,5 @@
 -- The demands on the places of a pattern, as theorems over what the call promises, on every tree that passes questions 5 to 7.
--- docs/FORMAT.md: "Places", "What is told without the text".
+-- docs/FORMAT.md: "Places", "Figures and sizes".
 use mathlib.Core.List.{List, _++_}
 use mathlib.Core.Option.{none, some}
 use mathlib.Core.Bool.{Bool, true, false, _&&_}

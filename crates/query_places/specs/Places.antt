@@ -15,7 +15,7 @@ use Rattle.query_places.specs.declared.PlacesWordsAnswer.{PlacesWordsAns
 use Rattle.query_places.specs.declared.PlacesWordsAnswer.the-variants as room
 
 -- What places (locate) returns for any bytes given as a tree, and what the caller's table of words contains afterwards.
--- docs/FORMAT.md: "Places", "What is told without the text".
+-- docs/FORMAT.md: "Places", "Figures and sizes".
 
 -- Whether the pattern occurs in the text at place p.
 unfoldable pub occursAt : List ℕ → List ℕ → ℕ → Bool
@@ -69,14 +69,14 @@ wordsFor n len = unless (asks ((16, patternLength len) ∷ [])) (record { number
 unfoldable pub placesWordsAnswer : List ℕ → ℕ → Answer
 placesWordsAnswer t len = unless (headerResult t) (wordsFor (at.textLength t) len)
 
--- The answers of places and places_words by their refusals and figures (docs/FORMAT.md, "The questions, in order").
+-- The answers of places and places_words by their refusals and figures (docs/FORMAT.md, "Questions and refusals").
 
 -- How many places there are.
 abbrev pub placesReply : PlacesAnswer → Reply
 placesReply (places.Number n) = figures n 0
 placesReply (places.Refused number) = refusal number
 
--- What is answered with room for so many words.
+-- The answer of places with a table of `room` words.
 abbrev pub IsPlacesAnswer : (t P : List ℕ) (room : ℕ) → PlacesAnswer → Type 0
 IsPlacesAnswer t P room = Is placesReply (placesAnswer t P room)
 

@@ -1,4 +1,4 @@
--- The sentences of docs/FORMAT.md, "Rows by their first bytes", as theorems over the contract `IsPrefixAnswer` of both calls.
+-- The sentences of docs/FORMAT.md, "Rows by prefix", as theorems over the contract `IsPrefixAnswer` of both calls.
 use mathlib.Core.List.{List, [], _++_}
 use mathlib.Core.Bool.{true, false, cond}
 use mathlib.Core.Path.{_≡_, _∙_}
@@ -34,7 +34,7 @@ NextRowWithPrefix κs t prefix mark r = next-reads.Post κs (t, (prefix, (mark, 
 abbrev pub NextRowWithPrefixGuided : (κs : Lfts 3) → (t guide prefix : RefT (List ℕ)) → ℕ → NextRowAnswer → Type 0
 NextRowWithPrefixGuided κs t guide prefix mark r = guided-reads.Post κs (t, (guide, (prefix, (mark, tt)))) r (t, (guide, (prefix, (mark, tt))))
 
--- `ok` is 0 where the answer is settled: the check's result without a guide, that of checking the guide with one
+-- `ok` is 0 if the answer is determined: the check's result without a guide, that of checking the guide with one.
 abbrev pub IsPrefixAnswer : List ℕ → ℕ → List ℕ → ℕ → NextRowAnswer → Type 0
 IsPrefixAnswer t ok prefix mark r = AllowedAnswer t ok (queryRefusal t 16 (patternOk prefix)) (startsWith prefix) mark r
 
@@ -93,11 +93,11 @@ module _ (t : List ℕ) (ok : ℕ) (sound : ok ≡ 0 → checkResult t ≡ 0) (p
   pub prefix-keeps-mark : (mark n after : ℕ) → PrefixMoved t ok prefix mark (Refused n) after → after ≡ mark
   prefix-keeps-mark = next-row.refusal-leaves t ok sound (queryRefusal t 16 (patternOk prefix)) (startsWith prefix)
 
-  -- A refusal is that of the questions before the walk; or 14, where the answer is not settled.
+  -- A refusal is that of the questions before the walk; or 14, if the answer is not determined.
   pub prefix-refusal : (mark n : ℕ) → IsPrefixAnswer t ok prefix mark (Refused n) → (n ≡ queryRefusal t 16 (patternOk prefix)) ⊎ ((n ≡ 14) × (ok ≡ 0 → ⊥))
   prefix-refusal = next-row.refusal-is t ok sound (queryRefusal t 16 (patternOk prefix)) (startsWith prefix)
 
-  -- A returned row, free or not, is after the mark and at most total + 1 of byte 10.
+  -- A returned row, unspecified or not, is after the mark and at most total + 1 of byte 10.
   pub prefix-row-after : (mark n : ℕ) → IsPrefixAnswer t ok prefix mark (Row n) → (mark < n) × (n ≤ maxRows t)
   prefix-row-after = next-row.row-after t ok sound (queryRefusal t 16 (patternOk prefix)) (startsWith prefix) (counted-of t prefix)
 
@@ -105,7 +105,7 @@ module _ (t : List ℕ) (ok : ℕ) (sound : ok ≡ 0 → checkResult t ≡ 0) (p
   pub prefix-none-after : (mark m : ℕ) → IsPrefixAnswer t ok prefix mark (Nothing m) → (mark ≤ m) × ((m ≡ mark) ⊎ (m ≤ maxRows t))
   prefix-none-after = next-row.none-after t ok sound (queryRefusal t 16 (patternOk prefix)) (startsWith prefix) (counted-of t prefix)
 
-  -- A settled answer: of an accepted tree, and an accepted guide if there is one.
+  -- A determined answer: for an accepted tree, and an accepted guide if there is one.
   module _ (v : ok ≡ 0) where
     abbrev rows : List (List ℕ)
     rows = rowsOf (textOf t)

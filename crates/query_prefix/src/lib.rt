@@ -1,4 +1,4 @@
-// Rows by their first bytes: the next row after a mark that starts with a prefix, without a guide and with one.
+// Rows by prefix: the next row after a mark that starts with a prefix, without a guide and with one.
 mod prefix_search;
 
 use layout::header;

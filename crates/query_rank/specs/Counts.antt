@@ -8,7 +8,7 @@ use Rattle.format.specs.Answers.{Reply, figures, refusal, Is, countAnswer}
 use Rattle.query_rank.specs.declared.CountAnswer.{CountAnswer}
 use Rattle.query_rank.specs.declared.CountAnswer.the-variants.{Times, Refused}
 
--- How often the byte stands, with the blocks entered.
+-- How often the byte occurs, and the blocks entered.
 abbrev pub countReply : CountAnswer → Reply
 countReply (Times times entered) = figures times entered
 countReply (Refused number) = refusal number

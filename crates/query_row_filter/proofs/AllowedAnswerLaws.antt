@@ -123,7 +123,7 @@ module _ {S : Type 0} (m : Automaton S) (selected : List ℕ → Bool) (reads : 
   abbrev rows : List (List ℕ)
   rows = drop mark (rowsOf (textOf t))
 
-  -- Where it is settled the scan ends at a selected row or at the text's end.
+  -- If the outcome is determined, the scan ends at a selected row or at the text's end.
   right : ok ≡ 0 → r ≡ answerOf (result selected (mark + 1) rows)
   right v = by (s .settled)
     where
@@ -175,7 +175,7 @@ module _ {S : Type 0} (m : Automaton S) (selected : List ℕ → Bool) (reads : 
       by false = tt
   numbers (Refused n) h = omega arith
 
-  -- Where it is settled.
+  -- If the outcome is determined.
   small : eqb (firstSelected selected (mark + 1) (drop mark (rowsOf (textOf t)))) 0 ≡ false
       → ok ≡ 0 → Next selected (rowsOf (textOf t)) mark → firstSelected selected (mark + 1) (drop mark (rowsOf (textOf t))) ≤ newlines + 1
   unfolding nextOutcome outcomeAt nextSelected

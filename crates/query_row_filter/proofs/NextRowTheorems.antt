@@ -41,7 +41,7 @@ same-next-row mark (Refused n) (Row b) k l e = absurd (let z : ⊥ = omega (arit
 same-next-row mark (Refused n) (Nothing m) k l e = absurd (let z : ⊥ = omega (arith, ap (λ (s : NextRowOutcome). s .refusal) e) in z)
 same-next-row mark (Refused n) (Refused m) k l e = ap Refused (ap (λ (s : NextRowOutcome). s .refusal) e)
 
--- settled answers to the same search are equal, whatever settles them
+-- Determined answers to the same search are equal.
 pub one-next-row : (t : List ℕ) (refusal : ℕ) (selected : List ℕ → Bool) (mark ok other : ℕ) → ok ≡ 0 → other ≡ 0 → (x y : NextRowAnswer)
     → AllowedAnswer t ok refusal selected mark x → AllowedAnswer t other refusal selected mark y → x ≡ y
 one-next-row t refusal selected mark ok other v w x y a b = same-next-row mark x y (a .numbered) (b .numbered) (go (lt-or-ge 0 refusal))
@@ -121,7 +121,7 @@ asked-counted t k ok h =
     let a = next-passes (headerResult t) (ask (suc k) ok eleven) h in
     ask-test 10 (isCounted t 10) 0 (ask-rest k ok eleven (a .1))
 
--- `ok` is 0 where the outcome is settled.
+-- `ok` is 0 if the outcome is determined.
 module _ (t : List ℕ) (ok : ℕ) (sound : ok ≡ 0 → checkResult t ≡ 0) (refusal : ℕ) (selected : List ℕ → Bool) where
   -- For any bytes.
 
@@ -143,7 +143,7 @@ module _ (t : List ℕ) (ok : ℕ) (sound : ok ≡ 0 → checkResult t ≡ 0) (r
             let x : ⊥ = omega arith in x)
         go (inr g) = omega arith
 
-  -- A settled outcome.
+  -- A determined outcome.
   module _ (v : ok ≡ 0) where
     abbrev rows : List (List ℕ)
     rows = rowsOf (textOf t)
@@ -228,7 +228,7 @@ module _ (t : List ℕ) (ok : ℕ) (sound : ok ≡ 0 → checkResult t ≡ 0) (r
       pub comes-to-none : Calls 0 (selectedRows selected rows)
       comes-to-none = asks 0 (selectedRows selected rows) (omega arith) (all-shown selected rows)
 
-  -- For any bytes again: what holds of every answer, also of a free one.
+  -- For any bytes: what holds of every answer, also of an unspecified one.
   module _ (counted-of : refusal ≡ 0 → isCounted t 10 ≡ true) where
     -- A returned row is after the mark and at most total + 1 of byte 10.
     pub row-after : (mark n : ℕ) → AllowedAnswer t ok refusal selected mark (Row n) → (mark < n) × (n ≤ maxRows t)
@@ -280,7 +280,7 @@ module _ (t : List ℕ) (ok : ℕ) (sound : ok ≡ 0 → checkResult t ≡ 0) (r
             let w = none-moves v mark m m (record { answer = a; mark-is = refl }) in
             moved v (w .1) (next-marks (nextSelected selected (rowsOf (textOf t)) mark) R mark (w .0))
 
-  -- A refusal is that of the questions before the walk; or 14, where the outcome is not settled.
+  -- A refusal is that of the questions before the walk; or 14, if the outcome is not determined.
   pub refusal-is : (mark n : ℕ) → AllowedAnswer t ok refusal selected mark (Refused n) → (n ≡ refusal) ⊎ ((n ≡ 14) × (ok ≡ 0 → ⊥))
   unfolding nextOutcome
   refusal-is mark n a = go (lt-or-ge 0 refusal) (lt-or-ge 0 ok)

@@ -21,7 +21,7 @@ use Rattle.layout.specs.declared.header.Header.{Header}
 use Rattle.layout.specs.HeaderFields.{HeaderOf}
 use Rattle.theory_paths.specs.OneText.{text-length}
 use Rattle.theory_paths.specs.PlaceBytes.{never-14}
-use Rattle.theory_counts.specs.Theorems as tallies
+use Rattle.theory_counts.specs.Theorems as counts
 use Rattle.row_filter.specs.RowAutomaton.{Automaton, Scan, found, on, at-row, nothing, resumeScan, RowBetween, scanBytes, atEndOfText, finishScan}
 use Rattle.row_filter.specs.RowAutomatonLaws.{scan-append}
 use Rattle.query_access.specs.declared.read_by_header.TreeRange.{TreeRange}
@@ -76,7 +76,7 @@ start-broken t ok mark never = record {
 pub start-past : (t : List ℕ) (ok mark p : ℕ) → (ok ≡ 0 → checkResult t ≡ 0)
     → Selected t 10 mark → p < at.textLength t → (ok ≡ 0 → p ≡ placeOf 10 mark (textOf t)) → FilterStartIs t ok mark (start.At (record { 0 = p + 1 }))
 start-past t ok mark p sound s low is =
-    start-at t ok mark (p + 1) (omega arith) (λ v. rows-past (textOf t) mark p (rw (is v) (tallies.stands t (sound v) 10 mark s)))
+    start-at t ok mark (p + 1) (omega arith) (λ v. rows-past (textOf t) mark p (rw (is v) (counts.stands t (sound v) 10 mark s)))
 
 -- Questions 11 and 12 pass for the byte 10 that ends the mark's row.
 pub start-asked : (t : List ℕ) (h : Header) (mark : ℕ)

@@ -15,8 +15,8 @@ use Rattle.query_row_filter.specs.declared.NextRowAnswer.{NextRowAnswer}
 use Rattle.query_row_filter.specs.declared.NextRowAnswer.the-variants.{Row, Nothing, Refused}
 
 -- The outcomes that a search for the next selected row may have, for any bytes given as a tree and as a guide: one outcome if a question refuses or both are
--- valid, else any of those that the format leaves free.
--- docs/FORMAT.md: "Keys", "What is left free".
+-- valid, else any of those that the format leaves unspecified.
+-- docs/FORMAT.md: "Keys", "Unspecified results".
 
 -- A refusal; the mark is unchanged.
 abbrev pub refusedAt : ℕ → ℕ → NextRowOutcome

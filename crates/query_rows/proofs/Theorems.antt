@@ -1,5 +1,5 @@
 -- Row with a guide, a row's length and the number of rows: theorems over what the calls promise.
--- docs/FORMAT.md: "Guides", "What is told without the text".
+-- docs/FORMAT.md: "Guides", "Figures and sizes".
 use mathlib.Core.List.{List, _++_}
 use mathlib.Core.Bool.{true}
 use mathlib.Core.Path.{_≡_, sym, ap, _∙_}

@@ -34,7 +34,7 @@ abbrev pub IsRowAnswer : (t : List ℕ) (q : ℕ) (buffer : List ℕ) → RowAns
 IsRowAnswer t = RowAnswerBy t (checkResult t)
 
 -- What row_length and row_count return for any bytes given as a tree.
--- docs/FORMAT.md: "What is told without the text", "What is left free".
+-- docs/FORMAT.md: "Figures and sizes", "Unspecified results".
 
 module _ (t : List ℕ) where
   -- The length of row q: one answer if a question of row refuses or the tree is valid; else at most `rowMost`, or 14.

@@ -1,4 +1,4 @@
--- The answer of find by its refusal and figures (docs/FORMAT.md, "Find", "What is left free").
+-- The answer of find by its refusal and figures (docs/FORMAT.md, "Find", "Unspecified results").
 use mathlib.Core.List.{List}
 use Prim.Native.Nat.{ℕ}
 use Rattle.format.specs.TreeReading.{checkResult}

@@ -97,7 +97,7 @@ module _ (T out : List ℕ) (it : Items) where
         marks = λ y l i. let m = below y l i in rw (heads (chainAt T out it y)) (h .marks y m (was-listed y m i));
       }
 
-  -- Item x left out, or the twin of another: one word is written.
+  -- Item x is left out, or equal to an earlier one: one word is written.
   module _ (W : List ℕ) (x v : ℕ) (t : Turn T out it W x) (high : length T ≤ v) where
     abbrev Y : List ℕ
     Y = set W (3 * x + 2) v
@@ -213,7 +213,7 @@ module _ (T out : List ℕ) (it : Items) where
       equal-item = λ y q. absurd (let z : ⊥ = omega (arith, x-listed) in z);
     }
 
-  -- Looking for a twin.
+  -- The search for an equal item.
   module _ (W : List ℕ) (x : ℕ) (t : Turn T out it W x) where
     pub head-leads : (g : ℕ) → g < it .heads → Leads T out it W x (linkOf (headIn (it .items) W g))
     head-leads g l = let n = t .chained .heads g l in record { low = n .low; listed = n .listed }

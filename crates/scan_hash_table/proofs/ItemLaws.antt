@@ -1,4 +1,4 @@
--- Items: their bytes, and whether a stretch has them.
+-- Items: their bytes, and whether the bytes at a place are equal to them.
 use mathlib.Core.List.{List}
 use mathlib.Core.Bool.{Bool, true, false, _&&_}
 use mathlib.Core.Path.{_≡_, sym, ap, _∙_}

@@ -26,7 +26,7 @@ module _ (T out : List ℕ) (it : Items) (W Z : List ℕ) (e : EnteredItems T ou
       unfolding placeOut
       out-listed = rw (lt-ltb (itemPlaceIn Z x) (length T) place-listed) (q .found x xl i)
 
-    -- A twin.
+    -- An item equal to an earlier one.
     module _ (u : length T ≤ itemPlaceIn W x) where
       y : ℕ
       y = itemPlaceIn W x - length T

@@ -1,4 +1,4 @@
--- Fingerprints of stretches: bytes more, a window moved on, two stretches joined.
+-- Fingerprints of windows: one byte more, the window moved by one, two adjacent windows joined.
 use mathlib.Core.List.{List, [], _∷_, _++_}
 use mathlib.Core.Path.{_≡_, refl, sym, ap, ap₂, _∙_}
 use Prim.Native.Nat.{ℕ, suc, _+_, _-_, _*_, _/_, _%_, _^_, _≤_, _<_}
@@ -195,7 +195,7 @@ module _ (seed : ℕ) where
         ∙ ap (λ (z : ℕ). z % modulus) (one-step ∙ ap (λ (z : ℕ). next * β + β ^ (n + 1) * z) (sym eo))
         ∙ sym (added (next * β) t (β ^ (n + 1)) out modulus et))
 
-  -- The fingerprint of two stretches, one after the other.
+  -- The fingerprint of two adjacent windows.
   pub print-join : (T : List ℕ) (p a n h t g : ℕ) → p + a + n ≤ length T → h ≡ print seed (stretch T p a) → t ≡ β ^ n % modulus
       → g ≡ print seed (stretch T (p + a) n) → (h * t + g) % modulus ≡ print seed (stretch T p (a + n))
   unfolding print

@@ -10,7 +10,7 @@ mul-mod a c q =
     sym
     (ap (λ (x : ℕ). x * c % q) (sym (mod-add-div a q)) ∙ rw (add-mul, mul-assoc q) (add-mul-mod-self-left (a % q * c) q (a / q * c)))
 
--- a % q is settled by a sum with c
+-- a % q is determined by a sum with c.
 from-sum : (a c q : ℕ) → 0 < q → ((a + c) % q + (q - 1) * c) % q ≡ a % q
 from-sum a c q h =
     let e : q ≡ suc (q - 1) = omega arith in

@@ -5,7 +5,7 @@ use native.Mathlib.Omega.{arith}
 use native.Mathlib.Nat.{mod-lt}
 use Rattle.search.specs.declared.Fingerprint.{Fingerprint}
 use Rattle.search.specs.Occurrences.{usableModulus, usable}
-use Rattle.search.specs.FingerValues.{Ready}
+use Rattle.search.specs.FingerValues.{ReducedBase}
 
 pub modulus-low : (q : ℕ) → q < 1 → 1 ≡ usableModulus q
 unfolding usableModulus
@@ -27,7 +27,7 @@ pub modulus-most : (q : ℕ) → usableModulus q ≤ 2147483647
 unfolding usableModulus
 modulus-most q = omega arith
 
-pub ready : (b q : ℕ) → Ready (usable b q .base) (usable b q .modulus)
+pub ready : (b q : ℕ) → ReducedBase (usable b q .base) (usable b q .modulus)
 unfolding usable
 ready b q = record { below = mod-lt b (modulus-positive q); most = modulus-most q }
 

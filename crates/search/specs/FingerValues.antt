@@ -2,7 +2,8 @@
 use mathlib.Core.List.{List, [], _∷_}
 use Prim.Native.Nat.{ℕ, _+_, _*_, _%_, _≤_, _<_}
 
-pub record Ready (b q : ℕ) : Type 0 where
+-- A base below its modulus, which is small enough that no product needs more than 64 bits.
+pub record ReducedBase (b q : ℕ) : Type 0 where
   pub below : b < q
   pub most : q ≤ 2147483647
 

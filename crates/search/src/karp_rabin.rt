@@ -5,11 +5,11 @@ ghost use mathlib.Core.Path.{_≡_};
 ghost use Prim.Native.Nat.{_+_, _-_, _*_, _%_, _^_, _≤_, _<_};
 ghost use lib.ListN.{length};
 ghost use Rattle.text.specs.Text.{stretch};
-ghost use Rattle.search.specs.FingerValues.{Ready, finger};
+ghost use Rattle.search.specs.FingerValues.{ReducedBase, finger};
 
 // The fingerprint of bytes with one byte more at their end.
 fn push(by: Fingerprint, h: u64, enters: u8) -> u64
-    requires { ⌜ (Ready (by .base) (by .modulus)) × (h < by .modulus) ⌝ }
+    requires { ⌜ (ReducedBase (by .base) (by .modulus)) × (h < by .modulus) ⌝ }
     ensures { λ r. ⌜ r ≡ (h * by .base + enters) % by .modulus ⌝ }
 {
     (h * by.base as u64 + enters as u64) % by.modulus as u64
@@ -17,7 +17,7 @@ fn push(by: Fingerprint, h: u64, enters: u8) -> u64
 
 // The fingerprint of a window moved on by one byte; `top` is the window's power of the base.
 pub fn roll(by: Fingerprint, h: u64, top: u64, leaves: u8, enters: u8) -> u64
-    requires { ⌜ (Ready (by .base) (by .modulus)) × (h < by .modulus) × (top < by .modulus) ⌝ }
+    requires { ⌜ (ReducedBase (by .base) (by .modulus)) × (h < by .modulus) × (top < by .modulus) ⌝ }
     ensures { λ r. ⌜ r ≡ (h * by .base + enters + (255 * by .modulus - top * leaves)) % by .modulus ⌝ }
 {
     let q = by.modulus as u64;
@@ -26,7 +26,7 @@ pub fn roll(by: Fingerprint, h: u64, top: u64, leaves: u8, enters: u8) -> u64
 
 // The n-th power of the base.
 pub fn power(by: Fingerprint, n: usize) -> u64
-    requires { ⌜ Ready (by .base) (by .modulus) ⌝ }
+    requires { ⌜ ReducedBase (by .base) (by .modulus) ⌝ }
     ensures { λ r. ⌜ r ≡ by .base ^ n % by .modulus ⌝ }
 {
     let b = by.base as u64;
@@ -41,7 +41,7 @@ pub fn power(by: Fingerprint, n: usize) -> u64
 }
 
 pub fn fingerprint(by: Fingerprint, s: &[u8]) -> u64
-    requires { ⌜ Ready (by .base) (by .modulus) ⌝ }
+    requires { ⌜ ReducedBase (by .base) (by .modulus) ⌝ }
     ensures { λ r. ⌜ r ≡ finger (by .base) (by .modulus) (now (s .entry)) ⌝ }
 {
     let mut h = 0;
@@ -55,7 +55,7 @@ pub fn fingerprint(by: Fingerprint, s: &[u8]) -> u64
 
 // The fingerprint of the n bytes at p.
 pub fn fingerprint_at(by: Fingerprint, text: &[u8], p: TextPlace, n: usize) -> u64
-    requires { ⌜ (Ready (by .base) (by .modulus)) × (p .0 + n ≤ length (now text)) ⌝ }
+    requires { ⌜ (ReducedBase (by .base) (by .modulus)) × (p .0 + n ≤ length (now text)) ⌝ }
     ensures { λ r. ⌜ r ≡ finger (by .base) (by .modulus) (stretch (now (text .entry)) (p .0) n) ⌝ }
 {
     let from = p.0 as usize;

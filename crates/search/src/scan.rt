@@ -6,7 +6,7 @@ ghost use mathlib.Core.Path.{_≡_};
 ghost use Prim.Native.Nat.{_+_, _≤_, _<_};
 ghost use lib.ListN.{length};
 ghost use Rattle.text.specs.Text.{sameList, stretch, leftmost};
-ghost use Rattle.search.specs.FingerValues.{Ready, finger};
+ghost use Rattle.search.specs.FingerValues.{ReducedBase, finger};
 
 // A place of the text, and the fingerprint of the bytes there.
 struct WindowPrint {
@@ -29,7 +29,7 @@ fn occurs_at(text: &[u8], here: WindowPrint, wanted: WindowPrint, n: usize, by: 
 
 // The first place with the n bytes at `at`.
 pub fn scan(text: &[u8], at: TextPlace, n: usize, by: Fingerprint) -> TextPlace
-    requires { ⌜ (at .0 + n ≤ length (now text)) × (Ready (by .base) (by .modulus)) ⌝ }
+    requires { ⌜ (at .0 + n ≤ length (now text)) × (ReducedBase (by .base) (by .modulus)) ⌝ }
     ensures { λ r. ⌜ r .0 ≡ leftmost (now (text .entry)) (at .0) n ⌝ }
 {
     let top = karp_rabin::power(by, n);

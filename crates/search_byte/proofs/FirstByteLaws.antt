@@ -68,7 +68,7 @@ module _ (t : List ℕ) (byte : ℕ) where
       go x (inl l) = w .other x l
       go x (inr e) = rw e differs
 
-  -- Two stretches, one after the other.
+  -- Two adjacent ranges.
   pub without-join : (from i k : ℕ) → Without t from i byte → Without t (from + i) k byte → Without t from (i + k) byte
   without-join from i k v w = record { other = λ x h. go x h (lt-or-ge x i) }
     where
@@ -79,7 +79,7 @@ module _ (t : List ℕ) (byte : ℕ) where
   without-fewer : (from i k : ℕ) → i ≤ k → Without t from k byte → Without t from i byte
   without-fewer from i k h w = record { other = λ x l. w .other x (omega arith) }
 
-  -- A stretch in which none is found.
+  -- A range without the byte.
   pub first-none : (from k r : ℕ) → FirstByte t from k byte r → k ≤ r → Without t from k byte
   first-none from k r f past = without-fewer from k r past (f .absent)
 

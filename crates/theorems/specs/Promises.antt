@@ -75,7 +75,7 @@ pub record BlocksOfSpan (t : List ℕ) (H p len e : ℕ) : Type 0 where
   -- At most 2H.
   pub most : e ≤ 2 * H
 
--- docs/FORMAT.md, "What can be asked": the answers to questions about a tree t with the settings S, given by a text T.
+-- docs/FORMAT.md, "Queries": the answers to questions about a tree t with the settings S, given by a text T.
 module _ (t : Borrowed) (S : Settings) (T : List ℕ) where
   -- docs/FORMAT.md, "Byte"
   pub record ByteAnswers : Type 0 where
@@ -199,7 +199,7 @@ module _ (t : Borrowed) (S : Settings) (T : List ℕ) where
     pub match-other : (κs : Lfts 2) (ranges : Borrowed) (mark : ℕ) (r : NextRowAnswer) → NextMatch κs t ranges mark r → rangesOk (now ranges) ≡ true
         → (CountedIn 10 (S .counted) → ⊥) → r ≡ next.Refused 11
 
-  -- docs/FORMAT.md, "Rows by their first bytes"
+  -- docs/FORMAT.md, "Rows by prefix"
   pub record PrefixAnswers : Type 0 where
     -- The next row after the mark that starts with the prefix; if there is none, the mark goes to the number of rows, or stays if it is above.
     pub prefix-of : (κs : Lfts 2) (prefix : Borrowed) (mark : ℕ) (r : NextRowAnswer) → NextRowWithPrefix κs t prefix mark r
@@ -259,7 +259,7 @@ module _ (t : Borrowed) (S : Settings) (T : List ℕ) where
     -- A row by columns is copied.
     pub column-row : ColumnAnswers
 
-  -- docs/FORMAT.md, "The questions, in order": where T has no answer, the call is refused with the number of the question.
+  -- docs/FORMAT.md, "Questions and refusals": where T has no answer, the call is refused with the number of the question.
   pub record Refuses : Type 0 where
     -- A place past the text has none.
     pub byte : ByteRefuses
@@ -284,7 +284,7 @@ module _ (t : Borrowed) (S : Settings) (T : List ℕ) where
     -- A wrong width, a row past the last and a short buffer are refused.
     pub column-row : ColumnRefuses
 
-  -- docs/FORMAT.md, "What is promised": the tree represents T and no other text, and T determines the answer to every question.
+  -- docs/FORMAT.md, "What is proved": the tree represents T and no other text, and T determines the answer to every question.
   pub record OnlyText : Type 0 where
     -- T fits the tree, and the counts and edges of the tree are right for T.
     pub stands : Represents (now t) T

@@ -46,7 +46,7 @@ module _ (t : List ℕ) where
   pub accepts : (checkResult t ≡ 0) ↔ ((T : List ℕ) × Represents t T)
   accepts = (λ v. (textOf t, accepted-stands v), λ s. stands-accepted (s .0) (s .1))
 
--- For every text and all settings that questions 1 to 3 let through:
+-- For every text and all settings that pass questions 1 to 3:
 module _ (S : Settings) (T : List ℕ) (h : Taken S T) where
   -- The one text that fits the built tree is the input,
   pub built-text : textOf (treeOf S T) ≡ T

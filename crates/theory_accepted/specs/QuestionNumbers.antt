@@ -54,7 +54,7 @@ pub unless-one : (xs ys : List ℕ) (n : ℕ) (s : Answer) → OneOf (xs ++ 0 �
 unless-one xs ys zero s h k = of-right xs ys (s .number) k
 unless-one xs ys (suc n) s h k = of-left xs ys (suc n) (not-zero xs (suc n) (omega arith) h)
 
--- The same of numbers alone.
+-- The same for numbers without figures.
 pub then-one : (xs ys : List ℕ) (n rest : ℕ) → OneOf (xs ++ 0 ∷ []) n → OneOf ys rest → OneOf (xs ++ ys) (cond (eqb n 0) rest n)
 then-one xs ys n rest h k = rw (then-is n rest) (unless-one xs ys n (refused rest) h k)
 
@@ -69,7 +69,7 @@ unfolding checkResult
 checked-one t =
     asks-one ((5, at.holdsHeader t) ∷ (6, at.layoutOk t) ∷ (7, at.headerOk t) ∷ (8, linksOk t) ∷ (9, countsTrue (textOf t) t && edgesTrue (textOf t) t) ∷ [])
 
--- The number of what follows questions, where it is a refusal and where it is none.
+-- The refusal of an answer that follows questions, if it is refused and if not.
 pub answers-refused : (n m v w : ℕ) → 1 ≤ n → refused n ≡ unless m (record { number = 0; value = v; entered = w }) → n ≡ m
 answers-refused n zero v w low e = absurd (let z : n ≡ 0 = ap (λ (s : Answer). s .number) e in omega arith)
 answers-refused n (suc m) v w low e = ap (λ (s : Answer). s .number) e

@@ -69,7 +69,7 @@ module _ (f : Function) where
   abbrev pub call : Contract Closed.𝓤
   call = tripleOf Closed.𝓤 Closed.H (ghost₀ .A) (f .signature) (f .clauses Closed.𝓤 Closed.H (ghost₀ .A) (Closed.model .mem) (running .run))
 
-  -- Total correctness with a frame, for demand 1 (docs/FORMAT.md, "What is promised"). Let a memory satisfy the precondition of the call (`call .pre x`: what
+  -- Total correctness with a frame, for demand 1 (docs/FORMAT.md, "What is proved"). Let a memory satisfy the precondition of the call (`call .pre x`: what
   -- the types of the parameters own and what the contract requires) and, separately, any assertion F. Then the run terminates after some number n of steps
   -- with a value v, in a memory that satisfies the postcondition for v and the same F. x has the lifetimes, the arguments and their machine values.
   abbrev pub TotallyCorrect : Type 2

@@ -18,7 +18,7 @@ use Rattle.theory_built.specs.LevelBlocks.{count-le}
 use Rattle.theory_built.specs.Structure.{size, count, start, bytesIn, keptAt, widthOf, bytesIn-is, level-at, count-below}
 
 module _ (S : Settings) (T : List ℕ) where
-  -- On the last level all blocks are kept, and as wide as they are long.
+  -- On the last level all blocks are kept, and their width is their length.
   pub kept-last : (l i : ℕ) → suc l ≡ S .levels → keptAt S T l i ≡ true
   unfolding isKept
   kept-last l i e = rw (eq-eqb (suc l) (S .levels) e)

@@ -15,7 +15,7 @@ module _ (at : ℕ → ℕ) (n : ℕ) where
     pub within : p + len ≤ n
     pub absent : (q : ℕ) → q < p → Same q p len → ⊥
 
-  -- A stretch around a first occurrence is one too.
+  -- Bytes that contain a first occurrence occur there first too.
   pub around : (s L p len : ℕ) → First p len → s ≤ p → p + len ≤ s + L → s + L ≤ n → First s L
   around s L p len f lo hi fits = record {
     within = fits;
@@ -62,7 +62,7 @@ module _ (at : ℕ → ℕ) (n : ℕ) where
       firstPair i pr lo hi end =
           (pr, around (start i) (min (b + b) (n - start i)) p len f lo (omega (arith, f .within)) (omega (arith, f .within)))
 
-      -- A block that holds a first occurrence is kept, and so is the next where the occurrence goes on there.
+      -- A block that contains the start of a first occurrence is kept, and so is the next block if the occurrence continues there.
       module _ (kept : ℕ → Type 0) (marks : Marks kept) where
         pub holds-kept : (i : ℕ) → Holds i p len → kept i
         holds-kept i h = go (decPair i)

@@ -19,7 +19,7 @@ use Rattle.format.specs.FindAnswerLaws.{select-lets}
 use Rattle.format.specs.RowRefusalLaws.{asks-last, asks-lets, row-number-last, row-number-plain}
 use Rattle.theory_paths.specs.OneText.{text-length}
 use Rattle.theory_paths.specs.Theorems as paths
-use Rattle.theory_counts.specs.Theorems as tallies
+use Rattle.theory_counts.specs.Theorems as counts
 
 -- The refusal of find for a counted byte if its total is below j.
 twelve : (t : List ℕ) (byte j : ℕ) → headerResult t ≡ 0 → isCounted t byte ≡ true → (1 ≤ j → j ≤ total t (numberOfByte t byte) → ⊥) → findRefusal t byte j ≡ 12
@@ -40,7 +40,7 @@ module _ (t : List ℕ) (v : checkResult t ≡ 0) (counted : isCounted t 10 ≡ 
   pass = accepted-header t v
 
   all-is : total t (numberOfByte t 10) ≡ countIn 10 T
-  all-is = tallies.total-of-text t v 10 counted
+  all-is = counts.total-of-text t v 10 counted
 
   added-few : (y : Bool) → cond y 1 0 ≤ 1
   added-few true = omega arith
@@ -75,7 +75,7 @@ module _ (t : List ℕ) (v : checkResult t ≡ 0) (counted : isCounted t 10 ≡ 
             (asks-lets t q (record { pass = pass; counted = counted; some-byte = some; number = e ∙ ap (λ (n : ℕ). n + 1) (sym all-is) })) h
         go (inr none) = omega arith
 
-    -- A text of no bytes has no row to add.
+    -- The empty text has no row to add.
     closed : at.textLength t ≡ 0 → endsOpen T ≡ false
     unfolding endsOpen
     closed z = rw (text-length t, z)

@@ -36,7 +36,7 @@ module _ (t : List ℕ) (v : checkResult t ≡ 0) where
   abbrev d : Linked t
   d = linked-facts t (accepted-links t v)
 
-  -- Every before, inside and skip is the text's count in the stretch that it names.
+  -- Every before, inside and skip is the number of occurrences in the part of the text that it is about.
   pub levels : (l : ℕ) → l < at.settings t .levels → Level t l
   levels = counts-facts t (accepted-counts t v)
 
@@ -53,7 +53,7 @@ module _ (t : List ℕ) (v : checkResult t ≡ 0) where
     pub total-of-text : total t (numberOfByte t byte) ≡ countIn byte (textOf t)
     total-of-text = rw (n .byte-is) at (finds.total-is t (header-facts t r) d levels (numberOfByte t byte) (n .number-below))
 
-    -- The place that a block of level 0 gives for its j-th byte, less what stands before it, is the place of the j-th byte of the
+    -- The place that a block of level 0 gives for its j-th byte, less the block's before, is the place of the j-th byte of the
     -- text, and the blocks entered on the way are those of its path.
     pub found-in-text : (i j o e : ℕ) → i < at.levelCount t 0 → at.before t 0 i (numberOfByte t byte) < j
         → finds.Lands t (header-facts t r) d levels (numberOfByte t byte) (n .number-below) 0 i (j - at.before t 0 i (numberOfByte t byte)) o e

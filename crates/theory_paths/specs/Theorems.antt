@@ -1,5 +1,5 @@
 -- Theorems about paths and about the text of a tree.
--- docs/FORMAT.md: "Which text a tree stands for", "The path of a place".
+-- docs/FORMAT.md: "The text that a tree represents", "The path of a place".
 use mathlib.Core.List.{List, _++_}
 use mathlib.Core.Option.{some}
 use mathlib.Core.Bool.{true}

@@ -25,7 +25,7 @@ module _ (t : List ℕ) where
         → Goes below (l + 1) (at.link t l (targetBlock t l i o) + targetPlace t l i o / b t (l + 1)) (targetPlace t l i o % b t (l + 1)) vs x
         → Goes (suc below) l i o (visit l i o ∷ visit l (targetBlock t l i o) (targetPlace t l i o) ∷ vs) x
 
-  -- What lets a path through.
+  -- Conditions under which a path goes on.
 
   provided-some : (c : Bool) (r : Option Path) (q : Path) → provided c r ≡ some q → (c ≡ true) × (r ≡ some q)
   provided-some true r q h = (refl, h)

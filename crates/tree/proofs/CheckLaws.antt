@@ -1,4 +1,4 @@
--- The verdict, question by question.
+-- The result of the check, question by question.
 use mathlib.Core.List.{List}
 use mathlib.Core.Bool.{true, false}
 use mathlib.Core.Path.{_≡_, sym, _∙_}
@@ -12,7 +12,7 @@ use Rattle.layout.specs.Header.{headerAnswer}
 use Rattle.layout.specs.HeaderFields.{HeaderOf, header-refused}
 
 module _ (t : List ℕ) where
-  -- A header's refusal is the verdict.
+  -- A refusal of the header is the result of the check.
   pub header-number : (x : HeaderAnswer) (q : ℕ) → x ≡ headerAnswer t → x ≡ Refused q → q ≡ checkResult t
   header-number x q is e =
       let z = header-refused t x is q e in

@@ -1,5 +1,5 @@
 -- The demands on build and check, as theorems over what their calls promise.
--- docs/FORMAT.md: "What is promised".
+-- docs/FORMAT.md: "What is proved".
 use mathlib.Core.List.{List, _++_, [], _∷_}
 use mathlib.Core.Path.{_≡_, sym, ap, _∙_, refl}
 use mathlib.Core.Logic.{_↔_}
@@ -22,7 +22,7 @@ use Rattle.format.specs.AnswerLaws.{asks-pass}
 use Rattle.theory_built.specs.BlockSizes.{Taken}
 use Rattle.theory_accepted.specs.AcceptedTrees.{Represents, accepts, one-text, built-text, built-checked, accepted-stands}
 use Rattle.theory_paths.specs.Theorems as paths
-use Rattle.theory_edges.specs.Theorems as margins
+use Rattle.theory_edges.specs.Theorems as edges
 use Rattle.build_by_search.specs.declared.BuildAnswer.{BuildAnswer}
 use Rattle.build_by_search.specs.BuildAnswer.{buildReply}
 use Rattle.build_by_search.proofs.build.Reads as build-reads
@@ -109,8 +109,8 @@ module _ (κs : Lfts 3) (text : RefT (List ℕ)) (leaf arity levels : ℕ) (coun
   pub build-span : (p len : ℕ) (lent : List ℕ) → p + len ≤ at.textLength tree → len ≤ length lent
       → (spanRefusal tree p len (length lent) ≡ 0) × (spanBuffer tree p len lent ≡ stretch T p len ++ drop len lent)
   build-span p len lent h room = (
-    margins.span-good tree build-accepted p len (length lent) h room,
-    margins.span-of-text tree build-accepted p len lent h room ∙ ap (λ (U : List ℕ). stretch U p len ++ drop len lent) build-text,
+    edges.span-good tree build-accepted p len (length lent) h room,
+    edges.span-of-text tree build-accepted p len lent h room ∙ ap (λ (U : List ℕ). stretch U p len ++ drop len lent) build-text,
   )
 
 -- The contract determines the result and the buffer, so they cannot depend on the base or the modulus that a builder uses.

@@ -41,7 +41,7 @@ module _ (t : List ℕ) (size level b : ℕ) (on : OnLevel t size level b) where
   unfolding nextAt keptBlock pointingBlock
   look-past i o p = rw (le-ltb i (at.levelCount t level) p)
 
--- What the kind and the gap of a block of the table say.
+-- What the kind and the gap of a block in the table imply.
 module _ (t : List ℕ) (size level b i o k : ℕ) (there : InTable t size level b i) (k-is : k ≡ at.kind t level i) where
   pub look-kept : k ≡ 0 → Kept (record { 0 = i }) (record { 0 = o }) ≡ nextAt t level i o
   unfolding nextAt keptBlock at.isKept

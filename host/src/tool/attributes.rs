@@ -18,7 +18,7 @@ impl Access {
         Access { bits: metadata.mode() & 0o777, group: metadata.gid() }
     }
 
-    /// The bits for a file of this group: another group than ours gets what everybody has, and no more.
+    /// The bits for a file of this group. A group other than ours gets only what everybody has.
     fn narrowed(self, group: u32) -> u32 {
         let everybody = (self.bits & 0o007) << 3;
         if self.group == group {
@@ -28,7 +28,7 @@ impl Access {
         }
     }
 
-    /// Give a new file, made for its owner alone, the permissions that all of these have. It keeps its owner, and takes the group of the first where the
+    /// Give a new file, made for its owner alone, the permissions that all of these have. It keeps its owner, and takes the group of the first if the
     /// system lets it. A file system without permissions leaves the file as it was made.
     pub fn give(all: &[Access], file: &File) -> io::Result<()> {
         let Some(first) = all.first() else { return Ok(()) };

@@ -12,7 +12,7 @@ use crate::{progress, Failure};
 use std::fs;
 use std::path::Path;
 
-/// A book in the table: what was built, or none where it failed.
+/// A book in the table: what was built, or none if the book failed.
 struct Line {
     book: String,
     built: Option<Figures>,
@@ -30,7 +30,7 @@ struct Figures {
 /// What was done so far.
 struct Batch<'a> {
     given: &'a Given,
-    /// A tree goes to standard output, and so all reports to standard error.
+    /// A tree goes to standard output, so all reports go to standard error.
     standard: bool,
     lines: Vec<Line>,
     warnings: Vec<(String, Warning)>,
@@ -44,7 +44,7 @@ pub fn build(given: &Given, order: Order, jobs: usize) -> Result<(), Failure> {
         standard |= target(given, Some(book), &TREES)?.is_none();
     }
     let mut batch = Batch { given, standard, lines: Vec::new(), warnings: Vec::new(), status: 0 };
-    // processors that are left where there are fewer books share the trials of each
+    // with fewer books than processors, the other processors share the trials of each book
     let request = Request { silent: true, jobs: (jobs / books.len()).max(1), ..order.request };
     let order = Order { request, ..order };
     let costs: Vec<u64> = books.iter().map(|book| fs::metadata(book).map_or(1, |file| file.len().max(1))).collect();

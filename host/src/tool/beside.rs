@@ -17,7 +17,7 @@ use std::path::{Path, PathBuf};
 const MAX_MANIFEST: u64 = 65_536;
 /// The largest number of bytes of a manifest for the values of the options; the figures of the tree take less than the rest.
 pub const MOST_DESCRIBED: usize = 60_000;
-/// A pipe of that name is not waited for. Linux on x86-64.
+/// O_NONBLOCK of Linux on x86-64: opening a pipe of that name does not wait.
 const O_NONBLOCK: c_int = 0o4000;
 
 /// A manifest, and where it is.
@@ -42,7 +42,7 @@ impl Unusable {
         }
     }
 
-    /// Said where the tree is read without it.
+    /// The warning if the tree is read without its manifest.
     pub fn warn(&self, given: &Given) {
         if !given.quiet() {
             say::tell(&format!("codebook: {}: warning: the manifest is not used: {}\n", self.name, self.words));
@@ -99,7 +99,7 @@ impl Beside {
         Ok(beside)
     }
 
-    /// A failure where the book is closed on this day, the clock's where none is given.
+    /// A failure if the book is closed on this day; without a day, on the clock's.
     fn open(&self, name: &str, today: Option<Day>) -> Result<(), Failure> {
         let Some(term) = self.manifest.term() else { return Ok(()) };
         let today = today.or_else(Day::today).ok_or_else(|| Failure::refused(name, "the clock's day is not in the years 2000 to 2099"))?;
@@ -123,7 +123,7 @@ impl Beside {
         }
     }
 
-    /// A failure where a manifest is left beside a new tree that it does not describe.
+    /// A failure if an old manifest would stay beside a new tree that it does not describe.
     pub fn not_left(target: &Path, tree: Tree, bytes: &[u8]) -> Result<(), Failure> {
         let Some(beside) = Beside::read(Some(target)).map_err(|unusable| unusable.failure())? else { return Ok(()) };
         let name = target.to_string_lossy();
@@ -153,7 +153,7 @@ impl Beside {
     }
 }
 
-/// No more than it takes to see that there are too many.
+/// Reads one byte more than a manifest may have, so that a longer one is seen.
 fn first_bytes(file: File) -> io::Result<Vec<u8>> {
     let mut bytes = Vec::new();
     file.take(MAX_MANIFEST + 1).read_to_end(&mut bytes)?;

@@ -1,4 +1,4 @@
-//! What a reader would miss in a book, or in several.
+//! Warnings on a book, or on several.
 
 use crate::build::share;
 use crate::say::{grouped, several};
@@ -43,7 +43,7 @@ impl Warning {
         }
     }
 
-    /// The same of several books, of which `first` is the first; figures are the sums of all.
+    /// The message for several books, of which `first` is the first; figures are sums over all books.
     fn words_of_several(&self, books: &str, first: &str) -> String {
         match self {
             Warning::NoRows => format!("{books} have no rows yet; the first is {first}"),
@@ -64,7 +64,7 @@ impl Warning {
         }
     }
 
-    /// One warning for both: how many rows or bytes they are about.
+    /// Joins two warnings of one kind: the sums of their rows or bytes.
     fn and(self, other: &Warning) -> Self {
         match (self, other) {
             (Warning::OtherRows(rows, first, shown), Warning::OtherRows(more, ..)) => Warning::OtherRows(rows + more, first, shown),
@@ -121,7 +121,7 @@ mod tests {
     use super::{lines, warnings, Warning};
 
     #[test]
-    fn what_a_reader_would_miss() {
+    fn warnings_on_a_book() {
         let warnings = |text: &[u8], counted: &[u8]| warnings(text, counted).iter().map(Warning::words).collect::<Vec<_>>();
         assert!(warnings(b"CH0501 1423\nCH0502 1424\r\nX 1", b"\n").is_empty());
         assert_eq!(warnings(b"", b"\n"), ["the book has no rows yet"]);

@@ -23,7 +23,7 @@ pub struct Built {
     pub chosen: Chosen,
     /// The book, and how it was rearranged.
     pub title: String,
-    /// Said after the report.
+    /// Warnings, printed after the report.
     pub besides: Option<by_columns::Compared>,
     /// The size that --small would give, if that is smaller than the text and the tree is not.
     pub small: Option<usize>,
@@ -145,7 +145,7 @@ impl Made {
     }
 }
 
-/// A failure where the tree by rows is smaller than that by columns, unless that is meant.
+/// A failure if the tree by rows is smaller than that by columns, unless --allow-larger is given.
 fn not_larger(given: &Given, text: &Input, built: &Built) -> Result<(), Failure> {
     match &built.besides {
         Some(compared) if compared.is_larger(built.chosen.tree.len()) && !given.has(&ALLOW_LARGER) => {
@@ -156,7 +156,7 @@ fn not_larger(given: &Given, text: &Input, built: &Built) -> Result<(), Failure>
     }
 }
 
-/// How a file that is written is named after the one that is read: its ending is put in place of one of `replaced`, else after the whole name, of which
+/// Names a written file after the one that is read: the new ending replaces one of `replaced`; otherwise it is appended to the whole name, of which
 /// any other ending is a part.
 pub struct Naming {
     pub replaced: &'static [&'static str],
@@ -221,7 +221,7 @@ pub fn counted(given: &Given) -> Result<Vec<u8>, Failure> {
     given.value(&COUNT).map_or(Ok(vec![10]), |word| given.reading(values::bytes(word)))
 }
 
-/// The settings that are given; none to have the short list tried.
+/// The settings that are given; none if the short list is to be tried.
 pub fn settings(given: &Given, counted: &[u8]) -> Result<Option<Settings>, Failure> {
     match (given.number(&LEAF)?, given.number(&ARITY)?, given.number(&LEVELS)?) {
         (None, None, None) => Ok(None),
@@ -252,7 +252,7 @@ pub fn chosen(name: &str, text: &[u8], request: &Request) -> Result<Chosen, Fail
     trials::best(text, request).map_err(|refusal| Failure::library(name, refusal, format!("{refusal}{}", cause(refusal, request))))
 }
 
-/// What was given that is refused.
+/// The argument that was refused, in words.
 fn cause(refusal: Refusal, request: &Request) -> String {
     match (refusal, &request.settings) {
         (Refusal::Settings, Some(settings)) => format!("; given: {}", shape(settings)),
@@ -297,7 +297,7 @@ pub fn listed(bytes: &[u8]) -> String {
     }
 }
 
-/// A tree's size beside its text's; no bytes have no share.
+/// A tree's size and its share of the text; the empty text has no share.
 pub fn share(tree: usize, text: usize) -> String {
     if text == 0 {
         return "an empty text".to_owned();

@@ -1,4 +1,4 @@
-//! Columns before rows: books rearranged, and their trees beside the plain ones.
+//! Books rearranged by columns, and their trees compared with those by rows.
 
 use crate::build::{self, Built};
 use crate::given::Given;
@@ -122,7 +122,7 @@ fn uneven(text: &[u8]) -> String {
     }
 }
 
-/// Why a tree's text is no book by columns of rows of this width: byte 10 must make the last column, and occur nowhere else.
+/// Why a tree's text is no book by columns with this width: byte 10 must fill the last column and occur nowhere else.
 pub fn mismatch(tree: Tree, width: u32) -> Result<Option<String>, Refusal> {
     let length = tree.text_length();
     let rows = length.checked_div(width).filter(|_| length % width == 0).ok_or(Refusal::Width)?;
@@ -135,7 +135,7 @@ pub fn mismatch(tree: Tree, width: u32) -> Result<Option<String>, Refusal> {
     Ok((!fits).then(|| wrong_width(width, length.into(), all)))
 }
 
-/// With the width of the rows if each byte 10 ends one.
+/// The message, with the width of the rows if each byte 10 ends one.
 fn wrong_width(width: u32, length: u64, ends: u64) -> String {
     let other = match length.checked_rem(ends) {
         Some(0) => format!("; its {} would end rows of {}", several(ends, "occurrence"), several(length / ends, "byte")),

@@ -1,4 +1,4 @@
-//! `check` and `verify`: is it a valid tree, with the digests that its maker printed, of that book?
+//! `check` and `verify`: whether a tree is valid, has the expected digests, and is a tree of a given book.
 
 use crate::beside::Beside;
 use crate::given::Given;
@@ -116,7 +116,7 @@ fn expected(given: &Given, option: &Opt) -> Result<Option<Digest>, Failure> {
     given.reading(values::digest(option.long, word)).map(Some)
 }
 
-/// A failure where a digest is not the expected one.
+/// A failure if a digest is not the expected one.
 fn differs(input: &Input, what: &str, due: Option<Digest>, found: Digest) -> Result<(), Failure> {
     match due {
         Some(due) if due != found => Err(Failure::refused(&input.name, format!("valid tree, but {what} is {found}, not {due}"))),

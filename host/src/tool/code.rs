@@ -64,7 +64,7 @@ fn prefix(given: &Given) -> Result<Vec<u8>, Failure> {
     Ok(prefix)
 }
 
-/// Print the rows of one tree; whether there are any.
+/// Print the rows of one tree. Returns whether there are any.
 fn rows(given: &Given, prefix: &[u8], path: Option<&Path>) -> Result<bool, Failure> {
     let unchecked = given.has(&UNCHECKED);
     let input = input::read(path, &TREE)?;

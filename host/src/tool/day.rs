@@ -27,7 +27,7 @@ impl Day {
         days_left(&digits, &digits).is_ok().then_some(Day(digits))
     }
 
-    /// The clock's day, in universal time; none outside of the years that the library knows.
+    /// The clock's day, in universal time; none outside the years that the library knows.
     pub fn today() -> Option<Self> {
         Day::read(&today())
     }
@@ -48,7 +48,7 @@ pub struct Term {
 }
 
 impl Term {
-    /// Is the book open on this day? By the proved call.
+    /// Whether the book is open on this day, by the proved call.
     pub fn is_open(&self, today: Day) -> Result<bool, Refusal> {
         open_on(&self.first.0, &self.last.0, &today.0)
     }
@@ -93,7 +93,7 @@ fn date_of(days: u64) -> String {
 mod tests {
     use super::{date_of, days_left, Day, Term};
 
-    /// The clock's dates, day by day, are those of the library.
+    /// The library accepts the clock's dates, day by day.
     #[test]
     fn dates_of_the_clock() {
         assert_eq!([0, 58, 59, 789, 10_957, 19_782].map(date_of), ["19700101", "19700228", "19700301", "19720229", "20000101", "20240229"]);

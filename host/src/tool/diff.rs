@@ -20,7 +20,7 @@ struct Row<'a> {
 }
 
 impl<'a> Row<'a> {
-    /// The bytes before the first space; the whole row where there is none.
+    /// The bytes before the first space; the whole row if there is none.
     fn code(&self) -> &'a [u8] {
         self.bytes.split(|&byte| byte == b' ').next().unwrap_or_default()
     }
@@ -35,7 +35,7 @@ enum Change<'a> {
 }
 
 pub fn diff(given: &Given) -> Result<(), Failure> {
-    let (one, other) = (text(given, given.file(0)).map_err(Failure::trouble)?, text(given, given.file(1)).map_err(Failure::trouble)?);
+    let (one, other) = (text(given, given.file(0)).map_err(Failure::with_status_2)?, text(given, given.file(1)).map_err(Failure::with_status_2)?);
     let (old, new) = (rows(&one.bytes), rows(&other.bytes));
     let changes = changes(&old, &new);
     let printed: Vec<u8> = changes.iter().flat_map(|change| if given.json() { change.object().line().into_bytes() } else { change.line() }).collect();

@@ -61,8 +61,8 @@ impl Failure {
         Failure { status, ..Failure::usage("") }
     }
 
-    /// The same as trouble, where status 1 has another meaning.
-    pub fn trouble(self) -> Self {
+    /// The same failure with status 2, for commands in which status 1 has another meaning.
+    pub fn with_status_2(self) -> Self {
         Failure { status: 2, ..self }
     }
 
@@ -70,7 +70,7 @@ impl Failure {
         self.status
     }
 
-    /// Print it on standard error, and with --json as an object on standard output.
+    /// Print the failure on standard error, and with --json as an object on standard output.
     pub fn tell(&self, json: bool) {
         self.tell_to(json, false);
     }
@@ -84,7 +84,7 @@ impl Failure {
         let usage = self.usage.as_ref().map_or(String::new(), |usage| format!("usage: {usage}\n"));
         say::tell(&format!("codebook: {name}{}\n{usage}", self.words));
         if json && self.object {
-            // nobody may read it; the call has failed already
+            // an error in printing changes nothing: the call has failed already
             let _ = say::to(standard_error, &self.as_object().line());
         }
     }

@@ -39,7 +39,7 @@ impl Given {
                     return Ok(());
                 }
                 [b'-', b'-', ..] => self.long(word, &mut words)?,
-                // a negative number is a word, to be named as such where it is read
+                // a negative number is no option; the message about it comes from where it is read
                 [b'-', b'0'..=b'9', ..] | b"-" => self.words.push(word.clone()),
                 [b'-', letters @ ..] => self.short(letters, &mut words)?,
                 _ => self.words.push(word.clone()),
@@ -142,19 +142,19 @@ impl Given {
         self.value(option).map(|value| values::number(option.long, value).map_err(|words| self.usage(words))).transpose()
     }
 
-    /// The day that an option's value is.
+    /// An option's value as a day.
     pub fn day(&self, option: &Opt, word: &OsStr) -> Result<Day, Failure> {
         let text = word.to_string_lossy();
         let wrong = || self.usage(format!("{} is a day such as 2024-02-29, from 2000-01-01 to 2099-12-31, not '{text}'", option.long));
         Day::read(&text).ok_or_else(wrong)
     }
 
-    /// The number that a word is.
+    /// A word as a number.
     pub fn figure(&self, at: usize) -> Result<u32, Failure> {
         self.reading(values::number(self.command.words[at].name, &self.words[at]))
     }
 
-    /// What was read of a word, or the call's failure.
+    /// The value of a word, or the call's failure.
     pub fn reading<T>(&self, value: Result<T, String>) -> Result<T, Failure> {
         value.map_err(|words| self.usage(words))
     }

@@ -65,7 +65,7 @@ pub fn check(given: &Given) -> Result<(), Failure> {
     report(given, &object, &format!("{}: valid tree, and {} is its guide\n", input.name, guide.name))
 }
 
-/// Check that this is the guide of the tree. If not, the failure has both lengths.
+/// Checks that the guide is the tree's. If not, the failure has both lengths.
 pub fn check_guide(tree: Tree, guide: &Input) -> Result<(), Failure> {
     tree.check_guide(&guide.bytes).map_err(|refusal| {
         let due = tree.make_guide().map_or(0, |guide| guide.len() as u64);

@@ -78,13 +78,13 @@ fn usage(command: &Command) -> String {
     lines.join("\n") + "\n"
 }
 
-/// The first letter in capitals.
+/// The text with its first letter capitalized.
 pub fn capital(words: &str) -> String {
     let mut letters = words.chars();
     letters.next().map_or(String::new(), |first| first.to_uppercase().chain(letters).collect())
 }
 
-/// Words in lines, each after `indent`.
+/// Words broken into lines, each after `indent`.
 fn folded(words: &str, indent: &str) -> String {
     let mut text = String::new();
     let mut line = String::new();

@@ -101,7 +101,7 @@ fn layout(records: &[Record], code: Option<&Column>, cuts: Option<&Column>) -> R
         None => record.position(name),
     };
     let by_number = |code: usize, cuts: usize| {
-        // above the rows a line has no digit among its cuts
+        // a line above the rows has no digit among its cuts
         let is_header = |record: &&Record| !record.field(cuts).is_some_and(|field| field.iter().any(u8::is_ascii_digit));
         Layout { code, cuts, headers: records.iter().take_while(is_header).count() }
     };
@@ -157,7 +157,7 @@ fn code(field: &[u8]) -> Result<&[u8], String> {
     }
 }
 
-/// Controls, line ends, spaces of other kinds, marks without a width, and U+FFFD, which replaces what was no UTF-16. In bytes that are no UTF-8, controls.
+/// Controls, line ends, other kinds of space, zero-width characters, and U+FFFD, which replaces what was not UTF-16. In bytes that are not UTF-8: controls.
 fn is_unseen(code: &[u8]) -> bool {
     match std::str::from_utf8(code) {
         Ok(text) => {
@@ -232,7 +232,7 @@ fn report(given: &Given, words: &str, standard: bool) -> Result<(), Failure> {
     }
 }
 
-/// To standard output, unless the book goes there.
+/// Prints to standard output, unless the book goes there.
 fn print(words: &str, standard: bool) -> Result<(), Failure> {
     match standard {
         true => {

@@ -10,7 +10,7 @@ use std::os::fd::AsFd;
 use std::os::unix::fs::MetadataExt;
 use std::path::Path;
 
-/// What was read, and what to call it.
+/// The bytes that were read, and the input's name in messages.
 pub struct Input {
     pub name: String,
     pub bytes: Vec<u8>,
@@ -25,7 +25,7 @@ pub struct Limit {
 
 pub static TEXT: Limit = Limit { most: MAX_TEXT as u64, what: "a text", refusal: Some(Refusal::Text) };
 pub static TREE: Limit = Limit { most: MAX_TREE, what: "a tree", refusal: None };
-/// What `import` reads: besides code and cuts it has other columns, and two bytes for a character.
+/// A table for `import` may have other columns besides code and cuts, and two bytes a character.
 pub static TABLE: Limit = Limit { most: 16 * MAX_TEXT as u64, what: "a table", refusal: None };
 /// An entry for each 64 bytes of text, rounded up for each counted byte.
 pub static GUIDE: Limit = Limit { most: 4 * (MAX_TEXT as u64 / 64 + 4), what: "a guide", refusal: None };
@@ -53,7 +53,7 @@ pub struct Source {
     file: File,
 }
 
-/// A file on its device: what two names of it have in common.
+/// Device and inode number: two names of one file have the same.
 #[derive(Clone, Copy, PartialEq, Eq)]
 pub struct Identity(u64, u64);
 
@@ -70,7 +70,7 @@ fn standard_output() -> Option<Identity> {
     Identity::of(&file.metadata().ok()?)
 }
 
-/// The name among these of the file that standard output goes to, `/dev/stdout` excepted: what is printed would spoil that file.
+/// The one of these names that is the file that standard output goes to, except `/dev/stdout`: printing would damage that file.
 pub fn printed_upon<'a>(mut names: impl Iterator<Item = &'a OsStr>) -> Option<&'a OsStr> {
     let output = standard_output()?;
     names.find(|&name| name != "/dev/stdout" && fs::metadata(name).is_ok_and(|file| Identity::of(&file) == Some(output)))
@@ -115,7 +115,7 @@ impl Source {
         self.metadata().and_then(|metadata| Identity::of(&metadata))
     }
 
-    /// Read all of it, unless it is longer than it may be.
+    /// Reads the whole input, unless it is longer than allowed.
     pub fn read(self, limit: &Limit) -> Result<Input, Failure> {
         let Source { name, file } = self;
         let length = file.metadata().ok().filter(Metadata::is_file).map(|metadata| metadata.len());

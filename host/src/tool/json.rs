@@ -28,7 +28,7 @@ impl Object {
         self.member(name, &quoted(value))
     }
 
-    /// Bytes: a string where they are UTF-8, else the member `hex`.
+    /// Bytes: a string if they are UTF-8, otherwise the member `hex`.
     pub fn bytes(self, name: &str, bytes: &[u8]) -> Self {
         match std::str::from_utf8(bytes) {
             Ok(text) => self.text(name, text),

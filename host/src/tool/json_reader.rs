@@ -61,7 +61,7 @@ impl<'a> Reader<'a> {
         format!("{due} is expected at byte {}, in line {line}", self.at)
     }
 
-    /// Take this byte, white space before it aside.
+    /// Skips white space and takes this byte.
     fn expect(&mut self, due: u8) -> Result<(), String> {
         if self.peek() != Some(due) {
             return Err(self.wrong(&format!("'{}'", char::from(due))));

@@ -1,4 +1,4 @@
-//! `licence`: is a book open, how many days are left, the same day a year later.
+//! `licence`: whether a book is open, how many days are left, and the same day a year later.
 
 use crate::given::Given;
 use crate::json::Object;
@@ -52,7 +52,7 @@ fn days(given: &Given, due: usize) -> Vec<OsString> {
     days
 }
 
-/// The first that is no date is named, or else all of them.
+/// The message names the first day that is no date, or else all of them.
 fn refused(refusal: Refusal, days: &[OsString]) -> Failure {
     let wrong = days.iter().find(|day| days_left(day.as_bytes(), day.as_bytes()).is_err());
     let given = match (refusal, wrong) {

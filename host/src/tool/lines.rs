@@ -20,7 +20,7 @@ pub struct Lines {
     part: Vec<u8>,
     /// Bytes of the part that wait.
     waiting: usize,
-    /// How the parts before were written; none where there was no line.
+    /// The result of writing the earlier parts; none if there was no line.
     written: Option<Result<(), Failure>>,
 }
 
@@ -75,7 +75,7 @@ impl Lines {
         }
     }
 
-    /// Writes what waits; then there is room for a part.
+    /// Writes the waiting bytes; then there is room for a part.
     fn write(&mut self) {
         if self.waiting > 0 {
             self.written = Some(print(self.written.take(), &self.part[..self.waiting]));
@@ -138,7 +138,7 @@ impl Label {
         Label { number, text: u128::from_le_bytes(text), length: end + 2 }
     }
 
-    /// The label of another number. From one number to the next mostly one digit changes.
+    /// Changes the label to another number. From one number to the next, mostly one digit changes.
     fn next(self, number: u32) -> Self {
         if number == self.number.wrapping_add(1) && number % 10 != 0 {
             Label { number, text: self.text + (1 << (8 * (self.length - 3))), ..self }
@@ -172,7 +172,7 @@ mod tests {
         }
     }
 
-    /// Lines that still wait: no more than a part of them.
+    /// Lines that still wait are never more than a part.
     fn waiting(json: bool, rows: &[(u32, &[u8])]) -> String {
         let mut lines = Lines::new(json);
         assert!(lines.is_empty());
@@ -198,7 +198,7 @@ mod tests {
         }
     }
 
-    /// A part that is full is written, and lines that are longer than a part.
+    /// A full part is written, and so is a line longer than a part.
     #[test]
     fn no_more_than_a_part_waits() {
         let mut lines = Lines::new(false);

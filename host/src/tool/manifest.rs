@@ -67,7 +67,7 @@ impl Figures {
         ]
     }
 
-    /// The first of them that a tree has otherwise, with both values.
+    /// The first figure that differs from the tree's, with both values.
     pub fn difference(&self, found: &Figures) -> Option<String> {
         self.shown().into_iter().zip(found.shown()).find_map(|((what, due), (_, found))| {
             let (due, found) = (due?, found?);
@@ -169,13 +169,13 @@ impl Manifest {
         self.others.iter().fold(object, |object, (name, raw)| object.raw(name, raw)).line()
     }
 
-    /// Maker and edition, with what a terminal would take for itself escaped.
+    /// Maker and edition, with control characters for a terminal escaped.
     pub fn known(&self) -> Vec<String> {
         [&self.maker, &self.edition].into_iter().flatten().map(|value| value.escape_debug().to_string()).collect()
     }
 }
 
-/// A member that is there.
+/// A member that the object has.
 fn number(object: Object, name: &str, value: Option<u64>) -> Object {
     match value {
         Some(value) => object.number(name, value),
@@ -190,7 +190,7 @@ fn text(object: Object, name: &str, value: Option<impl ToString>) -> Object {
     }
 }
 
-/// Enter a member once; `value` is what was read, or what it should be.
+/// Enters a member once; `value` is what was read, or the expected form as an error.
 fn set<T>(member: &mut Option<T>, name: &str, value: Result<T, &str>) -> Result<(), String> {
     if member.is_some() {
         return Err(format!("it has two members '{name}'"));
@@ -227,7 +227,7 @@ fn bytes(value: Value) -> Result<Vec<u8>, &'static str> {
     values.into_iter().map(byte).collect::<Option<_>>().ok_or("a list of bytes, 0 to 255")
 }
 
-/// A name without a folder: a manifest from anyone has no other file read.
+/// A name without a folder, so that a manifest from anyone cannot name a file elsewhere.
 fn file_name(value: Value) -> Result<String, &'static str> {
     let is_plain = |name: &String| !name.is_empty() && name != "." && name != ".." && !name.contains(['/', '\0']);
     string(value).ok().filter(is_plain).ok_or("the name of a file beside the tree")
@@ -281,7 +281,7 @@ mod tests {
         assert_eq!(read(r#"{"first":"2024-01-01"}"#).map(|manifest| (manifest.first.is_some(), manifest.term())), Ok((true, None)));
     }
 
-    /// What is written is read again as it was, whichever members there are.
+    /// A manifest that is written and read again is the same, whichever members it has.
     #[test]
     fn round_trips() {
         let all = whole();
@@ -300,7 +300,7 @@ mod tests {
     }
 
     #[test]
-    fn what_is_wrong_is_said() {
+    fn errors_name_the_cause() {
         let wrong = |text: &str, words: &str| assert_eq!(Manifest::read(text.as_bytes()), Err(words.to_owned()), "{text}");
         wrong("", "a value is expected at byte 0, in line 1");
         wrong("[]", "it is not an object");
@@ -362,7 +362,7 @@ mod tests {
         }
     }
 
-    /// No input makes it panic: every part of a good manifest, and each with one byte changed. What is read of such a one is written and read again.
+    /// No input makes the reader panic: every prefix of a valid manifest, and each with one byte changed. What is read from these is written and read again.
     #[test]
     fn any_bytes_are_read() {
         let line = whole().line();

@@ -43,7 +43,7 @@ prints, apart from the tree, and give it to
 .BR \"check \\-\\-text\\-sha256\" ;
 or compare the tree with its book by
 .BR verify .
-A digest is as good as the way it came.
+A digest is only as trustworthy as its source.
 ";
 
 /// All of codebook.1.
@@ -71,7 +71,7 @@ fn option(option: &Opt) -> String {
     format!(".TP\n.B {}\n{}\n", plain(&option.forms()), plain(option.help))
 }
 
-/// Words without the meaning that some bytes have in a page.
+/// Words with the bytes that have a meaning in a manual page escaped.
 fn plain(words: &str) -> String {
     let words = words.replace('\\', "\\e").replace('-', "\\-").replace('"', "\\(dq");
     if words.starts_with(['.', '\'']) {

@@ -1,4 +1,4 @@
-//! What a misspelled word may have been meant to be.
+//! Suggestions for misspelled words.
 
 /// The known word that is nearest: it begins with the word, or few letters differ.
 pub fn nearest<'a>(word: &str, known: impl IntoIterator<Item = &'a str>) -> Option<&'a str> {

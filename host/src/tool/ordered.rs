@@ -6,7 +6,7 @@ use std::panic::{catch_unwind, resume_unwind, AssertUnwindSafe};
 use std::sync::{Condvar, Mutex, MutexGuard, PoisonError};
 use std::thread;
 
-/// What is to be done, and what is done and not taken yet.
+/// The items to do, and the results that are not taken yet.
 struct Queue<T> {
     items: usize,
     /// Items that are worked on or wait to be taken.

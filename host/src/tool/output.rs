@@ -14,10 +14,10 @@ use std::path::Path;
 const EXISTS: &str = "exists; --force overwrites it";
 
 pub struct Output {
-    /// What to call it.
+    /// The output's name in messages.
     pub name: String,
     place: Place,
-    /// What is still to be written, where it is no file.
+    /// The bytes still to be written, if the output is no file.
     waiting: Vec<u8>,
 }
 
@@ -136,7 +136,7 @@ impl Output {
         }
     }
 
-    /// Store what was filled and give it its name; with a manifest, its own first: whatever comes between, no tree is left without the term of its licence.
+    /// Stores the file and gives it its name. A manifest gets its name first, so that an interruption leaves no tree without its licence dates.
     pub fn finish(self, manifest: Option<Output>) -> Result<(), Failure> {
         let Output { name, place, waiting } = self;
         let written = match (place, manifest) {
@@ -154,7 +154,7 @@ impl Output {
 
 fn unwritten(name: &str, error: &io::Error) -> Failure {
     match error.kind() {
-        // it has come meanwhile
+        // a file of that name appeared meanwhile
         ErrorKind::AlreadyExists => Failure::file(name, EXISTS),
         _ => Failure::file(name, format!("cannot be written: {error}")),
     }
@@ -174,7 +174,7 @@ pub fn report(given: &Given, standard: bool, object: &Object, words: &str) -> Re
     say::print(line.as_bytes())
 }
 
-/// What is read must not be written, under whatever name.
+/// A failure if the file to write is one that is read, under whatever name.
 fn apart(name: &str, metadata: &Metadata, source: &Source) -> Result<(), Failure> {
     let identity = Identity::of(metadata);
     if identity.is_some() && identity == source.identity() {

@@ -1,4 +1,4 @@
-//! `page`: trees in one HTML file, which checks and answers them by the library's WebAssembly module in it.
+//! `page`: trees in one HTML file, which checks and queries them with the library's WebAssembly module.
 
 use crate::beside::Beside;
 use crate::check::open;
@@ -96,7 +96,7 @@ fn described(path: Option<&Path>, name: &str, tree: Tree) -> Result<Manifest, Fa
     Ok(beside.manifest)
 }
 
-/// The page with all that belongs in it. Only the script and the style of these digests are let run, and nothing is let out.
+/// The page with its script, style, module and data. Its policy allows only this script and this style, by their digests, and no connection.
 fn html(title: &str, module: &[u8], digest: &str, books: Vec<Object>) -> String {
     let allowed = |text: &str| format!("'sha256-{}'", base64(&digest_text(text.as_bytes()).0));
     let policy = format!(
@@ -117,7 +117,7 @@ fn html(title: &str, module: &[u8], digest: &str, books: Vec<Object>) -> String 
     filled(&parts)
 }
 
-/// The page with each mark replaced, in their order; what is put in is not searched for marks.
+/// The page with each placeholder replaced, in order; what is put in is not searched for placeholders.
 fn filled(parts: &[(&str, &str)]) -> String {
     let (mut page, mut rest) = (String::new(), PAGE);
     for (mark, part) in parts {
@@ -129,7 +129,7 @@ fn filled(parts: &[(&str, &str)]) -> String {
     page + rest
 }
 
-/// What the script reads: the books, the words of refusals, the settings that build tries. No `<` is left in it, so that no text ends its element.
+/// The script's data: the books, the texts of refusals, the settings that build tries. It contains no `<`, so that no text ends its element.
 fn data(books: Vec<Object>) -> String {
     let words = |number: u32| {
         Refusal::from_number(number).map(|refusal| refusal.to_string().split_once(": ").map_or(String::new(), |(_, words)| words.to_owned()))

@@ -45,7 +45,7 @@ pub fn picture(given: &Given) -> Result<(), Failure> {
     output::report(given, standard, &Object::new().text("tree", &input.name).text("picture", &name), &words)
 }
 
-/// All of the drawing.
+/// The whole drawing.
 fn draw(name: &str, tree: Tree) -> String {
     let (mut body, mut y, mut shown) = (head(name, tree), 96, Shown::default());
     for (number, level) in tree.levels().iter().enumerate() {
@@ -143,7 +143,7 @@ fn shares(blocks: &[Block], length: u64) -> Vec<Share> {
     pixels
 }
 
-/// From the bottom up the share that is kept, and on it the share that points, in the colour of the place; equal neighbours as one.
+/// Draws the share that is kept at the bottom, and above it the share that points, in the colour of its place. Equal neighbours are one shape.
 fn shares_drawn(pixels: &[Share], length: u64, y: usize) -> String {
     let height = |share: u64| ((TALL as u64 * share + length / 2) / length) as usize;
     let look = |share: &Share| {
@@ -185,7 +185,7 @@ fn arrow(from: usize, to: usize, y: usize) -> String {
 /// Draws a sample of what the legend names, at a place.
 type Sample<'a> = &'a dyn Fn(usize, usize) -> String;
 
-/// What the drawing has, with samples, in as many lines as that takes; and where they end.
+/// The legend, with samples, in as many lines as needed. Returns where it ends.
 fn legend(y: usize, shown: Shown) -> (String, usize) {
     let arrow_at = |x: usize, y: usize| arrow(x + 58, x, y + 22).replace(&format!("V{}", y + 22), "");
     let entries: [(bool, usize, Sample, &str); 5] = [
@@ -215,7 +215,7 @@ fn words(x: usize, y: usize, anchor: &str, words: &str) -> String {
     format!("<text x=\"{x}\" y=\"{y}\" text-anchor=\"{anchor}\">{}</text>\n", escaped(words))
 }
 
-/// Words between tags.
+/// Text escaped for use between tags.
 fn escaped(words: &str) -> String {
     let plain: String = words.chars().filter(|letter| !letter.is_control()).collect();
     plain.replace('&', "&amp;").replace('<', "&lt;").replace('>', "&gt;")

@@ -8,7 +8,7 @@ use std::sync::{Mutex, PoisonError};
 use std::thread;
 use std::time::{Duration, Instant};
 
-/// How far the work is.
+/// The progress of the work.
 pub struct Progress<'a> {
     /// What the parts are called, and their shares of the work.
     what: &'static str,
@@ -18,7 +18,7 @@ pub struct Progress<'a> {
     /// What the parts that are done cost, and how many milliseconds had gone by then.
     spent: AtomicU64,
     time: AtomicU64,
-    /// Is the line on the terminal?
+    /// Whether the line is on the terminal.
     shown: Mutex<bool>,
 }
 
@@ -30,7 +30,7 @@ impl Progress<'_> {
         self.time.store(self.start.elapsed().as_millis() as u64, Ordering::Relaxed);
     }
 
-    /// Print something while the line is away.
+    /// Removes the line and prints something; the next tick shows the line again.
     pub fn above<T>(&self, print: impl FnOnce() -> T) -> T {
         let mut shown = self.shown.lock().unwrap_or_else(PoisonError::into_inner);
         clear(&mut shown);
@@ -43,7 +43,7 @@ impl Progress<'_> {
         line(self.what, self.done.load(Ordering::Relaxed), self.costs.len(), elapsed, estimate(spent, time, total, elapsed))
     }
 
-    /// Four times a second, and away with it at the end.
+    /// Shows the line four times a second, and removes it at the end.
     fn tick(&self, wait: &mpsc::Receiver<()>) {
         while wait.recv_timeout(Duration::from_millis(250)) == Err(RecvTimeoutError::Timeout) {
             if self.start.elapsed() >= Duration::from_millis(500) {

@@ -16,9 +16,9 @@ use codebook::{text_rows, Answer, Range, Refusal, Tree};
 /// A question.
 #[derive(Clone, Debug, PartialEq, Eq)]
 pub enum Question {
-    /// The first and the last row, from 1; the last one of the book where none is given.
+    /// The first and the last row, from 1; without a last one, the book's last row.
     Rows(u32, Option<u32>),
-    /// The same of a book by columns, and the width of its rows.
+    /// The same for a book by columns, with the width of its rows.
     ColumnRows(u32, Option<u32>, u32),
     Byte(u32),
     Run(u32),
@@ -33,7 +33,7 @@ pub enum Question {
     Text,
 }
 
-/// What is printed: for the eye, or objects for programs.
+/// The output: text, or objects for programs.
 struct Page {
     json: bool,
     bytes: Vec<u8>,
@@ -149,7 +149,7 @@ impl Question {
         }
     }
 
-    /// A failure if the tree does not agree with its manifest, or its rows are not read this way.
+    /// A failure if the tree does not agree with its manifest, or if the manifest says that rows are read in another way.
     fn fits(&self, beside: &Beside, name: &str, tree: Tree) -> Result<(), Failure> {
         beside.describes(name, &Figures::of(tree, None))?;
         let other = match self {
@@ -160,7 +160,7 @@ impl Question {
         other.map_or(Ok(()), |words| Err(reasons::refused(name, self, &words)))
     }
 
-    /// Why the tree is not one that the question is meant for.
+    /// Why the question does not apply to the tree.
     fn mismatch(&self, tree: Tree) -> Result<Option<String>, Refusal> {
         match *self {
             Question::ColumnRows(_, _, width) => by_columns::mismatch(tree, width),
@@ -222,7 +222,7 @@ impl Question {
                 let text = tree.text()?;
                 page.add("", || Object::new().number("length", text.len()).bytes("text", &text));
             }
-            // no copy of a long text
+            // a long text is not copied
             _ => page.bytes = tree.text()?,
         }
         Ok(())
@@ -239,7 +239,7 @@ fn one_row(tree: Tree, guide: Option<&[u8]>, q: u32) -> Result<Vec<u8>, Refusal>
     guide.map_or_else(|| tree.row(q), |guide| tree.row_guided(guide, q))
 }
 
-/// The text from the first row to the last, ends included: two finds and a span, and not two finds for each row.
+/// The text from the first row to the last, ends included, by two finds and one span rather than two finds for each row.
 fn stretch(tree: Tree, guide: Option<&[u8]>, first: u32, last: u32) -> Result<Vec<u8>, Refusal> {
     let (length, rows) = (tree.text_length(), tree.row_count()?);
     // all rows of a book that has none

@@ -50,7 +50,7 @@ pub fn typed(byte: u8) -> String {
     }
 }
 
-/// Several, as a call takes them.
+/// Several bytes, as a call takes them.
 pub fn all_typed(bytes: &[u8]) -> String {
     if bytes.is_empty() {
         return "none".to_owned();
@@ -81,7 +81,7 @@ fn why(refusal: Refusal, question: &Question, tree: Tree) -> Option<String> {
     }
 }
 
-/// From 1 to the last.
+/// The range from 1 to the last, in words.
 fn numbers(what: &str, last: u64, none: &str) -> String {
     match last {
         0 => none.to_owned(),

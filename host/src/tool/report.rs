@@ -1,4 +1,4 @@
-//! What a build reports of a book.
+//! The report of a build.
 
 use crate::book::{self, Warning};
 use crate::build::{listed, shape, share, Built};
@@ -12,20 +12,20 @@ use codebook::{text_rows, Settings, Tree};
 
 /// A tree that was built, and its report.
 pub struct Report {
-    /// The names of the book, of the tree, and of the manifest where one is written.
+    /// The names of the book, of the tree, and of the manifest if one is written.
     pub book: String,
     pub tree: String,
     pub manifest: Option<String>,
     /// Bytes and rows of the book.
     pub length: usize,
     pub rows: u64,
-    /// Without the tree's bytes, which are written by then.
+    /// The trials, without the tree's bytes, which are written by then.
     built: Built,
-    /// What was found of the tree: its size, its layout, and the size that it has without edges where it has some.
+    /// The tree's size and layout, and its size without edges if it has edges.
     pub size: usize,
     layout: u32,
     without_edges: Option<u64>,
-    /// None where nothing is reported.
+    /// None if nothing is reported.
     digests: Option<Digests>,
     pub warnings: Vec<Warning>,
 }
@@ -51,7 +51,7 @@ impl Report {
         }
     }
 
-    /// What was tried, what was chosen and why, and the tree beside the text.
+    /// The trials, the choice and its reason, and the size of the tree next to that of the text.
     pub fn whole(&self) -> String {
         let Built { chosen, title, besides, .. } = &self.built;
         let mut text = format!("{title}: {} bytes\n", grouped(self.length as u64));
@@ -68,7 +68,7 @@ impl Report {
         text + &besides.as_ref().map_or(String::new(), |compared| compared.words(self.size))
     }
 
-    /// One of several.
+    /// The line of one book of several.
     pub fn line(&self) -> String {
         let digests = self.digests.map_or(String::new(), |Digests { tree, text }| format!("; SHA-256 of the tree {tree}, of its text {text}"));
         let manifest = self.manifest.as_ref().map_or(String::new(), |name| format!("; manifest {name}"));

@@ -3,7 +3,7 @@
 use crate::Failure;
 use std::io::{self, ErrorKind, Write};
 
-/// Write to standard output. A reader that has seen enough is no failure.
+/// Write to standard output. A closed pipe is no failure.
 pub fn print(bytes: &[u8]) -> Result<(), Failure> {
     match write(bytes) {
         Err(error) if error.kind() != ErrorKind::BrokenPipe => Err(unwritten(&error)),
@@ -31,7 +31,7 @@ pub fn tell(words: &str) {
     let _ = io::stderr().write_all(words.as_bytes());
 }
 
-/// A report: on standard error where a tree goes to standard output, else there.
+/// Prints a report: on standard error if a tree goes to standard output, otherwise on standard output.
 pub fn to(standard_error: bool, text: &str) -> Result<(), Failure> {
     if standard_error {
         tell(text);

@@ -44,7 +44,7 @@ fn outside_quotes(line: &[u8], separator: u8) -> bool {
 pub struct Record {
     pub line: usize,
     pub fields: Vec<Vec<u8>>,
-    /// Why its fields are not to be trusted.
+    /// Why the record is malformed.
     pub broken: Option<&'static str>,
 }
 
@@ -57,13 +57,13 @@ impl Record {
         self.broken.is_none() && self.fields.iter().all(Vec::is_empty)
     }
 
-    /// The field of this name; capitals or not.
+    /// The field of this name, in upper or lower case.
     pub fn position(&self, name: &str) -> Option<usize> {
         let name = name.to_lowercase();
         self.fields.iter().position(|field| String::from_utf8_lossy(field).to_lowercase() == name)
     }
 
-    /// Its fields for a message.
+    /// The record's fields for a message.
     pub fn shown(&self) -> String {
         let fields: Vec<String> = self.fields.iter().take(20).map(|field| format!("'{}'", field[..field.len().min(40)].escape_ascii())).collect();
         fields.join(", ")
@@ -88,7 +88,7 @@ pub fn records(text: &[u8], separator: Separator) -> impl Iterator<Item = Record
     })
 }
 
-/// How long the line end at the start of some bytes is; 0 where there is none.
+/// The length of the line end at the start of some bytes; 0 if there is none.
 fn line_end(bytes: &[u8]) -> usize {
     match bytes {
         [13, 10, ..] => 2,
@@ -151,7 +151,7 @@ fn broken(bytes: &[u8], separator: u8) -> (Record, usize) {
     (Record { line: 0, fields, broken: Some("its quotes are not those of a field") }, length)
 }
 
-/// The field at the start of some bytes, without its quotes, and its length with them. None where its quotes are wrong.
+/// The field at the start of some bytes, without its quotes, and its length with them. None if its quotes are wrong.
 fn field(bytes: &[u8], separator: u8) -> Option<(Vec<u8>, usize)> {
     let ends = |byte: &u8| *byte == separator || matches!(byte, 10 | 13);
     let start = bytes.iter().take_while(|&&byte| byte == b' ' && byte != separator).count();

@@ -1,4 +1,4 @@
-//! Files under hidden names are removed where a signal ends the tool.
+//! Removes files under hidden names if a signal ends the tool.
 
 use std::ffi::CString;
 use std::os::raw::{c_char, c_int, c_ulong};
@@ -49,7 +49,7 @@ static BUSY: AtomicUsize = AtomicUsize::new(0);
 static INSTALLED: Once = Once::new();
 
 impl Hidden {
-    /// Remove this file where a signal ends the tool. To be called while signals are held, in the same `held` as the making of the file.
+    /// Enters this file in the list of those that a signal removes. Call it inside the same `held` as the creation of the file.
     pub fn remember(path: &Path) -> &'static Hidden {
         let path = CString::new(path.as_os_str().as_bytes()).map_or(ptr::null_mut(), CString::into_raw);
         let hidden: &'static mut Hidden = Box::leak(Box::new(Hidden { path: AtomicPtr::new(path), next: ptr::null() }));
@@ -69,14 +69,14 @@ impl Hidden {
     }
 }
 
-/// Make or name files while no signal ends the tool: one that comes is handled afterwards. Not to be called within itself.
+/// Creates or names files while signals are held back; a signal that arrives is handled afterwards. It must not be nested.
 pub fn held<T>(work: impl FnOnce() -> T) -> T {
     INSTALLED.call_once(install);
     let _held = Held::begin();
     work()
 }
 
-/// The signals that this thread let through before.
+/// The signals that this thread did not block before.
 struct Held(SignalSet);
 
 impl Held {
@@ -113,7 +113,7 @@ impl Drop for Held {
 
 fn install() {
     for number in ENDING {
-        // Safety: the action only calls what may be called in one (signal-safety(7)).
+        // Safety: the action calls only async-signal-safe functions (signal-safety(7)).
         unsafe {
             // a signal that is ignored, as by nohup, stays ignored
             if signal(number, remove as *const () as usize) == SIG_IGN {

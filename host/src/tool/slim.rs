@@ -60,7 +60,7 @@ fn carried(beside: &Beside, small: Tree, digests: &Digests) -> Manifest {
     Manifest { figures: Figures::of(small, Some(digests)), guide: Guide::default(), others: Vec::new(), ..beside.manifest.clone() }
 }
 
-/// What the new manifest does not have: it may be about the old tree.
+/// The members that the new manifest does not take over, since they may be about the old tree.
 fn not_carried(beside: &Beside, written: bool) -> Option<String> {
     let Manifest { guide, others, .. } = &beside.manifest;
     let names = guide.name.iter().map(|_| "guide").chain(others.iter().map(|(name, _)| name.as_str()));

@@ -1,4 +1,4 @@
-//! A file that takes its name when it is whole and stored: until then a file of that name stays as it was.
+//! A file that takes its name when it is complete and stored: until then an older file of that name is unchanged.
 //!
 //! It is made without a name where the file system can do that (`O_TMPFILE`, open(2)): whatever ends the tool then leaves nothing behind. Elsewhere, and for
 //! the moment in which an older file is replaced, it has a hidden name, which signals remove.
@@ -45,7 +45,7 @@ pub struct Spool {
     /// Its hidden name, if it has one.
     hidden: Option<HiddenName>,
     target: PathBuf,
-    /// Replace a file of that name, also one that comes meanwhile.
+    /// Replace a file of that name, also one that appears meanwhile.
     force: bool,
     /// The times that the file gets; None for those of its writing.
     pub times: Option<Times>,
@@ -66,7 +66,7 @@ impl Spool {
         Ok(spool)
     }
 
-    /// Write what the file has, and have the system begin to store it.
+    /// Writes the bytes, and has the system begin to store them.
     pub fn fill(&mut self, bytes: &[u8]) -> io::Result<()> {
         self.file.write_all(bytes)?;
         // Safety: the file is open. If this fails, `store` does it.
@@ -81,8 +81,8 @@ impl Spool {
         self.sync_folder()
     }
 
-    /// The same of two files that belong together: the first takes its name before the second, and loses it again where the second cannot take its own and
-    /// no older file was replaced. A failure tells whether the second file caused it.
+    /// The same for two files that belong together: the first takes its name before the second, and loses it again if the second cannot take its own and
+    /// no older file was replaced. The failure says whether the second file caused it.
     pub fn finish_both(mut self, mut second: Spool) -> Result<(), (bool, io::Error)> {
         self.store().map_err(|error| (false, error))?;
         second.store().map_err(|error| (true, error))?;
@@ -104,11 +104,11 @@ impl Spool {
     }
 
     fn sync_folder(&self) -> io::Result<()> {
-        // a folder that may be written need not be one that may be read
+        // a folder can be writable without being readable
         File::open(folder(&self.target)).map_or(Ok(()), |folder| folder.sync_all())
     }
 
-    /// Without `force` a name that is in use is refused, by the system call that gives it: nothing comes between.
+    /// Without `force` a name in use is refused by the system call that gives the name, so there is no race.
     fn take_name(&mut self) -> io::Result<()> {
         if self.hidden.is_none() {
             match link(&self.file, &self.target) {
@@ -142,7 +142,7 @@ fn folder(target: &Path) -> &Path {
     target.parent().filter(|folder| !folder.as_os_str().is_empty()).unwrap_or(Path::new("."))
 }
 
-/// A file without a name; None where there are none.
+/// A file without a name; None if the file system has no such files.
 fn nameless(folder: &Path, mode: u32) -> io::Result<Option<File>> {
     // a name is given through /proc
     if std::env::var_os("CODEBOOK_NAMED").is_some() || !Path::new("/proc/self/fd").exists() {
@@ -181,7 +181,7 @@ fn link(file: &File, path: &Path) -> io::Result<()> {
     }
 }
 
-/// Give a file another name, which must not be in use. File systems that cannot rename so (NFS) can link.
+/// Give a file another name, which must not be in use. File systems without this kind of rename (NFS) can link.
 fn rename_new(old: &Path, new: &Path) -> io::Result<()> {
     match rename_unless_used(old, new) {
         Err(error) if matches!(error.raw_os_error(), Some(EINVAL | ENOSYS)) => link_and_remove(old, new),
@@ -200,7 +200,7 @@ fn rename_unless_used(old: &Path, new: &Path) -> io::Result<()> {
 
 fn link_and_remove(old: &Path, new: &Path) -> io::Result<()> {
     fs::hard_link(old, new)?;
-    // the file has its name; a second one that cannot be removed is no failure
+    // the file has its name; that the old name cannot be removed is no failure
     let _ = fs::remove_file(old);
     Ok(())
 }

@@ -36,7 +36,7 @@ fn beside(given: &Given, path: Option<&Path>, name: &str, tree: Tree) -> Option<
     Some(beside)
 }
 
-/// What the manifest adds to a tree's object.
+/// The members that the manifest adds to a tree's object.
 fn described(object: Object, beside: Option<&Beside>) -> Object {
     let Some(beside) = beside else { return object };
     let Manifest { columns, guide, .. } = &beside.manifest;
@@ -60,7 +60,7 @@ fn from_manifest(beside: &Beside) -> String {
     format!("manifest    {}\n", beside.name()) + &lines.into_iter().filter_map(shown).collect::<String>()
 }
 
-/// Where a tree's bytes go.
+/// The bytes of each part of a tree.
 pub fn parts(tree: Tree) -> [(&'static str, u64); 4] {
     let blocks: u64 = tree.levels().iter().map(|level| u64::from(level.blocks)).sum();
     let settings = tree.settings();
@@ -74,7 +74,7 @@ pub fn without_edges(tree: Tree) -> u64 {
     parts(tree).iter().filter(|(part, _)| *part != "edges").map(|(_, bytes)| bytes).sum()
 }
 
-/// What a tree with edges would have without them.
+/// Adds the size without edges to the object of a tree with edges.
 pub fn saving(object: Object, tree: Tree) -> Object {
     match tree.layout() {
         2 => object.number("size_without_edges", without_edges(tree)),
@@ -88,7 +88,7 @@ fn totals(tree: Tree) -> Vec<(u8, u64)> {
     tree.settings().counted.iter().map(total).collect()
 }
 
-/// One of several.
+/// The line of one tree of several.
 fn line(name: &str, tree: Tree, beside: Option<&Beside>) -> String {
     let rows = tree.row_count().map_or(String::new(), |rows| format!(", {}", say::several(rows, "row")));
     let (size, length) = (tree.size(), tree.text_length());
@@ -152,7 +152,7 @@ fn object(name: &str, tree: Tree) -> Object {
     saving(object.object("bytes", &bytes).objects("by_level", levels), tree)
 }
 
-/// The lines of the list program; one line a tree where there are several.
+/// The lines of the list program; one line for each tree if there are several.
 pub fn list(given: &Given) -> Result<(), Failure> {
     given.each(|path| {
         let input = input::read(path, &TREE)?;

@@ -95,7 +95,7 @@ mod tests {
         let written = |name: &[u8]| String::from_utf8(line(&digest, name)).expect("a line");
         assert_eq!(written(b"a b.tree"), format!("{digest}  a b.tree\n"));
         assert_eq!(written(b"a\\b\n.tree"), format!("\\{digest}  a\\\\b\\n.tree\n"));
-        // any name comes back
+        // every name is read back unchanged
         for name in [b"a".as_slice(), b" a", b"*a", b"a\nb", b"\\", b"\r", b"a\\nb", b"#a", b"\xff\n\xfe", b"SHA256 (a) = 0"] {
             let name = OsStr::from_bytes(name);
             assert_eq!(read(&line(&digest, name.as_bytes())), Ok(vec![Sum { digest, name: name.to_owned() }]), "{name:?}");

@@ -19,7 +19,7 @@ macro_rules! licence_days {
 pub struct Opt {
     pub long: &'static str,
     pub short: Option<char>,
-    /// What its value is called; None for a flag.
+    /// The name of its value; None for a flag.
     pub value: Option<&'static str>,
     /// The value is a file.
     pub file: bool,
@@ -195,7 +195,7 @@ pub static COMMANDS: [Command; 35] = [
         summary: "check whether files are valid trees",
         details: "A valid tree represents exactly one text, and its counts and edges are right. Prints the SHA-256 of the tree and of its text. \
                   A tree with one leaf byte changed, and its edges with it, is a valid tree of another book, and gives a wrong key. So compare the text with the digest that the maker of the book published (--text-sha256), or the file with the digest of the tree (--sha256). \
-                  A digest is as good as the way it came: one that came with the tree shows nothing.\n\
+                  A digest is only as trustworthy as its source: one that came with the tree shows nothing.\n\
                   If there is a manifest TREE.json, the tree must have all its figures, and a guide that it names must be the tree's. \
                   With --sums a line is printed for each tree, as sha256sum prints it for the file; -c LIST checks the trees of such a list, from codebook or from sha256sum. Names are relative to the current folder, as with sha256sum -c; a line of another form is refused.",
         run: check::check,
@@ -423,7 +423,7 @@ pub static COMMANDS: [Command; 35] = [
         words: &[one("LENGTH")],
         options: &[&LEAF, &ARITY, &LEVELS, &COUNT, &JSON],
         summary: "print the sizes of the buffers that a caller needs",
-        details: "For a text of LENGTH bytes: a size that is enough for its tree, and the words of the table for bt_build_scanned. --leaf, --arity and --levels are required.",
+        details: "For a text of LENGTH bytes: an upper bound of the size of its tree, and the words of the table for bt_build_scanned. --leaf, --arity and --levels are required.",
         run: stats::sizes,
     },
     Command {
@@ -461,12 +461,12 @@ pub static COMMANDS: [Command; 35] = [
 ];
 
 impl Word {
-    /// It names a tree, or may do so.
+    /// Whether the word can name a tree.
     pub fn is_tree(&self) -> bool {
         matches!(self.name, "TREE" | "BOOK TREE" | "ONE" | "OTHER")
     }
 
-    /// It names a file that is read; `-` is standard input.
+    /// Whether the word names a file that is read; `-` is standard input.
     pub fn is_file(&self) -> bool {
         matches!(self.name, "BOOK" | "TREE" | "BOOK TREE" | "FILE" | "GUIDE" | "ONE" | "OTHER")
     }
@@ -487,7 +487,7 @@ impl Command {
         self.options.iter().chain(&COMMON).copied()
     }
 
-    /// How it is called.
+    /// The usage line.
     pub fn usage(&self) -> String {
         let mut usage = format!("codebook {}", self.name);
         for Word { name, due } in self.words {

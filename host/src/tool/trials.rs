@@ -1,4 +1,4 @@
-//! Which settings suit a book: a short list is tried, each once, and the smallest tree is kept; on request the search goes on from there.
+//! Chooses settings for a book: tries each of a short list and keeps the smallest tree; on request it searches on from there.
 
 use crate::{progress, say};
 use codebook::{build_scanned, one_level_size, Refusal, Settings, Tree, SHORT_LIST, SMALL_LIST};
@@ -26,12 +26,12 @@ pub struct Chosen {
 
 /// The caller's request.
 pub struct Request {
-    /// None to have a list tried.
+    /// None to try a list.
     pub settings: Option<Settings>,
     pub counted: Vec<u8>,
     /// Layout 1: a tree without edges.
     pub small: bool,
-    /// Search on from the best of the list.
+    /// Whether to search on from the best of the list.
     pub search: bool,
     /// No warning is printed.
     pub quiet: bool,
@@ -104,7 +104,7 @@ fn allowed(leaf: u32, arity: u32, levels: u32) -> bool {
     (1..=256).contains(&leaf) && (2..=16).contains(&arity) && (1..=8).contains(&levels) && top.is_some_and(|top| top <= codebook::MAX_TEXT as u64)
 }
 
-/// What a candidate gave: its size, and its tree where it was built.
+/// The result of a candidate: its size, and its tree if it was built.
 type Tried = Result<(usize, Option<Vec<u8>>), Refusal>;
 
 fn choose(text: &[u8], list: &[Settings], request: &Request) -> Result<Chosen, Refusal> {
@@ -141,7 +141,7 @@ fn all(text: &[u8], list: &[Settings], request: &Request) -> Vec<Tried> {
         };
         thread::scope(|scope| {
             for _ in 1..workers {
-                // a helper that the system does not give is done without
+                // if the system gives no thread, the others do the work
                 let _ = thread::Builder::new().spawn_scoped(scope, work);
             }
             work();
@@ -171,7 +171,7 @@ pub fn build(text: &[u8], settings: &Settings, small: bool) -> Result<Vec<u8>, R
     }
 }
 
-/// Enter a result, and let go of the trees that are not the smallest.
+/// Enters a result, and drops all trees but the smallest.
 fn enter(results: &mut [Option<Tried>], at: usize, tried: Tried) {
     results[at] = Some(tried);
     let size = |tried: &Option<Tried>| tried.as_ref().and_then(|tried| tried.as_ref().ok()).map_or(usize::MAX, |(size, _)| *size);
@@ -183,7 +183,7 @@ fn enter(results: &mut [Option<Tried>], at: usize, tried: Tried) {
     }
 }
 
-/// What a candidate takes, to measure progress by: the builder passes over the text once for each level above the last; short leaves make its table
+/// The cost of a candidate, for the progress: the builder passes over the text once for each level above the last; short leaves make its table
 /// larger than the processor's caches.
 pub fn cost(text: &[u8], settings: &Settings) -> u64 {
     let passes = text.len() as u64 * u64::from(settings.levels.clamp(1, 8) - 1);

@@ -8,7 +8,7 @@ use std::os::unix::ffi::OsStrExt;
 #[derive(Clone, Copy, Debug, PartialEq, Eq)]
 pub enum Width {
     Given(u32),
-    /// To be found.
+    /// The width is to be found.
     Auto,
 }
 
@@ -37,7 +37,7 @@ pub fn width(what: &str, word: &OsStr) -> Result<Width, String> {
     }
 }
 
-/// The first and the last row of `7`, `5..20`, `5..` or `..20`; a last one that is not given is none.
+/// The first and the last row of `7`, `5..20`, `5..` or `..20`; the last one is none if it is not given.
 pub fn rows(word: &OsStr) -> Result<(u32, Option<u32>), String> {
     let text = word.to_string_lossy();
     let read = |part: &str| {

@@ -3,14 +3,14 @@
 use super::*;
 use std::collections::BTreeSet;
 
-/// What becomes of a block above the last level.
+/// The choice for a block above the last level: kept, or where it points.
 #[derive(Clone, Copy, Debug, PartialEq, Eq)]
 pub enum Choice {
     Keep,
     Point { link: usize, gap: usize },
 }
 
-/// The level's blocks as the format chooses them. `leftmost(place, length)` is the leftmost place at which that stretch of the text stands.
+/// The level's blocks as the format chooses them. `leftmost(place, length)` is the leftmost occurrence of these bytes of the text.
 pub fn choose(n: usize, b: usize, starts: &[usize], leftmost: &dyn Fn(usize, usize) -> usize) -> Vec<Choice> {
     let mut paired = vec![false; starts.len()];
     let mut kept = vec![false; starts.len()];
@@ -38,7 +38,7 @@ pub fn choose(n: usize, b: usize, starts: &[usize], leftmost: &dyn Fn(usize, usi
         .collect()
 }
 
-/// The leftmost place of a stretch, by trying every place.
+/// The leftmost occurrence of some bytes, by trying every place.
 pub fn leftmost(text: &[u8], place: usize, length: usize) -> usize {
     let stretch = &text[place..place + length];
     text.windows(length).position(|window| window == stretch).expect("it stands at its own place")
@@ -57,7 +57,7 @@ pub fn assemble(layout: u32, text: &[u8], shape: Shape, counted: &[u8], mut choo
     let last = shape.h as usize - 1;
     let mut levels: Vec<Vec<Block>> = Vec::new();
     let mut leaf_bytes: Vec<u8> = Vec::new();
-    // (start, start of the parent) of the blocks of the level to come
+    // (start, start of the parent) of the blocks of the next level
     let mut list: Vec<(usize, usize)> = (0..n).step_by(shape.block_length(0) as usize).map(|start| (start, 0)).collect();
     for level in 0..=last {
         let b = shape.block_length(level) as usize;
@@ -132,14 +132,14 @@ fn write_tree(layout: u32, text: &[u8], shape: Shape, counted: &[u8], levels: &[
     tree
 }
 
-/// The first m bytes of a block and its last m bytes; of a shorter block both are its bytes and then zeros.
+/// The edges of a block: its first and its last m bytes. Both edges of a shorter block are its bytes and then zeros.
 pub fn edges(block: &[u8], m: usize) -> Vec<u8> {
     let (first, last) = (&block[..m.min(block.len())], &block[block.len().saturating_sub(m)..]);
     let zeros = vec![0; m - first.len()];
     [first, &zeros, last, &zeros].concat()
 }
 
-/// How often `byte` stands in each prefix of `text`.
+/// How often `byte` occurs in each prefix of `text`.
 pub fn prefix_counts(text: &[u8], byte: u8) -> Vec<u32> {
     let mut sums = vec![0];
     for &here in text {
@@ -148,7 +148,7 @@ pub fn prefix_counts(text: &[u8], byte: u8) -> Vec<u32> {
     sums
 }
 
-/// The questions 1 to 3.
+/// Questions 1 to 3.
 pub fn refusal(n: u64, shape: Shape, counted: &[u8]) -> u32 {
     if !text_in_bounds(n) {
         1
@@ -161,12 +161,12 @@ pub fn refusal(n: u64, shape: Shape, counted: &[u8]) -> u32 {
     }
 }
 
-/// Build into a lent buffer: the number and the tree's size.
+/// Build into a buffer: the refusal and the tree's size.
 pub fn build(text: &[u8], shape: Shape, counted: &[u8], buffer: &mut [u8]) -> (u32, u32) {
     build_with(text, shape, counted, buffer, plain_tree)
 }
 
-/// The tree, by trying every place for every stretch.
+/// The tree, by trying every place for all bytes that are searched.
 pub fn plain_tree(text: &[u8], shape: Shape, counted: &[u8]) -> Vec<u8> {
     plain_tree_in(WITH_EDGES, text, shape, counted)
 }
@@ -196,7 +196,7 @@ pub fn largest(n: u64, shape: Shape, k: usize) -> u64 {
     HEADER as u64 + blocks * record_length(WITH_EDGES, shape.m, k) as u64 + n
 }
 
-/// Build with one scan a level, in a lent table of `words` words: the number, the tree's size and the windows looked up.
+/// Build with one scan a level, with a table of `words` words: the refusal, the tree's size and the windows looked up.
 pub fn scan(text: &[u8], shape: Shape, counted: &[u8], words: usize, buffer: &mut [u8]) -> (u32, u32, u32) {
     scan_with(text, shape, counted, words, buffer, plain_tree)
 }
@@ -220,7 +220,7 @@ pub fn scan_with(
     }
 }
 
-/// How many windows a scan of each level above the last looks up, with the level's blocks read off the tree: n + 1 - L for each different length L of a
+/// The number of windows that scans of the levels above the last look up, from the blocks in the tree: n + 1 - L for each different length L of a
 /// block or a pair, kept or not.
 pub fn windows(n: usize, shape: Shape, tree: &[u8]) -> u32 {
     let levels = 0..shape.h as usize;

@@ -51,7 +51,7 @@ fn well_linked(tree: &Tree) -> bool {
     starts.len() as u64 == tree.leaf_count()
 }
 
-/// A pointing block's part of question 8. The starts of its level are right.
+/// Question 8 for a pointing block. The starts of its level are checked before.
 fn points_well(tree: &Tree, level: usize, i: u64) -> bool {
     let b = tree.block_length(level);
     let (link, gap) = (tree.field(level, i, LINK), tree.field(level, i, GAP));
@@ -112,7 +112,7 @@ fn parent_starts(tree: &Tree, level: usize) -> Vec<u64> {
     starts
 }
 
-/// The list program: the number and its lines.
+/// The list program: the refusal and the lines.
 pub fn list(input: &[u8]) -> (u32, String) {
     let number = if input.len() > 65_536 { 15 } else { check(input) };
     match Tree::open(input) {

@@ -2,7 +2,7 @@
 
 use super::read::{byte_at, Tree};
 
-/// The rows of a text, each of the width; none where question 20 refuses.
+/// The rows of a text, each of the width; none if question 20 fails.
 fn rows_of(text: &[u8], width: u32) -> Option<Vec<&[u8]>> {
     let width = usize::try_from(width).expect("a width");
     (width > 0 && text.len() % width == 0).then(|| text.chunks(width).collect())
@@ -15,14 +15,14 @@ pub fn columns_of(text: &[u8], width: u32) -> Option<Vec<u8>> {
     Some((0..longest).flat_map(|b| rows.iter().map(move |row| row[b])).collect())
 }
 
-/// Row after row: each takes its byte from every column in turn.
+/// Row after row: each takes its byte from every column.
 pub fn rows_from(text: &[u8], width: u32) -> Option<Vec<u8>> {
     let rows = rows_of(text, width)?.len();
     let mut columns: Vec<_> = if rows == 0 { Vec::new() } else { text.chunks(rows).map(|column| column.iter()).collect() };
     Some((0..rows).flat_map(|_| columns.iter_mut().map(|column| *column.next().expect("as long as the first")).collect::<Vec<u8>>()).collect())
 }
 
-/// The number; what is written goes to the output.
+/// The refusal; the rearranged text goes to the output.
 pub fn to_columns(text: &[u8], width: u32, out: &mut [u8]) -> u32 {
     written(columns_of(text, width), out)
 }
@@ -42,7 +42,7 @@ fn written(rearranged: Option<Vec<u8>>, out: &mut [u8]) -> u32 {
     }
 }
 
-/// The number and the bytes copied; they go to the buffer.
+/// The refusal and the bytes copied, which go to the buffer.
 pub fn row(bytes: &[u8], width: u32, a: u32, buffer: &mut [u8]) -> (u32, u32) {
     match try_row(bytes, u64::from(width), u64::from(a), buffer.len() as u64) {
         Ok(row) => {

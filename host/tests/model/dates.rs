@@ -1,4 +1,4 @@
-//! The term of a licence, by a calendar that is written out day by day and searched.
+//! Licence dates, by a calendar that lists every day and is searched.
 
 use std::sync::OnceLock;
 
@@ -8,7 +8,7 @@ pub fn calendar() -> &'static [String] {
     DAYS.get_or_init(|| {
         let mut days = Vec::new();
         for year in 2000..=2099 {
-            // of the years that a hundred divides, 2000 alone is in the calendar, and it has a 29 February
+            // 2000 is the only year of the calendar that is divisible by 100, and it has a 29 February
             let february = if year % 4 == 0 { 29 } else { 28 };
             let lengths = [31, february, 31, 30, 31, 30, 31, 31, 30, 31, 30, 31];
             for (month, length) in (1..).zip(lengths) {
@@ -19,12 +19,12 @@ pub fn calendar() -> &'static [String] {
     })
 }
 
-/// Where a day stands in the calendar.
+/// The index of a day in the calendar.
 pub fn place(day: &[u8]) -> Option<usize> {
     calendar().binary_search_by(|known| known.as_bytes().cmp(day)).ok()
 }
 
-/// The number, and 1 for open.
+/// The refusal, and 1 for open.
 pub fn open_on(first: &[u8], last: &[u8], today: &[u8]) -> (u32, u32) {
     match (place(first), place(last), place(today)) {
         (Some(first), Some(last), Some(_)) if last < first => (23, 0),
@@ -33,7 +33,7 @@ pub fn open_on(first: &[u8], last: &[u8], today: &[u8]) -> (u32, u32) {
     }
 }
 
-/// The number and the days left.
+/// The refusal and the days left.
 pub fn days_left(last: &[u8], today: &[u8]) -> (u32, i32) {
     match (place(last), place(today)) {
         (Some(last), Some(today)) => (0, last as i32 - today as i32),
@@ -41,7 +41,7 @@ pub fn days_left(last: &[u8], today: &[u8]) -> (u32, i32) {
     }
 }
 
-/// The number, and the lent day afterwards.
+/// The refusal, and the day in the buffer afterwards.
 pub fn renew(day: &[u8]) -> (u32, Vec<u8>) {
     let next_year = |at: usize| {
         let known = &calendar()[at];

@@ -1,9 +1,9 @@
-//! What is told of a tree without its text: figures, rows, the length of a row, the words for a pattern's places.
+//! Figures and sizes: the figures of a tree, the number of rows, the length of a row, the words for a pattern's places.
 
 use super::read::{self, Answer, Tree};
 use super::*;
 
-/// The number and the figures: layout, n, leaf, arity, levels, leaf bytes, how many bytes are counted; four counted bytes, their totals, eight levels' blocks.
+/// The refusal and the figures: layout, n, leaf, arity, levels, leaf bytes, the number of counted bytes; four counted bytes, their totals, eight levels' blocks.
 pub fn info(bytes: &[u8]) -> (u32, [u64; 23]) {
     let mut figures = [0; 23];
     let tree = match Tree::open(bytes) {
@@ -23,7 +23,7 @@ pub fn info(bytes: &[u8]) -> (u32, [u64; 23]) {
     (0, figures)
 }
 
-/// The number and how many rows there are: the total of byte 10, and one more where the last byte is another; 14 where that byte's path breaks.
+/// The refusal and the number of rows: the total of byte 10, and one more if the last byte is another; 14 if that byte's path breaks.
 pub fn row_count(bytes: &[u8]) -> (u32, u64) {
     let rows = || {
         let tree = Tree::open(bytes)?;
@@ -35,12 +35,12 @@ pub fn row_count(bytes: &[u8]) -> (u32, u64) {
     rows().map_or_else(|number: u32| (number, 0), |rows| (0, rows))
 }
 
-/// The number and the length of row q: row's, with a buffer that is long enough.
+/// The refusal and the length of row q: those of row with a large buffer.
 pub fn row_length(bytes: &[u8], q: u32) -> Answer<(u32, u32)> {
     read::row(bytes, q, &mut vec![0; Tree::open(bytes).map_or(0, |tree| tree.n as usize)])
 }
 
-/// The number and the words for the places of any pattern of `length` bytes.
+/// The refusal and the words for the places of any pattern of `length` bytes.
 pub fn places_words(bytes: &[u8], length: u32) -> (u32, u32) {
     match Tree::open(bytes) {
         Err(number) => (number, 0),

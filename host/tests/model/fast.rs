@@ -1,4 +1,4 @@
-//! Building, finding and rows for long books: the same answers as the plain model's, by other methods.
+//! Building, finding and rows for long books: the same results as the plain model's, by other methods.
 
 use super::build::{assemble, choose};
 use super::read::*;
@@ -6,7 +6,7 @@ use super::*;
 use std::cell::RefCell;
 use std::collections::HashMap;
 
-/// The tree. Each length asked for is searched once, all windows of the text in one pass.
+/// The tree. Each length is searched once, all windows of the text in one pass.
 pub fn tree(text: &[u8], shape: Shape, counted: &[u8]) -> Vec<u8> {
     assemble(WITH_EDGES, text, shape, counted, |b, starts| {
         let leftmost = Leftmost { text, by_length: RefCell::new(HashMap::new()), starts };
@@ -14,7 +14,7 @@ pub fn tree(text: &[u8], shape: Shape, counted: &[u8]) -> Vec<u8> {
     })
 }
 
-/// The leftmost places of a level's stretches, for each length asked for.
+/// The leftmost occurrences of the bytes at a level's starts, for each length used so far.
 struct Leftmost<'a> {
     text: &'a [u8],
     starts: &'a [usize],
@@ -27,7 +27,7 @@ impl Leftmost<'_> {
         by_length.entry(length).or_insert_with(|| self.search(length))[&place]
     }
 
-    /// For each start of the level: the leftmost place at which its `length` bytes stand.
+    /// For each start of the level: the leftmost occurrence of its `length` bytes.
     fn search(&self, length: usize) -> HashMap<usize, usize> {
         let hashes = window_hashes(self.text, length);
         let mut asked: HashMap<u64, Vec<usize>> = HashMap::new();
@@ -83,13 +83,13 @@ fn told(found: Result<(u64, u32), u32>) -> (u32, u32, u32) {
     }
 }
 
-/// The block of level 0 that holds the j-th of a counted byte, step by step.
+/// The block of level 0 that contains the j-th of a counted byte, step by step.
 #[inline]
 fn stepped(tree: &Tree, c: usize, j: u64) -> u64 {
     last_before(tree, 0, c, 0, tree.blocks(0), j)
 }
 
-/// And by halves.
+/// The same block by binary search.
 #[inline]
 pub fn bisected(tree: &Tree, c: usize, j: u64) -> u64 {
     let (mut low, mut high) = (0, tree.blocks(0));
@@ -109,7 +109,7 @@ fn try_find(bytes: &[u8], byte: u32, j: u32, top: impl Fn(&Tree, usize, u64) -> 
     let (tree, c) = find_questions(bytes, byte, j)?;
     let mut j = u64::from(j);
     let mut entered = 0;
-    // the text's place of the block entered (what a target stands for), its number, and where its siblings end
+    // the place in the text that the entered block represents, its number, and where its siblings end
     let (mut base, mut first, mut end) = (0, 0, tree.blocks(0));
     for level in 0..tree.levels {
         let b = tree.block_length(level);

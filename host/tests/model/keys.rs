@@ -3,14 +3,14 @@
 use super::check;
 use super::read::{rows_of, text, Answer, Tree};
 
-/// Low and high depth of each cut, from the bytes that lend them; none where question 19 refuses.
+/// Low and high depth of each cut; none if question 19 fails.
 fn ranges(lent: &[u8]) -> Option<Vec<(u8, u8)>> {
     let ranges: Vec<(u8, u8)> = lent.chunks_exact(2).map(|pair| (pair[0], pair[1])).collect();
     let good = lent.len() % 2 == 0 && (1..=10).contains(&ranges.len()) && ranges.iter().all(|&(low, high)| low <= high && high <= 9);
     good.then_some(ranges)
 }
 
-/// The depths of a row's cuts; none where it is no key.
+/// The depths of a row's cuts; none if it is no key.
 fn cuts(row: &[u8]) -> Option<Vec<u8>> {
     let (code, cuts) = row.split_at(row.iter().position(|&byte| byte == b' ')?);
     let cuts = &cuts[1..];
@@ -26,17 +26,17 @@ pub fn matches_in(text: &[u8], lent: &[u8]) -> Vec<u32> {
     (1..=rows.len() as u32).filter(|&q| cuts(rows[q as usize - 1]).is_some_and(|cuts| fits(&cuts))).collect()
 }
 
-/// The number, the row shown, 0 for none, and the mark afterwards. What is free goes by the most rows that a row's question 12 lets through.
+/// The refusal, the row found or 0 for none, and the mark afterwards. An unspecified row is at most the largest that question 12 of row allows.
 pub fn next_match(bytes: &[u8], lent: &[u8], mark: u32) -> Answer<(u32, u32, u32)> {
     let (tree, c) = match questions(bytes, lent) {
         Ok(tree) => tree,
-        Err(number) => return Answer::Settled((number, 0, mark)),
+        Err(number) => return Answer::Exact((number, 0, mark)),
     };
     if check::check(bytes) != 0 {
-        return Answer::Free(tree.total(c) + 1);
+        return Answer::Unspecified(tree.total(c) + 1);
     }
     let text = text(&tree);
-    Answer::Settled(match matches_in(&text, lent).into_iter().find(|&q| q > mark) {
+    Answer::Exact(match matches_in(&text, lent).into_iter().find(|&q| q > mark) {
         Some(q) => (0, q, q),
         None => (0, 0, mark.max(rows_of(&text).len() as u32)),
     })

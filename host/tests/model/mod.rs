@@ -1,7 +1,7 @@
-//! The block tree of docs/FORMAT.md, written once more in plain Rust.
+//! An independent model: the block tree of docs/FORMAT.md in plain Rust.
 //!
-//! This model shares nothing with the library. It is written to be read beside the format's page: one function for each of its sections, sums in 64 bits,
-//! refusals by their numbers. `fast` holds the two parts that need another method on long books, building and finding; the tests hold them to the plain ones.
+//! The model shares no code with the library. It follows docs/FORMAT.md: one function for each of its sections, sums in 64 bits,
+//! refusals by their numbers. `fast` has faster methods for building and finding in long books; tests compare them with the plain ones.
 #![allow(dead_code)] // each test uses a part of the model
 
 pub mod build;
@@ -45,7 +45,7 @@ impl Shape {
         (1..=256).contains(&self.m) && (2..=16).contains(&self.r) && (1..=8).contains(&self.h) && self.block_length(0) <= MAX_TEXT
     }
 
-    /// Bytes of a full block of `level`. The settings but for their product are within bounds.
+    /// Bytes of a full block of `level`. The settings are within bounds, except perhaps their product.
     #[inline]
     pub fn block_length(&self, level: usize) -> u64 {
         u64::from(self.m) * u64::from(self.r).pow(self.h - 1 - level as u32)
@@ -73,7 +73,7 @@ pub fn word(bytes: &[u8], at: usize) -> u32 {
     u32::from_le_bytes([bytes[at], bytes[at + 1], bytes[at + 2], bytes[at + 3]])
 }
 
-/// How many blocks of `length` bytes hold `n` bytes.
+/// The number of blocks of `length` bytes that `n` bytes need.
 #[inline]
 pub fn blocks_for(n: u64, length: u64) -> u64 {
     n.div_ceil(length)

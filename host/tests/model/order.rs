@@ -6,7 +6,7 @@ pub const BEFORE: u32 = 1;
 pub const SAME: u32 = 2;
 pub const AFTER: u32 = 3;
 
-/// The number, where the first stands, the length of the shared beginning, and which of the two stands first.
+/// The refusal, the order of the first text, the length of the shared beginning, and which of the two comes first.
 pub fn order(one: &[u8], other: &[u8]) -> (u32, u32, u32, u32) {
     match compare(one, other) {
         Err(number) => (number, 0, 0, 0),
@@ -32,7 +32,7 @@ fn compare(one: &[u8], other: &[u8]) -> Result<(u32, u32), u32> {
     Ok((standing, lengths.0.min(lengths.1)))
 }
 
-/// The byte of a place, or the number that refuses it.
+/// The byte at a place, or the refusal.
 fn byte(tree: &[u8], place: u32) -> Result<u32, u32> {
     match read::byte(tree, place) {
         (0, value, _) => Ok(value),
@@ -40,7 +40,7 @@ fn byte(tree: &[u8], place: u32) -> Result<u32, u32> {
     }
 }
 
-/// The same of two texts.
+/// The same for two texts.
 pub fn order_of_texts(one: &[u8], other: &[u8]) -> (u32, u32, u32, u32) {
     let shared = one.iter().zip(other).take_while(|(a, b)| a == b).count() as u32;
     match one.cmp(other) {
@@ -50,7 +50,7 @@ pub fn order_of_texts(one: &[u8], other: &[u8]) -> (u32, u32, u32, u32) {
     }
 }
 
-/// An answer as the cases have it.
+/// A result as the cases write it.
 pub fn words((number, order, shared, first): (u32, u32, u32, u32)) -> String {
     let order = ["-", "before", "same", "after"][order as usize];
     format!("{number} {order} {shared} {first}")

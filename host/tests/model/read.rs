@@ -1,4 +1,4 @@
-//! Reading: the header's questions, the path of a place, and what can be asked.
+//! Reading: the header's questions, the path of a place, and the queries.
 
 use super::*;
 
@@ -98,7 +98,7 @@ impl<'a> Tree<'a> {
         self.leaf_count
     }
 
-    /// Some of the leaf bytes.
+    /// A range of the leaf bytes.
     #[inline]
     pub fn leaf_bytes(&self, first: u64, length: u64) -> &'a [u8] {
         let from = self.leaf_offset + first as usize;
@@ -129,18 +129,18 @@ impl<'a> Tree<'a> {
         &self.bytes[self.record(level, block) + record_length(1, 0, self.k) + self.m..][..self.m]
     }
 
-    /// A block's length: b, or what the text has from its start on, if that is less.
+    /// A block's length: b, or the length of the text from its start on, if that is less.
     pub fn length(&self, level: usize, block: u64) -> u64 {
         self.b[level].min(self.n - self.field(level, block, START))
     }
 
-    /// The number of a counted byte.
+    /// The index of a counted byte.
     #[inline]
     pub fn counted(&self, byte: u32) -> Option<usize> {
         self.bytes[24..24 + self.k].iter().position(|&counted| u32::from(counted) == byte)
     }
 
-    /// How often counted byte number c stands in the text, as the tree has it: by the last block of level 0, and 0 times where there is none.
+    /// How often counted byte number c occurs in the text, by the last block of level 0; 0 if level 0 is empty.
     #[inline]
     pub fn total(&self, c: usize) -> u64 {
         let Some(last) = self.blocks[0].checked_sub(1) else { return 0 };
@@ -159,7 +159,7 @@ pub struct Entered {
     pub target: bool,
 }
 
-/// Go the path of place `p`, which is below n: `enter` sees each block entered, in order. The number of the leaf byte reached; none where the path breaks.
+/// Follows the path of place `p`, which is below n, and calls `enter` with each block entered. Returns the number of the leaf byte; none if the path breaks.
 #[inline]
 pub fn path(tree: &Tree, p: u64, mut enter: impl FnMut(Entered)) -> Option<u64> {
     let mut here = Entered { level: 0, block: p / tree.b[0], place: p % tree.b[0], target: false };
@@ -197,7 +197,7 @@ pub fn path(tree: &Tree, p: u64, mut enter: impl FnMut(Entered)) -> Option<u64> 
     }
 }
 
-/// The byte at `p`, which is below n, and the blocks entered; none where the path breaks.
+/// The byte at `p`, which is below n, and the blocks entered; none if the path breaks.
 #[inline]
 pub fn byte_at(tree: &Tree, p: u64) -> Option<(u8, u32)> {
     let mut entered = 0;
@@ -216,7 +216,7 @@ fn open_at(bytes: &[u8], p: u32) -> Result<Tree<'_>, u32> {
     }
 }
 
-/// The number, the byte and the blocks entered.
+/// The refusal, the byte and the blocks entered.
 pub fn byte(bytes: &[u8], p: u32) -> (u32, u32, u32) {
     match open_at(bytes, p).and_then(|tree| byte_at(&tree, p.into()).ok_or(14)) {
         Ok((byte, entered)) => (0, byte.into(), entered),
@@ -224,7 +224,7 @@ pub fn byte(bytes: &[u8], p: u32) -> (u32, u32, u32) {
     }
 }
 
-/// The number, where the run begins in the tree's bytes, and its length.
+/// The refusal, where the run begins in the tree's bytes, and its length.
 pub fn run(bytes: &[u8], p: u32) -> (u32, u64, u32) {
     match try_run(bytes, p) {
         Ok((offset, length)) => (0, offset, length as u32),
@@ -239,7 +239,7 @@ fn try_run(bytes: &[u8], p: u32) -> Result<(u64, u64), u32> {
     Ok((tree.leaf_offset as u64 + leaf, length.min(tree.leaf_count - leaf)))
 }
 
-/// The number and the blocks entered by a short span, 0 for any other; the bytes go to the buffer.
+/// The refusal and the blocks entered by a short span, 0 for any other; the bytes go to the buffer.
 pub fn span(bytes: &[u8], p: u32, length: u32, buffer: &mut [u8]) -> (u32, u32) {
     let tree = match Tree::open(bytes) {
         Ok(tree) => tree,
@@ -264,7 +264,7 @@ pub fn span(bytes: &[u8], p: u32, length: u32, buffer: &mut [u8]) -> (u32, u32) 
     }
 }
 
-/// Fill `part`, of 1 to m bytes, with the text from `p`, going down only while it lies in one block. The blocks entered; none where the walk breaks.
+/// Fills `part`, of 1 to m bytes, with the text from `p`, descending while it lies in one block. Returns the blocks entered; none if the walk breaks.
 fn short(tree: &Tree, p: u64, part: &mut [u8]) -> Option<u32> {
     let (mut level, mut block, mut place) = (0, p / tree.b[0], p % tree.b[0]);
     let (mut target, mut entered) = (false, 0);
@@ -311,7 +311,7 @@ fn short(tree: &Tree, p: u64, part: &mut [u8]) -> Option<u32> {
     }
 }
 
-/// Fill `part` with the text from `p`, each byte by its path; zeros and 14 where one breaks.
+/// Fills `part` with the text from `p`, each byte by its path; zeros and 14 if one breaks.
 pub fn copy(tree: &Tree, p: u64, part: &mut [u8]) -> u32 {
     for i in 0..part.len() {
         match byte_at(tree, p + i as u64) {
@@ -325,7 +325,7 @@ pub fn copy(tree: &Tree, p: u64, part: &mut [u8]) -> u32 {
     0
 }
 
-/// The number, the count and the blocks entered.
+/// The refusal, the count and the blocks entered.
 pub fn count(bytes: &[u8], byte: u32, i: u32) -> (u32, u64, u32) {
     match try_count(bytes, byte, i) {
         Ok((count, entered)) => (0, count, entered),
@@ -369,26 +369,26 @@ fn try_count(bytes: &[u8], byte: u32, i: u32) -> Result<(u64, u32), u32> {
     Ok((sum as u64, entered))
 }
 
-/// An answer, or what the format leaves open on a tree that the check refuses.
+/// A result, or a bound of the unspecified results on a tree that the check refuses.
 #[derive(Clone, Copy, Debug, PartialEq, Eq)]
 pub enum Answer<T> {
-    Settled(T),
-    /// A text of that many bytes, or so many rows: any place, length or row that the format lets pass.
-    Free(u64),
+    Exact(T),
+    /// The length of the text or the number of rows: any place, length or row up to this that the format allows.
+    Unspecified(u64),
 }
 
-/// The number, the place and the length of its path.
+/// The refusal, the place and the length of its path.
 pub fn find(bytes: &[u8], byte: u32, j: u32) -> Answer<(u32, u32, u32)> {
     let (tree, _) = match find_questions(bytes, byte, j) {
         Ok(tree) => tree,
-        Err(number) => return Answer::Settled((number, 0, 0)),
+        Err(number) => return Answer::Exact((number, 0, 0)),
     };
     if check::check(bytes) != 0 {
-        return Answer::Free(tree.n);
+        return Answer::Unspecified(tree.n);
     }
     let place = nth(&text(&tree), byte as u8, j as usize);
     let (_, entered) = byte_at(&tree, place as u64).expect("no path breaks");
-    Answer::Settled((0, place as u32, entered))
+    Answer::Exact((0, place as u32, entered))
 }
 
 /// Questions 5 to 7, 11 and 12.
@@ -407,7 +407,7 @@ pub fn nth(text: &[u8], byte: u8, j: usize) -> usize {
     text.iter().enumerate().filter(|(_, &here)| here == byte).nth(j - 1).expect("the total says so").0
 }
 
-/// The bytes that the paths of all places give; none where one breaks.
+/// The bytes that the paths of all places give; none if one breaks.
 pub fn bytes_of_paths(tree: &Tree) -> Option<Vec<u8>> {
     (0..tree.n).map(|p| byte_at(tree, p).map(|(byte, _)| byte)).collect()
 }
@@ -422,7 +422,7 @@ pub fn places_in(text: &[u8], pattern: &[u8]) -> Vec<u32> {
     (0..text.len()).filter(|&place| text[place..].starts_with(pattern)).map(|place| place as u32).collect()
 }
 
-/// The number and how many places there are; they go to the table.
+/// The refusal and the number of places, which go to the table.
 pub fn places(bytes: &[u8], pattern: &[u8], table: &mut [u32]) -> (u32, u32) {
     match try_places(bytes, pattern, table.len()) {
         Ok(places) => {
@@ -446,25 +446,25 @@ fn try_places(bytes: &[u8], pattern: &[u8], words: usize) -> Result<Vec<u32>, u3
     Ok(places)
 }
 
-/// The number and the row's length; the row goes to the buffer.
+/// The refusal and the row's length; the row goes to the buffer.
 pub fn row(bytes: &[u8], q: u32, buffer: &mut [u8]) -> Answer<(u32, u32)> {
     let tree = match row_questions(bytes, q) {
         Ok(tree) => tree,
-        Err(number) => return Answer::Settled((number, 0)),
+        Err(number) => return Answer::Exact((number, 0)),
     };
     if check::check(bytes) != 0 {
-        return Answer::Free(tree.n);
+        return Answer::Unspecified(tree.n);
     }
     let text = text(&tree);
     let row = rows_of(&text)[q as usize - 1];
     if row.len() > buffer.len() {
-        return Answer::Settled((13, 0));
+        return Answer::Exact((13, 0));
     }
     buffer[..row.len()].copy_from_slice(row);
-    Answer::Settled((0, row.len() as u32))
+    Answer::Exact((0, row.len() as u32))
 }
 
-/// Questions 5 to 7, 11 and 12. Where q is the total of byte 10 plus one, and there alone, the last byte is read, if there is one: its 14, or 12 where it is 10.
+/// Questions 5 to 7, 11 and 12. Only if q is the total of byte 10 plus one, the last byte is read, if there is one: 14 if its path breaks, 12 if it is 10.
 pub fn row_questions(bytes: &[u8], q: u32) -> Result<Tree<'_>, u32> {
     let tree = Tree::open(bytes)?;
     let c = tree.counted(10).ok_or(11u32)?;
@@ -478,8 +478,8 @@ pub fn row_questions(bytes: &[u8], q: u32) -> Result<Tree<'_>, u32> {
     }
 }
 
-/// The rows of a text: a byte 10 ends a row, and so does a byte 13 directly before it; the bytes after the last byte 10, if there are any, are one more
-/// row, as they stand.
+/// The rows of a text: a byte 10 ends a row, together with a byte 13 directly before it; the bytes after the last byte 10, if there are any, are one more
+/// row, unchanged.
 pub fn rows_of(text: &[u8]) -> Vec<&[u8]> {
     let mut rows: Vec<&[u8]> = text.split(|&byte| byte == 10).collect();
     let open = rows.pop().expect("a split gives a part");

@@ -15,7 +15,7 @@ const K: [u32; 64] = [
 /// The first hash value (5.3.3).
 const H0: [u32; 8] = [0x6a09e667, 0xbb67ae85, 0x3c6ef372, 0xa54ff53a, 0x510e527f, 0x9b05688c, 0x1f83d9ab, 0x5be0cd19];
 
-/// The number; the SHA-256 of the bytes of all paths goes to the first 32 bytes of the buffer, and 14 writes zeros there.
+/// The refusal; the SHA-256 of the bytes of all paths goes to the first 32 bytes of the buffer, and 14 writes zeros there.
 pub fn digest(bytes: &[u8], out: &mut [u8]) -> u32 {
     let text = |room: usize| -> Result<Vec<u8>, u32> {
         let tree = Tree::open(bytes)?;
@@ -34,7 +34,7 @@ pub fn digest(bytes: &[u8], out: &mut [u8]) -> u32 {
     }
 }
 
-/// The number; the SHA-256 goes to the first 32 bytes of the buffer.
+/// The refusal; the SHA-256 goes to the first 32 bytes of the buffer.
 pub fn digest_text(text: &[u8], out: &mut [u8]) -> u32 {
     if out.len() < 32 {
         return 13;

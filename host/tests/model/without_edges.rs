@@ -1,9 +1,9 @@
-//! A tree without its edges: the header's words and the records written anew.
+//! A tree without its edges: the header and the records are rewritten.
 
 use super::read::Tree;
 use super::*;
 
-/// The number and the size of the tree in layout 1, which is written to the start of the buffer.
+/// The refusal and the size of the tree in layout 1, which is written to the start of the buffer.
 pub fn without_edges(bytes: &[u8], buffer: &mut [u8]) -> (u32, u64) {
     let tree = match Tree::open(bytes) {
         Ok(tree) => tree,
@@ -17,7 +17,7 @@ pub fn without_edges(bytes: &[u8], buffer: &mut [u8]) -> (u32, u64) {
     (0, small.len() as u64)
 }
 
-/// The tree in layout 1: fixed words, counts and new offsets, then the words of each record, then the leaf bytes.
+/// The tree in layout 1: the header with its new offsets, then the words of each record, then the leaf bytes.
 fn rewritten(bytes: &[u8], tree: &Tree) -> Vec<u8> {
     let (from, to) = (record_length(tree.layout, tree.m as u32, tree.k), record_length(1, 0, tree.k));
     let blocks: Vec<u64> = (0..MAX_LEVELS).map(|level| if level < tree.levels { tree.blocks(level) } else { 0 }).collect();

@@ -1,16 +1,16 @@
 //! Code books: rows of a code, a space and its cuts, each ended by byte 10.
 //!
 //! A book is a list of sections. A fresh section is one series: codes that share a prefix and count upwards, with cuts that follow each other (in rising
-//! order, or with one cut changed) or are drawn one by one. Another section lists an earlier stretch again, with a row corrected now and then, or under
+//! order, or with one cut changed) or are drawn one by one. Another section repeats an earlier part of the book, with a row corrected now and then, or under
 //! another prefix. The kinds differ in the share of each.
 
 use super::Rng;
 
 #[derive(Clone, Copy, Debug, PartialEq, Eq)]
 pub enum Kind {
-    /// Nearly all sections list an earlier stretch again, one row in 500 corrected.
+    /// Nearly all sections repeat an earlier part, one row in 500 corrected.
     Repetitive,
-    /// More than half do, one row in 60 corrected; some rename the prefix; the rest are fresh.
+    /// More than half repeat an earlier part, one row in 60 corrected; some rename the prefix; the rest are fresh.
     Mixed,
     /// Fresh series only, cuts drawn one by one.
     NearlyRandom,
@@ -30,7 +30,7 @@ impl Row {
 
 const PREFIXES: [&str; 16] = ["", "A", "B", "X", "V", "K", "HON", "CH", "FR", "UM", "KA-", "5K", "GM", "T2", "S/", "Z10"];
 
-/// A book with rows of one width, 16 with the end: a code of eight bytes, a space and six cuts. `Repetitive` lists one series of 500 rows again and again,
+/// A book with rows of one width, 16 with the end: a code of eight bytes, a space and six cuts. `Repetitive` repeats one series of 500 rows,
 /// a row in 500 corrected; `Mixed` counts on in one series, with cuts in rising order; in `NearlyRandom` the cuts are drawn one by one. No longer than `size`.
 pub fn even_book(kind: Kind, size: usize, seed: u64) -> Vec<u8> {
     let mut rng = Rng::new(seed ^ ((kind as u64 + 1) << 33));

@@ -1,11 +1,11 @@
-//! Texts, settings and trees for the differential test: good ones, damaged ones and wild ones.
+//! Texts, settings and trees for the differential tests. Trees are valid, damaged, or wild: a right header and random records.
 #![allow(dead_code)] // each test uses a part
 
 use super::Rng;
 use crate::model::build::{assemble, Choice};
 use crate::model::{blocks_for, record_length, word, Shape, HEADER, LAYOUTS, WITH_EDGES};
 
-/// A text of up to `longest` bytes over a few letters, with stretches that come again; now and then an empty one.
+/// A text of up to `longest` bytes over a few letters, with repeated parts; sometimes the empty text.
 pub fn text(rng: &mut Rng, longest: usize) -> Vec<u8> {
     let length = if rng.one_in(40) { 0 } else { rng.within(1, longest) };
     let letters = *rng.pick(&[b"A".as_slice(), b"AB", b"ABC\n", b"A\r\n", b"AB\n\0\xFF", b"0123456789 \n"]);
@@ -37,7 +37,7 @@ pub fn shape(rng: &mut Rng) -> Shape {
     }
 }
 
-/// At most four bytes, rising.
+/// At most four bytes in increasing order.
 pub fn counted(rng: &mut Rng) -> Vec<u8> {
     let mut counted: Vec<u8> = (0..rng.below(5)).map(|_| *rng.pick(b"\n\nAB0 \0\xFFz")).collect();
     counted.sort_unstable();
@@ -45,7 +45,7 @@ pub fn counted(rng: &mut Rng) -> Vec<u8> {
     counted
 }
 
-/// A good tree that the builder would not make: blocks that could point are kept now and then, occurrences are not the leftmost, and the layout may be 1.
+/// A valid tree that the builder would not make: some blocks that could point are kept, occurrences are not the leftmost, and the layout may be 1.
 pub fn other_tree(rng: &mut Rng, text: &[u8], shape: Shape, counted: &[u8]) -> Vec<u8> {
     let keep_one_in = rng.within(1, 4);
     let layout = *rng.pick(&LAYOUTS);
@@ -60,7 +60,7 @@ pub fn other_tree(rng: &mut Rng, text: &[u8], shape: Shape, counted: &[u8]) -> V
     })
 }
 
-/// All that the block at `start` may point to, given the choices before it.
+/// All blocks and gaps that the block at `start` may point to, given the choices before it.
 fn targets(text: &[u8], b: usize, starts: &[usize], choices: &[Choice], start: usize) -> Vec<Choice> {
     let length = b.min(text.len() - start);
     let mut list = Vec::new();
@@ -125,7 +125,7 @@ pub fn damage(rng: &mut Rng, tree: &mut Vec<u8>) {
     }
 }
 
-/// Change one of the words that stand in `length` bytes from `from` on.
+/// Changes one of the words in the `length` bytes from `from` on.
 fn odd_at(rng: &mut Rng, tree: &mut [u8], length: usize, from: usize) {
     if length >= 4 {
         let at = from + 4 * rng.below(length / 4);
@@ -134,13 +134,13 @@ fn odd_at(rng: &mut Rng, tree: &mut [u8], length: usize, from: usize) {
     }
 }
 
-/// The number of levels and the length of a record, where the header has sane ones.
+/// The number of levels and the length of a record, if they are within bounds in the header.
 fn layout(tree: &[u8]) -> Option<(usize, usize)> {
     let (levels, k, leaf) = (word(tree, 16) as usize, word(tree, 20) as usize, word(tree, 92) as usize);
     ((1..=8).contains(&levels) && k <= 4 && leaf <= tree.len()).then_some((levels, record_length(word(tree, 0), word(tree, 8).min(256), k)))
 }
 
-/// A block more or less on one level, the header laid out to match.
+/// Adds or removes a block on one level, with a header to match.
 fn add_or_drop_block(rng: &mut Rng, tree: &mut Vec<u8>) {
     let Some((levels, record)) = layout(tree) else { return };
     let level = rng.below(levels);
@@ -171,7 +171,7 @@ fn lay_out(tree: &mut [u8], levels: usize, record: usize) {
     set_word(tree, 92, offset);
 }
 
-/// A leaf byte more or less, the leaf count to match.
+/// Adds or removes a leaf byte, with a leaf count to match.
 fn add_or_drop_leaf(rng: &mut Rng, tree: &mut Vec<u8>) {
     let leaves = word(tree, 96);
     if rng.one_in(2) {
@@ -183,7 +183,7 @@ fn add_or_drop_leaf(rng: &mut Rng, tree: &mut Vec<u8>) {
     }
 }
 
-/// Another link and gap for a pointing block, near enough to what it may have to pass now and then; where the level has neighbours that are apart in
+/// Another link and gap for a pointing block, often close to valid ones, so that some pass; if the level has neighbours that are apart in
 /// the text, often across them.
 fn point_elsewhere(rng: &mut Rng, tree: &mut [u8]) {
     let Some((levels, record)) = layout(tree) else { return };
@@ -224,7 +224,7 @@ fn swap_records(rng: &mut Rng, tree: &mut [u8]) {
     }
 }
 
-/// A tree whose header is right and whose records are anything: small words mostly, so that paths go far before they break.
+/// A wild tree: its header is right and its records are random, with mostly small words, so that paths go far before they break.
 pub fn wild_tree(rng: &mut Rng) -> Vec<u8> {
     let shape = loop {
         let shape = shape(rng);
@@ -271,7 +271,7 @@ fn record(rng: &mut Rng, tree: &mut Vec<u8>, number: usize, b: u32, k: usize) {
     }
 }
 
-/// A wild tree, or more often a good one, damaged up to twice.
+/// A wild tree, or more often a valid one, damaged up to twice.
 pub fn hurt_tree(rng: &mut Rng, good: impl FnOnce(&mut Rng) -> Vec<u8>) -> Box<[u8]> {
     let mut tree = if rng.one_in(4) { wild_tree(rng) } else { good(rng) };
     for _ in 0..rng.below(3) {

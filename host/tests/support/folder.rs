@@ -1,4 +1,4 @@
-//! The tool run in a folder of a test's own: what it prints, and its status.
+//! Runs the tool in a folder of its own for each test: its output and its status.
 #![allow(dead_code)] // each test uses a part
 
 use std::fs;
@@ -11,7 +11,7 @@ fn book() -> PathBuf {
     Path::new(env!("CARGO_MANIFEST_DIR")).join("../books/small.txt")
 }
 
-/// A number with its thousands parted, as the tool prints it.
+/// A number with separated thousands, as the tool prints it.
 pub fn grouped(number: usize) -> String {
     match number {
         0..=999 => number.to_string(),
@@ -19,7 +19,7 @@ pub fn grouped(number: usize) -> String {
     }
 }
 
-/// A folder of this test's own, with the book and its tree in it.
+/// A folder for one test, with the book and its tree in it.
 pub struct Folder(pub PathBuf);
 
 impl Folder {
@@ -60,7 +60,7 @@ impl Folder {
         names
     }
 
-    /// Run the tool with words parted by spaces, and nothing on standard input.
+    /// Runs the tool with arguments separated by spaces, and nothing on standard input.
     pub fn run(&self, words: &str) -> Done {
         self.pipe(words, b"")
     }

@@ -2,7 +2,7 @@
 
 use super::Rng;
 
-/// The base that releases up to 1.15 had, modulo 2^32.
+/// The base of fingerprints in releases up to 1.15, modulo 2^32.
 const OLD_BASE: u32 = 1_540_483_477;
 const LETTERS: &[u8; 36] = b"0123456789ABCDEFGHIJKLMNOPQRSTUVWXYZ";
 /// Words of four letters.

@@ -1,4 +1,4 @@
-//! What the tests and the benchmark share: random numbers, code books, hexadecimal.
+//! Code that the tests and the benchmarks share: random numbers, code books, hexadecimal.
 #![allow(dead_code)] // each test uses a part
 
 pub mod books;
@@ -45,7 +45,7 @@ pub fn setting(name: &str, otherwise: u64) -> u64 {
     std::env::var(name).ok().map_or(otherwise, |value| value.parse().expect("a number"))
 }
 
-/// Run `round` so many times, or ROUNDS, each with numbers of its own; SEED starts them elsewhere.
+/// Runs `round` this many times, or ROUNDS times, each with its own random numbers; SEED sets where these start.
 pub fn rounds(otherwise: u64, mut round: impl FnMut(&mut Rng)) {
     let seed = setting("SEED", 1);
     for i in 0..setting("ROUNDS", otherwise) {

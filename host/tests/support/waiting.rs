@@ -1,4 +1,4 @@
-//! The tool stopped half way, with and without nameless files.
+//! The tool stopped half way, on file systems with and without nameless files.
 #![allow(dead_code)] // each test uses a part
 
 use super::folder::Folder;
@@ -7,7 +7,7 @@ use std::os::unix::process::CommandExt;
 use std::process::{Child, Stdio};
 use std::time::{Duration, Instant};
 
-/// As on file systems with nameless files, and on those without.
+/// Runs a test as on file systems with nameless files, and as on those without.
 pub fn both_ways(test: impl Fn(&str, &str)) {
     test("", "nameless");
     test("CODEBOOK_NAMED=1 ", "named");
@@ -46,7 +46,7 @@ pub fn started(folder: &Folder, named: bool, words: &str) -> Child {
     tool.spawn().expect("the tool starts")
 }
 
-/// Wait until the tool has made so many files ready.
+/// Waits until the tool has opened this many files for writing.
 pub fn wait_until_ready(folder: &Folder, child: &Child, named: bool, files: usize) {
     let start = Instant::now();
     let ready = || match named {

@@ -1,4 +1,4 @@
--- `equal_at` meets its contract: the parts that are lent are the stretches.
+-- `equal_at` meets its contract: the subslices that it passes on are the two ranges of bytes.
 use native.Mathlib.Nat.{add-sub-cancel-left}
 use borrow.Author.Needs.{needs}
 use Rattle.text.specs.Text.{stretch}

@@ -1,4 +1,4 @@
--- `advance` by hand: a mark of its own is lent to `advance_mark` for a lifetime that begins and ends here, and is read when it is back.
+-- `advance` by hand: `advance_mark` borrows a local mark for a lifetime that begins and ends here; the mark is read after that.
 use mathlib.Core.Path.{_≡_, refl, ap}
 use Prim.Native.Nat.{ℕ, _<_, _^_}
 use mathlib.Core.List.{[], _∷_, List}
@@ -152,7 +152,7 @@ module _ {M : Type 1} (𝓤 : URA M) (H : Heap 𝓤) (A : Atoms 𝓤) (W : Given
       move ! (2 ∷ []) $ fsplit ! $ use1 W (‵ Own₂ ⊛ ‵ Own₂) (shr-slice-copy 𝓤 H A W (named 1) κ′ u8 .twice g (z ∷ [])) $ split ! $
       -- [the question's; again; the number; t's; t's again; α's token; the mark's; the tokens]
       move ! (2 ∷ []) $ fsplit ! $ drop ! $ move ! (1 ∷ 0 ∷ []) $ fjoin ! $ move ! (2 ∷ 0 ∷ []) $ fjoin ! $ move ! (4 ∷ 0 ∷ []) $ fjoin ! $
-      -- [what the call is lent; the question's; t's; α's token; the tokens]
+      -- [what the call borrows; the question's; t's; α's token; the tokens]
       move ! (3 ∷ 4 ∷ []) $ join ! $ use2 W (raw (Show 𝓤 H A at-mem run .pre (to α l δ)))
       (qed W ((‵ (flft (α ∷ []) fullShare) ⊛ ‵ (flft κ q) ⊛ ‵ (flft κ′ q′) ⊛ ‵ ftrue) ∷ ‵ (owns (MutRef (named 0) (α ∷ []) T.the-row ∷ ShrSlice
       (named 1) κ u8 ∷ ShrSlice (named 2) κ′ u8 ∷ []) (args l δ) (vptr l 0 ∷ [], (s ∷ [], (z ∷ [], tt)))) ∷ []) ∵ join ! $ frame ! $ done !) $
@@ -185,14 +185,14 @@ module _ {M : Type 1} (𝓤 : URA M) (H : Heap 𝓤) (A : Atoms 𝓤) (W : Given
           (record { fits = fits }, tt),
         )) $
         assigns ! (addr ! (from ! (stop !))) (from ! (stop !)) (init ! 0 refl (tt, tt)) $
-        -- The mark is lent for a new lifetime.
+        -- The mark is borrowed for a new lifetime.
         move ! (6 ∷ []) $ use1 W (‵ (partAt T.the-row fullShare (on n) l₄ 0)) (lies l₄) $ lft-new ! tt (λ α. move ! (1 ∷ []) $
         use1 W (later (some (λ (δ : GName). ‵ (Lent α l₄ δ) ⊛ ‵ (flent (α ∷ []) (Body (mem T.the-row) l₄ 0 δ)))))
         (lends-ref 𝓤 H A W T.the-row (named 0) (α ∷ []) (on n) l₄ 0) $ await ! tt $ pick ! (λ δ. split ! $
         -- [the mark's; the lender's part; α's token; _7 3; _6 5; _5 7; the end of _4 9; _3 10; _2 12; _1 14; _0 16; the tokens 18; what is owned]
         move ! (18 ∷ 19 ∷ []) $ join ! $ move ! (1 ∷ 0 ∷ []) $ join ! $ move ! (2 ∷ 0 ∷ []) $ join ! $
         use1 W (raw (Show 𝓤 H A at-mem run .pre (to α l₄ δ)) ⊛ ‵ Own ⊛ ‵ Own₂) (goes α l₄ δ) $ split ! $
-        -- [what `advance_mark` asks; the slices'; the lender's part; _7 3; ..]
+        -- [what `advance_mark` requires; the slices'; the lender's part; _7 3; ..]
         calls-at ! fm (Show 𝓤 H A at-mem run) known (to α l₄ δ) (and-then ! (load ! (from ! (stop !)) (look ! 3 refl))
         (and-then ! (load ! (from ! (stop !)) (look ! 14 refl)) (and-then ! (load ! (from ! (stop !)) (look ! 12 refl)) (no-more !)))) (λ u.
         use1 W (later (some (λ (f : NextRowAnswer). ((‵ (flft (α ∷ []) fullShare) ⊛ ‵ (flft κ q) ⊛ ‵ (flft κ′ q′) ⊛ ‵ ftrue) ⊛ ‵ (S.the-row .own f (u ∷ [])))

@@ -129,7 +129,7 @@ module _ {M : Type 1} (𝓤 : URA M) (H : Heap 𝓤) (A : Atoms 𝓤) (W : Given
       -- [the question's; the question's again; nothing; t's; t's again; the tokens]
       move ! (2 ∷ []) $ owned !
       u32 (Is u32) (uint-makes 𝓤 H A W w32) (h .row) _ (refl, at-fits) $ fjoin ! $ move ! (1 ∷ 0 ∷ []) $ fjoin ! $ move ! (2 ∷ 0 ∷ []) $ fjoin ! $
-      -- [what the call is lent; the question's; t's; the tokens]
+      -- [what the call borrows; the question's; t's; the tokens]
       move ! (3 ∷ 0 ∷ []) $ use2 W (raw (NextMatch 𝓤 H A at-mem run .pre to))
       (qed W ((‵ (flft κ′ q′) ⊛ ‵ (flft κ″ q″) ⊛ ‵ ftrue) ∷ ‵ (owns (ShrSlice (named 0) κ′ u8 ∷ ShrSlice (named 1) κ″ u8 ∷ u32 ∷ [])
       (t, (g, (h .row, tt))) (s ∷ [], (z ∷ [], (vint w32 (h .row) ∷ [], tt)))) ∷ []) ∵ join ! $ frame ! $ done !) $
@@ -186,7 +186,7 @@ module _ {M : Type 1} (𝓤 : URA M) (H : Heap 𝓤) (A : Atoms 𝓤) (W : Given
         (from ! (stop !)) (init ! 11 refl (tt, record { fits = LL.owed T.the-type T′.the-laws h _ was .0 .1 })) $
         move ! (5 ∷ 6 ∷ []) $ use2
         W (raw (NextMatch 𝓤 H A at-mem run .pre to) ⊛ ‵ Own ⊛ ‵ Own₂) (apart (LL.owed T.the-type T′.the-laws h _ was .0 .1)) $ split ! $
-        -- [what `find_at` asks; what t owns; the cell; what a Mark owns; the open borrow; obs; auth; _6 7; ..]
+        -- [what `find_at` requires; what t owns; the cell; what a Mark owns; the open borrow; obs; auth; _6 7; ..]
         calls-at ! fm (NextMatch 𝓤 H A at-mem run) known to (and-then ! (load ! (from ! (stop !)) (look ! 15 refl))
         (and-then ! (load ! (from ! (stop !)) (look ! 13 refl)) (and-then ! (load ! (from ! (stop !)) (look ! 11 refl)) (no-more !)))) (λ u.
         use1 W (later (some (λ (f : NextRowAnswer). ((‵ (flft κ′ q′) ⊛ ‵ (flft κ″ q″) ⊛ ‵ ftrue) ⊛ ‵ (S.the-row .own f (u ∷ [])))

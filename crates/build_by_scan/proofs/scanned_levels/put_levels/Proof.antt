@@ -11,7 +11,7 @@ use Rattle.build_by_scan.proofs.scanned_levels.put_levels.Tie as tie
 
 abbrev Inv-loop : tie.InvT-loop
 Inv-loop out₀ words₀ text counted first seed level₀ windows₀ out words level windows =
-    along.Along (first .settings) counted text out₀ words₀ out words level windows
+    along.ScanReached (first .settings) counted text out₀ words₀ out words level windows
 
 abbrev μ-loop : tie.MeasureT-loop
 μ-loop out₀ words₀ text counted first seed level₀ windows₀ out words level windows = first .settings .levels - level .number

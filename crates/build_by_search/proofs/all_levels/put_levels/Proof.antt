@@ -9,7 +9,7 @@ use Rattle.build_by_search.proofs.all_levels.put_levels.Statement.{stat
 use Rattle.build_by_search.proofs.all_levels.put_levels.Tie as tie
 
 abbrev Inv-loop : tie.InvT-loop
-Inv-loop out₀ text counted first level₀ out level = laws.Reached (first .settings) counted text out₀ out level
+Inv-loop out₀ text counted first level₀ out level = laws.LevelReached (first .settings) counted text out₀ out level
 
 abbrev μ-loop : tie.MeasureT-loop
 μ-loop out₀ text counted first level₀ out level = first .settings .levels - level .number
