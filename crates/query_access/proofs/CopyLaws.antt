@@ -138,7 +138,7 @@ module _ (t : List ℕ) (h : Header) (p len : ℕ)
               0 (k .passes) (omega (arith, k .length-is)) room z q (y .0) (rest-broken t p len i more (y .1) ∙ c .hold) (rw past at z-is),
         )
 
-  -- All are span.
+  -- All are copied.
   pub copy-end : i ≡ len → ByPaths t p len d (record { number = 0; value = len; entered = 0 }) e
   copy-end all = span-copied t p len d (pathsHold t p len)
       (tabulate len (values t p)) 0 (k .passes) (omega (arith, k .length-is)) room e (rest-end t p len i all ∙ c .hold) (rw all at (c .bytes))

@@ -1,10 +1,11 @@
--- The run of a place, from the end of its walk, and its bytes span.
+-- The run of a place, from the end of its walk, and its bytes copied.
 use mathlib.Core.List.{List}
 use mathlib.Core.Path.{_≡_, refl, sym, ap, _∙_}
 use Prim.Native.Nat.{ℕ, zero, suc, _+_, _-_, _≤_, _<_, min}
 use native.Mathlib.Omega.{arith}
 use native.Mathlib.Nat.{le-trans}
 use lib.ListN.{length, getD, set}
+use Rattle.format.specs.Layout.{maxText}
 use Rattle.format.specs.Layout as at
 use Rattle.format.specs.Answers.{Answer, refused, replied, byteAnswer, runAnswer}
 use Rattle.format.specs.TreeReading.{headerResult}
@@ -13,6 +14,9 @@ use Rattle.theory_paths.specs.Reads.{byte-of-path}
 use Rattle.theory_paths.specs.PlaceBytes.{byte-text}
 use Rattle.layout.specs.declared.header.Header.{Header}
 use Rattle.layout.specs.HeaderFields.{HeaderOf}
+use Rattle.walk_steps.specs.Steps.{OnLevel}
+use Rattle.walk_steps.proofs.NextLaws.{on-top}
+use Rattle.walk_path.specs.declared.TopLevel.{TopLevel}
 use Rattle.byte_slices.specs.ByteSlices.{bytesWritten}
 use Rattle.byte_slices.proofs.ByteSliceLaws.{bytes-more}
 use Rattle.query_access.specs.declared.ByteAnswer.{ByteAnswer}
@@ -34,6 +38,13 @@ use Rattle.query_access.specs.ReadByRuns.{ReadsOn, LeafRunAt, LeafRunOf,
 use Rattle.query_access.proofs.ByteLaws as bytes
 use Rattle.query_access.proofs.RunLaws.{run-answers, run-from, run-size, run-some}
 use Rattle.query_access.proofs.LeafEndLaws.{end-is, end-left, end-entered, left-min, joined-answers}
+
+-- The walk of a place of the text can start.
+pub walk-ready : (t : List ℕ) (h : Header) → HeaderOf t h → (p : ℕ) → p < h .«text_length» → (top : TopLevel)
+    → top ≡ record { size = h .«record_size»; b = h .«top_length» }
+    → (OnLevel t (top .size) 0 (top .b)) × (p < at.textLength t) × (h .«text_length» - p ≤ maxText)
+walk-ready t h k p low top is =
+    (rw is (on-top t h k), omega (arith, k .length-is), omega (arith, k .length-is, k .facts .bounds .text-high))
 
 -- The answer of `end_of`.
 module _ (t : List ℕ) (p : ℕ) (x : LeafEndAnswer) (x-is : LeafEndOf t p x) where
@@ -227,7 +238,7 @@ module _ (t : List ℕ) (p : ℕ) (r : LeafRun) (k : ReadsFrom t p r) where
   pub run-answered : (x : ℕ) → x < r .length → byteAnswer t (p + x) .number ≡ 0
   run-answered x l = ap (λ (s : Answer). s .number) (k .answers x l)
 
--- A range, all span.
+-- A range, all copied.
 pub run-copied : (t : List ℕ) (p most : ℕ) (r : LeafRun) → LeafRangeAt t p most r
     → (to : ℕ) (d e : List ℕ) (c : SpanAnswer) → c ≡ span.Bytes (r .length) 0 → e ≡ bytesWritten d to t (r .from) (r .length) → RunCopied t p most to d e c
 run-copied t p most r k to d e c c-is is =
