@@ -3,7 +3,7 @@ use mathlib.Core.List.{List, [], _∷_}
 use mathlib.Core.Path.{_≡_, refl}
 use Prim.Native.Nat.{ℕ}
 use lib.ListN.{replicate}
-use Rattle.text.specs.Text.{tabulate, concat, sumBelow, countBelow, sameList, stretch, leftmost, firstFrom, countIn}
+use Rattle.text.specs.Text.{tabulate, concat, sumBelow, countBelow, sameList, substring, leftmost, firstFrom, countIn}
 use Rattle.format.specs.Layout.{wordsBytes, wordBytes, Settings, blockLength, pieces, recordLength, lengthOk, sizesOk, countedOk, rising, risingAfter}
 use Rattle.format.specs.Layout.{edgesOf, filledOut}
 use Rattle.format.specs.Blocks.{treeOf, header, leafBytes, levelPairs, recordBytes, levelBytes, recordIn, recordOf, target, occurrence, width, isKept}
@@ -40,7 +40,7 @@ pub record Scans : Type 0 where
 
 pub scans : Scans
 unfolding scan-book scan-abcd with-levels tabulate concat sumBelow
-    countBelow sameList stretch leftmost firstFrom countIn wordsBytes wordBytes blockLength pieces lengthOk sizesOk countedOk rising risingAfter
+    countBelow sameList substring leftmost firstFrom countIn wordsBytes wordBytes blockLength pieces lengthOk sizesOk countedOk rising risingAfter
     treeOf header leafBytes levelPairs recordBytes recordLength edgesOf filledOut levelBytes recordIn recordOf target occurrence width isKept
     startsAt cut keptByPairs firstPairAt pairAt lengthOf startOf anyBelow hasLength windowsAt windowsOf tableWords buildScannedRefusal scanSize scanWindows
 scans = record {

@@ -20,7 +20,7 @@ use Rattle.build_records.specs.declared.level_written.Level.{Level}
 use Rattle.build_records.specs.declared.level_written.Stretch.{Stretch}
 use Rattle.build_records.specs.declared.record_written.Block.{Block}
 use Rattle.build_records.specs.RecordPlaces.{recordPlace}
-use Rattle.build_records.specs.State.{LevelIs, recordSettingsOf, On, StretchIs, BlockIs}
+use Rattle.build_records.specs.State.{LevelIs, recordSettingsOf, On, SubstringIs, BlockIs}
 use Rattle.build_marking.specs.TargetSearch.{parentAnswer, Sorted, Between}
 use Rattle.build_records.proofs.RecordsRead.{start-fits, start-read}
 use Rattle.build_records.proofs.StateLaws.{record-few}
@@ -75,7 +75,7 @@ module _ (S : Settings) (T out : List ℕ) (level : Level) (i : ℕ) (w : On S T
   parent-by (suc n) s above = rw (ne-eqb (suc n) 0 (λ e. omega arith), above n refl)
 
   -- The block as the code reads it.
-  module _ (own : Stretch) (own-is : StretchIs S T l i own) (up : ℕ) (up-is : up ≡ parentAnswer (level .number) (level .above) (own .start .0)) where
+  module _ (own : Stretch) (own-is : SubstringIs S T l i own) (up : ℕ) (up-is : up ≡ parentAnswer (level .number) (level .above) (own .start .0)) where
     up-right : up ≡ parentOf S T l (start S T l i)
     up-right = up-is ∙ parent-by l (own .start .0) (lev .above-is) ∙ ap (parentOf S T l) (own-is .start-is)
 
@@ -149,7 +149,7 @@ module _ (S : Settings) (T out : List ℕ) (level : Level) (i : ℕ) (w : On S T
         pub from-le : from ≤ p
         from-le = omega (arith, from-is, b .from)
 
-        pub pointing-is : (own : Stretch) → StretchIs S T l i own → (up : ℕ) → up ≡ parentAnswer (level .number) (level .above) (own .start .0)
+        pub pointing-is : (own : Stretch) → SubstringIs S T l i own → (up : ℕ) → up ≡ parentAnswer (level .number) (level .above) (own .start .0)
             → BlockIs S T l i (block-with own up 1 r from (p - from))
         unfolding kindOf linkOf gapOf skipOf
         pointing-is own own-is up up-is = record {

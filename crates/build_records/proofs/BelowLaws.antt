@@ -25,7 +25,7 @@ use Rattle.build_records.specs.declared.level_written.Stretch.{Stretch}
 use Rattle.build_records.specs.WritesOnlyTree.{WritesOnlyTree, AgreesOn}
 use Rattle.build_records.specs.RecordPlaces.{recordPlace}
 use Rattle.build_records.specs.WrittenStarts.{startsWritten, StartsAsk}
-use Rattle.build_records.specs.State.{LevelIs, recordSettingsOf, RecordsUpTo, Below, Started, On, StretchIs, placeAt}
+use Rattle.build_records.specs.State.{LevelIs, recordSettingsOf, RecordsUpTo, Below, Started, On, SubstringIs, placeAt}
 use Rattle.build_records.proofs.Growth.{read-right, within-grown, within-part}
 use Rattle.build_records.proofs.RecordsRead.{on-written}
 use Rattle.build_records.proofs.WrittenStartsLaws.{starts-grown, starts-within}
@@ -113,7 +113,7 @@ module _ (S : Settings) (T out : List ℕ) (level next : Level) (i : ℕ) (w : B
           pub link-few : link ≤ maxText
           link-few = omega (arith, link-right, widths-le S T (lev .taken) l i (lev .number-in) (omega (arith, i-in)), limits .text-high)
 
-          module _ (own : Stretch) (own-is : StretchIs S T l i own) where
+          module _ (own : Stretch) (own-is : SubstringIs S T l i own) where
             size-right : next .size ≡ size S T (suc l)
             size-right = w .next-is .size-is ∙ ap (blockLength S) (w .follows)
 

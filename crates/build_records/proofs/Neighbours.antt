@@ -4,7 +4,7 @@ use mathlib.Core.Path.{_≡_, refl, sym, ap, _∙_}
 use Prim.Native.Nat.{ℕ, zero, suc, _+_, _-_, _*_, _≤_, _<_}
 use native.Mathlib.Omega.{arith}
 use native.Mathlib.Nat.{suc-mul, div-mul-le-self}
-use Rattle.text.specs.Text.{sumBelow, stretch, countIn}
+use Rattle.text.specs.Text.{sumBelow, substring, countIn}
 use Rattle.text.specs.CountLaws.{count-add}
 use Rattle.format.specs.Layout.{Settings}
 use Rattle.theory_built.specs.BlockSizes.{Taken}
@@ -74,11 +74,11 @@ module _ (S : Settings) (T : List ℕ) (h : Taken S T) where
       let at : up + (start S T l j - up) ≡ start S T l j = omega arith in
       rw (left .together, len)
       (count-add c T up (start S T l j - up) (bytesIn S T l j)
-      ∙ ap (λ (x : ℕ). countIn c (stretch T up (start S T l j - up)) + countIn c (stretch T x (bytesIn S T l j))) at)
+      ∙ ap (λ (x : ℕ). countIn c (substring T up (start S T l j - up)) + countIn c (substring T x (bytesIn S T l j))) at)
 
   -- No block is to the left of one that starts with its parent.
   pub before-first : (l i c : ℕ) → start S T l i ≡ parentOf S T l (start S T l i) → beforeOf S T l i c ≡ 0
-  unfolding beforeOf stretch countIn
+  unfolding beforeOf substring countIn
   before-first l i c e =
       let z : start S T l i - parentOf S T l (start S T l i) ≡ 0 = omega arith in
       rw z

@@ -9,7 +9,7 @@ use lib.ListN.{length, getD}
 use lib.Dec.{eqb}
 use borrow.Author.Tests.{eqb-true, eqb-false}
 use Rattle.text.specs.ListLaws.{bool-cases}
-use Rattle.text.specs.Text.{stretch, countIn}
+use Rattle.text.specs.Text.{substring, countIn}
 use Rattle.format.specs.Layout.{wordAt, kindField, plainBytes, countedBytes, Settings, headerLength}
 use Rattle.format.specs.WordLaws.{putThree}
 use Rattle.format.specs.Blocks.{treeOf, recordBytes}
@@ -135,7 +135,7 @@ module _ (S : Settings) (T out : List ℕ) (level : Level) (i : ℕ) (block : Bl
         go (inl y) = rw y (sym (before-first S T taken l i x (sym (w .block-is .start-is) ∙ eqb-true _ _ y ∙ w .block-is .parent-is)))
         go (inr y) = let j = apart (eqb-false _ _ y) in rw y (words (j .0) (j .1))
 
-    inside-is : countIn x (stretch T (block .start .0) (block .length)) ≡ insideOf S T l i x
+    inside-is : countIn x (substring T (block .start .0) (block .length)) ≡ insideOf S T l i x
     unfolding insideOf
     inside-is = rw (w .block-is .start-is, w .block-is .length-is)
 
@@ -148,7 +148,7 @@ module _ (S : Settings) (T out : List ℕ) (level : Level) (i : ℕ) (block : Bl
     -- The three counts are written.
     module _ (new : List ℕ) (b : ℕ) (b-is : b ≡ beforeWord out left (block .start .0) (block .parent .0))
         (new-is : new ≡ putThree out (at + plainBytes + countedBytes * c)
-        b (countIn x (stretch T (block .start .0) (block .length))) (countIn x (stretch T (block .from .0) (block .gap .0)))) where
+        b (countIn x (substring T (block .start .0) (block .length))) (countIn x (substring T (block .from .0) (block .gap .0)))) where
       new-right : new ≡ putThree out (P + plainBytes + countedBytes * c) (beforeOf S T l i x) (insideOf S T l i x) (skipOf S T l i x)
       new-right = new-is ∙ rw (here, b-is ∙ before-is, inside-is, w .block-is .skip-is x)
 

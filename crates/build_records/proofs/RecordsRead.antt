@@ -14,7 +14,7 @@ use Rattle.theory_built.specs.BlockSizes.{bounds}
 use Rattle.build_records.specs.declared.level_written.Level.{Level}
 use Rattle.build_records.specs.WritesOnlyTree.{AgreesOn}
 use Rattle.build_records.specs.RecordPlaces.{recordPlace}
-use Rattle.build_records.specs.State.{recordSettingsOf, LevelIs, On, StretchIs, placeAt}
+use Rattle.build_records.specs.State.{recordSettingsOf, LevelIs, On, SubstringIs, placeAt}
 use Rattle.build_records.proofs.Growth.{read-right, within-part}
 use Rattle.build_records.proofs.StateLaws.{record-size, place-is, start-stands, record-inside-table, offset-low}
 
@@ -49,8 +49,8 @@ module _ (S : Settings) (T out : List ℕ) (level : Level) (i : ℕ) (w : On S T
     s-right : s .0 ≡ start S T l i
     s-right = s-is ∙ start-read i (w .block-in)
 
-    pub stretch-is : (len : ℕ) → len ≡ min (level .size) (length T - s .0) → StretchIs S T l i (record { start = s; length = len })
-    stretch-is len len-is =
+    pub substring-is : (len : ℕ) → len ≡ min (level .size) (length T - s .0) → SubstringIs S T l i (record { start = s; length = len })
+    substring-is len len-is =
         let e : len ≡ bytesIn S T l i = len-is ∙ rw (s-right, lev .size-is) (sym (bytesIn-is S T l i)) in
         record {
           start-is = s-right;

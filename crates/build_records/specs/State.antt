@@ -3,7 +3,7 @@ use mathlib.Core.List.{List}
 use mathlib.Core.Path.{_≡_}
 use Prim.Native.Nat.{ℕ, suc, _+_, _*_, _≤_, _<_}
 use lib.ListN.{length}
-use Rattle.text.specs.Text.{sumBelow, stretch, countIn}
+use Rattle.text.specs.Text.{sumBelow, substring, countIn}
 use Rattle.format.specs.Layout.{Settings, blockLength, headerLength}
 use Rattle.format.specs.Blocks.{treeOf, recordBytes}
 use Rattle.layout.specs.declared.settings.Settings as code
@@ -44,7 +44,7 @@ module _ (S : Settings) (T : List ℕ) where
     pub starts : (x : ℕ) → x < count S T l → AgreesOn (treeOf S T) out (placeAt l x) (placeAt l x + 4)
 
   -- The bytes of block i of level l, as the code reads them.
-  pub record StretchIs (l i : ℕ) (r : Stretch) : Type 0 where
+  pub record SubstringIs (l i : ℕ) (r : Stretch) : Type 0 where
     pub start-is : r .start .0 ≡ start S T l i
     pub length-is : r .length ≡ bytesIn S T l i
     pub fits : r .start .0 + r .length ≤ length T
@@ -57,7 +57,7 @@ module _ (S : Settings) (T : List ℕ) where
     pub kind-is : block .kind ≡ kindOf S T l i
     pub link-is : block .link .0 ≡ linkOf S T l i
     pub gap-is : block .gap .0 ≡ gapOf S T l i
-    pub skip-is : (c : ℕ) → countIn c (stretch T (block .from .0) (block .gap .0)) ≡ skipOf S T l i c
+    pub skip-is : (c : ℕ) → countIn c (substring T (block .from .0) (block .gap .0)) ≡ skipOf S T l i c
     pub skip-in : block .from .0 + block .gap .0 ≤ length T
 
   -- The record of block i of a level is written next.

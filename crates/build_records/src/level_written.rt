@@ -13,7 +13,7 @@ ghost use Rattle.format.specs.Layout.{maxText, maxLeaf, maxCounted, wordAt, pla
 ghost use Rattle.format.specs.SizeLaws.{maxRecord};
 ghost use Rattle.format.specs.Blocks.{recordBytes};
 ghost use Rattle.build_records.specs.RecordPlaces.{recordPlace};
-ghost use Rattle.build_records.specs.State.{recordSettingsOf, On, StretchIs};
+ghost use Rattle.build_records.specs.State.{recordSettingsOf, On, SubstringIs};
 
 pub struct Level {
     pub settings: Settings,
@@ -64,7 +64,7 @@ pub fn start(counted: &[u8], out: &[u8], level: Level, block: BlockNumber) -> Te
 // The bytes of a block of a level whose starts have been written.
 pub fn stretch_of(text: &[u8], counted: &[u8], out: &[u8], level: Level, i: BlockNumber) -> Stretch
     requires { ⌜ On (recordSettingsOf (level .settings) (now counted)) (now text) (now out) level (i .0) ⌝ }
-    ensures { λ r. ⌜ StretchIs (recordSettingsOf (level .settings) (now (counted .entry))) (now (text .entry)) (level .number) (i .0) r ⌝ }
+    ensures { λ r. ⌜ SubstringIs (recordSettingsOf (level .settings) (now (counted .entry))) (now (text .entry)) (level .number) (i .0) r ⌝ }
 {
     let start = start(counted, out, level, i);
     Stretch {

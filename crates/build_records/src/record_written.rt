@@ -11,7 +11,7 @@ use layout::word;
 ghost use mathlib.Core.Path.{_≡_};
 ghost use Prim.Native.Nat.{_+_, _-_, _*_, _≤_, _<_};
 ghost use lib.ListN.{length};
-ghost use Rattle.text.specs.Text.{stretch, countIn};
+ghost use Rattle.text.specs.Text.{substring, countIn};
 ghost use Rattle.format.specs.Layout.{maxText, wordAt, plainBytes, countedBytes, headerLength};
 ghost use Rattle.format.specs.WordLaws.{putThree};
 ghost use Rattle.format.specs.Blocks.{treeOf};
@@ -38,8 +38,8 @@ fn put_count(out: &mut [u8], text: &[u8], byte: u8, at: usize, block: Block, bef
     requires { ⌜ (at + countedBytes ≤ length (now out)) × (length (now text) ≤ maxText)
         × (block .start .0 + block .length ≤ length (now text)) × (block .from .0 + block .gap .0 ≤ length (now text)) ⌝ }
     ensures { λ _. ⌜ now (out .exit) ≡ putThree (now (out .entry)) at before
-        (countIn byte (stretch (now (text .entry)) (block .start .0) (block .length)))
-        (countIn byte (stretch (now (text .entry)) (block .from .0) (block .gap .0))) ⌝ }
+        (countIn byte (substring (now (text .entry)) (block .start .0) (block .length)))
+        (countIn byte (substring (now (text .entry)) (block .from .0) (block .gap .0))) ⌝ }
 {
     let inside = byte_slices::count_in(text, block.start.0 as usize, block.length, byte);
     let skip = byte_slices::count_in(text, block.from.0 as usize, block.gap.0, byte);

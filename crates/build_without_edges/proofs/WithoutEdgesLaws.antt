@@ -7,7 +7,7 @@ use native.Mathlib.Numerals.{add-one}
 use native.Mathlib.Nat.{add-mul, mul-le-mul-right, mul-div-cancel}
 use lib.ListN.{length, set, take, drop, length-append, length-drop, length-set, take-append-drop}
 use lib.Seq.{paste-zero, paste-suc, getD-drop, take-at, drop-append-add, drop-drop, length-take-le, set-append-left}
-use Rattle.text.specs.Text.{tabulate, concat, sumBelow, stretch}
+use Rattle.text.specs.Text.{tabulate, concat, sumBelow, substring}
 use Rattle.text.specs.ListLaws.{sumBelow-suc}
 use Rattle.format.specs.Answers.{replied}
 use Rattle.format.specs.Layout.{setWord, maxLevels, layoutAt, offsetAt, leafOffsetAt, headerLength, recordLength}
@@ -34,8 +34,8 @@ use Rattle.build_without_edges.specs.WithoutEdgesState.{ReadableSizes, H
 
 -- Copied bytes lie between the bytes before and after them, which are unchanged.
 layout1-copied : (d T : List ℕ) (to from n : ℕ) → to + n ≤ length d → from + n ≤ length T
-    → bytesWritten d to T from n ≡ take to d ++ stretch T from n ++ drop (to + n) d
-unfolding stretch
+    → bytesWritten d to T from n ≡ take to d ++ substring T from n ++ drop (to + n) d
+unfolding substring
 layout1-copied d T to from zero a b = paste-zero d to (drop from T)
 layout1-copied d T to from (suc n) a b =
     rw (layout1-copied d T to from n (omega arith) (omega arith), ← getD-drop from T n 0)
@@ -47,11 +47,11 @@ past P d to n is = rw (← is) (drop-append-add P (drop (length P) d) n ∙ drop
 
 -- Bytes copied directly after a part that is already written.
 pub copied-after : (P d T e : List ℕ) (to from n : ℕ) → length P ≡ to → to + n ≤ length d → from + n ≤ length T → e ≡ P ++ drop to d
-    → bytesWritten e to T from n ≡ P ++ stretch T from n ++ drop (to + n) d
+    → bytesWritten e to T from n ≡ P ++ substring T from n ++ drop (to + n) d
 copied-after P d T e to from n is room held e-is =
     let size : length e ≡ length d = rw (e-is, length-append P, length-drop to d, is) (omega arith) in
     layout1-copied e T to from n (rw size room) held
-    ∙ ap (λ (x : List ℕ). x ++ stretch T from n ++ drop (to + n) e) front ∙ ap (λ (x : List ℕ). P ++ stretch T from n ++ x) rest
+    ∙ ap (λ (x : List ℕ). x ++ substring T from n ++ drop (to + n) e) front ∙ ap (λ (x : List ℕ). P ++ substring T from n ++ x) rest
   where
     front : take to e ≡ P
     front = rw e-is (take-at P (drop to d) to is)
@@ -102,7 +102,7 @@ module _ (t : List ℕ) where
       → levels ≡ at.settings t .levels → levels ≤ maxLevels → leaves ≡ layout1Offset t levels
       → e ≡ bytesWritten d 0 t 0 headerLength → f ≡ setWord e layoutAt edgelessLayout → g ≡ offsetsIn t levels f → h ≡ setWord g leafOffsetAt leaves
       → h ≡ layout1Header t ++ drop headerLength d
-  unfolding layout1Header stretch
+  unfolding layout1Header substring
   header-is levels leaves d e f g h long room lev few leaf e-is f-is g-is h-is =
       let a : List ℕ = take headerLength t in
       let r : List ℕ = drop headerLength d in

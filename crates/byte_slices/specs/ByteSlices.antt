@@ -3,13 +3,13 @@ use mathlib.Core.List.{List}
 use mathlib.Core.Path.{_≡_}
 use Prim.Native.Nat.{ℕ, zero, suc, _+_, _≤_, _<_}
 use lib.ListN.{getD, set}
-use Rattle.text.specs.Text.{stretch, countIn}
+use Rattle.text.specs.Text.{substring, countIn}
 
 -- The j-th occurrence of the byte in the n bytes at a place is at r, or there are fewer.
 pub record HasBytes (t : List ℕ) (from n byte j r : ℕ) : Type 0 where
   pub high : r ≤ n
-  pub here : r < n → (getD t (from + r) 0 ≡ byte) × (countIn byte (stretch t from r) + 1 ≡ j)
-  pub fewer : n ≤ r → countIn byte (stretch t from n) < j
+  pub here : r < n → (getD t (from + r) 0 ≡ byte) × (countIn byte (substring t from r) + 1 ≡ j)
+  pub fewer : n ≤ r → countIn byte (substring t from n) < j
 
 -- The n bytes of T from `from` on, written from `to` on.
 abbrev pub bytesWritten : List ℕ → ℕ → List ℕ → ℕ → ℕ → List ℕ

@@ -3,13 +3,13 @@ ghost use mathlib.Core.Path.{_≡_};
 ghost use mathlib.Core.List.{[], _++_};
 ghost use Prim.Native.Nat.{_+_, _≤_, min};
 ghost use lib.ListN.{length, drop, replicate};
-ghost use Rattle.text.specs.Text.{sameList, stretch, countIn};
+ghost use Rattle.text.specs.Text.{sameList, substring, countIn};
 ghost use Rattle.byte_slices.specs.ByteSlices.{HasBytes, bytesWritten};
 
 // How often a byte occurs in the n bytes at a place.
 pub fn count_in(t: &[u8], from: usize, n: u32, byte: u8) -> u32
     requires { ⌜ from + n ≤ length (now t) ⌝ }
-    ensures { λ r. ⌜ (r ≡ countIn byte (stretch (now (t .entry)) from n)) × (r ≤ n) ⌝ }
+    ensures { λ r. ⌜ (r ≡ countIn byte (substring (now (t .entry)) from n)) × (r ≤ n) ⌝ }
 {
     let mut times: u32 = 0;
     let mut i: u32 = 0;
@@ -97,7 +97,7 @@ pub fn equal(a: &[u8], b: &[u8]) -> bool
 // Whether the n bytes at p and at q are equal.
 pub fn equal_at(text: &[u8], p: usize, q: usize, n: usize) -> bool
     requires { ⌜ (p + n ≤ length (now text)) × (q + n ≤ length (now text)) ⌝ }
-    ensures { λ r. ⌜ r ≡ sameList (stretch (now (text .entry)) p n) (stretch (now (text .entry)) q n) ⌝ }
+    ensures { λ r. ⌜ r ≡ sameList (substring (now (text .entry)) p n) (substring (now (text .entry)) q n) ⌝ }
 {
     let p_end = p + n;
     let q_end = q + n;
@@ -107,7 +107,7 @@ pub fn equal_at(text: &[u8], p: usize, q: usize, n: usize) -> bool
 // Whether the n bytes at a place are all zero.
 pub fn all_zero(t: &[u8], a: usize, n: u32) -> bool
     requires { ⌜ a + n ≤ length (now t) ⌝ }
-    ensures { λ r. ⌜ r ≡ sameList (stretch (now (t .entry)) a n) (replicate n 0) ⌝ }
+    ensures { λ r. ⌜ r ≡ sameList (substring (now (t .entry)) a n) (replicate n 0) ⌝ }
 {
     let mut i: u32 = 0;
     while i < n {

@@ -7,7 +7,7 @@ use Prim.Native.Nat.{ℕ, suc, _+_, _-_, _/_, _%_, _≤_, _<_, _*_}
 use native.Mathlib.Omega.{arith}
 use borrow.Author.Tests.{lt-ltb, le-ltb}
 use lib.ListN.{length, getD}
-use Rattle.text.specs.Text.{stretch, countIn}
+use Rattle.text.specs.Text.{substring, countIn}
 use Rattle.text.specs.ListLaws.{bool-cases}
 use Rattle.format.specs.Layout.{maxText, maxLeaf, countedAt, linkField}
 use Rattle.format.specs.Layout as at
@@ -22,7 +22,7 @@ use Rattle.layout.specs.Record.{FieldIn, field-in}
 use Rattle.walk_steps.specs.declared.DivRem.{DivRem}
 use Rattle.theory_counts.specs.LevelTrue.{tally, Level}
 use Rattle.theory_counts.specs.CountsExact.{up-to}
-use Rattle.theory_counts.specs.CountedStretches.{leaves-end, tally-le}
+use Rattle.theory_counts.specs.CountedSubstrings.{leaves-end, tally-le}
 use Rattle.theory_counts.specs.PointedCounts.{Handed, handed}
 use Rattle.theory_counts.specs.CountsLocal.{handBlock, handPlace, handPlus, handMinus, inLeafBytes, upTo}
 use Rattle.check_counts.specs.declared.prefix.PrefixTarget.{PrefixTarget}
@@ -95,7 +95,7 @@ module _ (t : List ℕ) (size level i n c link : ℕ) (w : InTable t size level 
       omega (arith, len-small t level i, k .bounds .leaf-high)
 
   pub leaves-are : (off : ℕ) → off ≡ at.leafOffset t
-      → (r : ℕ) → r ≡ countIn (getD t (countedAt + c) 0) (stretch t (off + link) n) → r ≡ inLeafBytes t level i n c
+      → (r : ℕ) → r ≡ countIn (getD t (countedAt + c) 0) (substring t (off + link) n) → r ≡ inLeafBytes t level i n c
   unfolding inLeafBytes
   leaves-are off off-is r e = e ∙ rw (facts.byte-is t c (w .number-in) (w .tree .facts .bounds .counted-high), off-is, link-is)
 

@@ -6,9 +6,9 @@ use Prim.Native.Nat.{ℕ, zero, suc, _+_, _-_, _*_, _≤_, _<_}
 use native.Mathlib.Omega.{arith}
 use borrow.Author.Tests.{eq-eqb}
 use lib.ListN.{length, getD}
-use Rattle.text.specs.Text.{sameList, stretch}
+use Rattle.text.specs.Text.{sameList, substring}
 use Rattle.text.specs.ListLaws.{ne-sameList}
-use Rattle.text.specs.TextLaws.{stretch-ext, stretch-at, stretch-add}
+use Rattle.text.specs.TextLaws.{substring-ext, substring-at, substring-add}
 use Rattle.check_edges.specs.Eights.{eightAt}
 
 -- The lowest digit, and the others.
@@ -71,18 +71,19 @@ module _ (t : List ℕ) (p q : ℕ) where
 
   module _ (n : ℕ) (long : 8 ≤ n) (hp : p + n ≤ length t) (hq : q + n ≤ length t) where
     -- eight that differ decide
-    pub eight-differ : (eightAt t p ≡ eightAt t q → ⊥) → false ≡ sameList (stretch t p n) (stretch t q n)
+    pub eight-differ : (eightAt t p ≡ eightAt t q → ⊥) → false ≡ sameList (substring t p n) (substring t q n)
     eight-differ other =
-        sym (ne-sameList (stretch t p n) (stretch t q n) (λ e. other (eight-numbers (λ x l. stretch-at t t p q n e x (omega arith)))))
+        sym (ne-sameList (substring t p n) (substring t q n) (λ e. other (eight-numbers (λ x l. substring-at t t p q n e x (omega arith)))))
 
     -- eight that agree leave it to the others
     pub eight-agree : ((k : ℕ) → getD t k 0 < 256) → eightAt t p ≡ eightAt t q
-        → sameList (stretch t (p + 8) (n - 8)) (stretch t (q + 8) (n - 8)) ≡ sameList (stretch t p n) (stretch t q n)
+        → sameList (substring t (p + 8) (n - 8)) (substring t (q + 8) (n - 8)) ≡ sameList (substring t p n) (substring t q n)
     eight-agree below e =
         let z : n ≡ 8 + (n - 8) = omega arith in
-        let front : stretch t p 8 ≡ stretch t q 8 = stretch-ext t t p q 8 (omega arith) (omega arith) (eight-bytes below e) in
-        sym (ap (λ (k : ℕ). sameList (stretch t p k) (stretch t q k)) z
-        ∙ rw (stretch-add t p 8 (n - 8), stretch-add t q 8 (n - 8), front) (same-after (stretch t q 8) (stretch t (p + 8) (n - 8)) (stretch t (q + 8) (n - 8))))
+        let front : substring t p 8 ≡ substring t q 8 = substring-ext t t p q 8 (omega arith) (omega arith) (eight-bytes below e) in
+        sym (ap (λ (k : ℕ). sameList (substring t p k) (substring t q k)) z
+        ∙ rw (substring-add t p 8 (n - 8), substring-add t q 8 (n - 8), front)
+        (same-after (substring t q 8) (substring t (p + 8) (n - 8)) (substring t (q + 8) (n - 8))))
 
 -- The fact that a test of two numbers decides.
 pub numbers-differ : {a b x y : ℕ} → a ≡ x → b ≡ y → (a ≡ b → ⊥) → x ≡ y → ⊥
@@ -93,7 +94,7 @@ numbers-same e f same = sym e ∙ same ∙ f
 
 module _ (t : List ℕ) (p q n : ℕ) where
   -- Nothing compared yet.
-  pub none-compared : sameList (stretch t (p + 0) (n - 0)) (stretch t (q + 0) (n - 0)) ≡ sameList (stretch t p n) (stretch t q n)
+  pub none-compared : sameList (substring t (p + 0) (n - 0)) (substring t (q + 0) (n - 0)) ≡ sameList (substring t p n) (substring t q n)
   none-compared =
       let x : p + 0 ≡ p = omega arith in
       let y : q + 0 ≡ q = omega arith in
@@ -102,8 +103,8 @@ module _ (t : List ℕ) (p q n : ℕ) where
 
   -- eight more
   pub eight-more : (i : ℕ) → 8 ≤ n - i → p + n ≤ length t → q + n ≤ length t → ((k : ℕ) → getD t k 0 < 256) → eightAt t (p + i) ≡ eightAt t (q + i)
-      → sameList (stretch t (p + (i + 8)) (n - (i + 8))) (stretch t (q + (i + 8)) (n - (i + 8)))
-      ≡ sameList (stretch t (p + i) (n - i)) (stretch t (q + i) (n - i))
+      → sameList (substring t (p + (i + 8)) (n - (i + 8))) (substring t (q + (i + 8)) (n - (i + 8)))
+      ≡ sameList (substring t (p + i) (n - i)) (substring t (q + i) (n - i))
   eight-more i long hp hq below e =
       let x : p + (i + 8) ≡ p + i + 8 = omega arith in
       let y : q + (i + 8) ≡ q + i + 8 = omega arith in

@@ -9,7 +9,7 @@ use native.Mathlib.Nat.{add-zero}
 use borrow.Author.Tests.{ne-eqb, eq-eqb, lt-ltb, le-ltb}
 use lib.Dec.{ltb, eqb}
 use lib.ListN.{length, getD, replicate}
-use Rattle.text.specs.Text.{allBelow, sameList, stretch}
+use Rattle.text.specs.Text.{allBelow, sameList, substring}
 use Rattle.text.specs.ListLaws.{and-false, allBelow-make, allBelow-not}
 use Rattle.format.specs.Layout.{maxLeaf, plainWords, countAt}
 use Rattle.format.specs.Layout as at
@@ -37,13 +37,13 @@ use Rattle.walk_short.proofs.WholeLaws.{within-tree}
 -- One edge.
 module _ (t : List ℕ) (m a x : ℕ) (found : Gathered) (q : Parts) (is : found ≡ At q) where
   abbrev first : Bool
-  first = sameList (stretch t a (q .size)) (stretch t (q .from) (q .size))
+  first = sameList (substring t a (q .size)) (substring t (q .from) (q .size))
 
   abbrev second : Bool
-  second = sameList (stretch t (a + q .size) (x - q .size)) (stretch t (q .next) (x - q .size))
+  second = sameList (substring t (a + q .size) (x - q .size)) (substring t (q .next) (x - q .size))
 
   abbrev third : Bool
-  third = sameList (stretch t (a + x) (m - x)) (replicate (m - x) 0)
+  third = sameList (substring t (a + x) (m - x)) (replicate (m - x) 0)
 
   pub first-fails : first ≡ false → false ≡ foundIs t m a x found
   first-fails e = rw (is, e)
@@ -281,11 +281,11 @@ module _ (t : List ℕ) (h : Header) (level b i : ℕ) (k : Edged t h level b i)
         omega (arith, room-of (level + 1) link f (full .above) (rw link-is first-in) f-is),
       )
 
-      pub first-differs : sameList (stretch t e leaf) (stretch t f leaf) ≡ false → false ≡ childEdges t level i
+      pub first-differs : sameList (substring t e leaf) (substring t f leaf) ≡ false → false ≡ childEdges t level i
       unfolding childEdges
       first-differs n =
-          let z : sameList (stretch t (at.edgesAt t level i) (at.settings t .leaf))
-          (stretch t (at.edgesAt t (level + 1) (at.link t level i)) (at.settings t .leaf)) ≡ false =
+          let z : sameList (substring t (at.edgesAt t level i) (at.settings t .leaf))
+          (substring t (at.edgesAt t (level + 1) (at.link t level i)) (at.settings t .leaf)) ≡ false =
           rw (e-is, f-is, link-is, k .tree .header .leaf-is) at n in
           rw z
 
@@ -296,12 +296,12 @@ module _ (t : List ℕ) (h : Header) (level b i : ℕ) (k : Edged t h level b i)
           omega (arith, room-of (level + 1) (link + (h .settings .arity - 1)) g (full .above) (rw link-is last-in) g-is),
         )
 
-        pub last-compared : sameList (stretch t e leaf) (stretch t f leaf) ≡ true
-            → (y : Bool) → y ≡ sameList (stretch t (e + leaf) leaf) (stretch t (g + leaf) leaf) → y ≡ childEdges t level i
+        pub last-compared : sameList (substring t e leaf) (substring t f leaf) ≡ true
+            → (y : Bool) → y ≡ sameList (substring t (e + leaf) leaf) (substring t (g + leaf) leaf) → y ≡ childEdges t level i
         unfolding childEdges
         last-compared same y is =
-            let z : sameList (stretch t (at.edgesAt t level i) (at.settings t .leaf))
-            (stretch t (at.edgesAt t (level + 1) (at.link t level i)) (at.settings t .leaf)) ≡ true =
+            let z : sameList (substring t (at.edgesAt t level i) (at.settings t .leaf))
+            (substring t (at.edgesAt t (level + 1) (at.link t level i)) (at.settings t .leaf)) ≡ true =
             rw (e-is, f-is, link-is, k .tree .header .leaf-is) at same in
             rw (e-is, g-is, link-is, k .tree .header .leaf-is, k .tree .header .arity-is) at is ∙ rw z
 

@@ -4,7 +4,7 @@ use mathlib.Core.Bool.{Bool, true, false, _&&_}
 use mathlib.Core.Path.{_≡_}
 use Prim.Native.Nat.{ℕ, _+_, _-_, _<_}
 use lib.ListN.{replicate}
-use Rattle.text.specs.Text.{sameList, stretch}
+use Rattle.text.specs.Text.{sameList, substring}
 use Rattle.format.specs.Layout as at
 use Rattle.format.specs.TreeReading.{linksOk}
 use Rattle.layout.specs.declared.header.Header.{Header}
@@ -36,6 +36,6 @@ pub record Leafy (t : List ℕ) (h : Header) (level i own : ℕ) : Type 0 where
 abbrev pub foundIs : List ℕ → ℕ → ℕ → ℕ → Gathered → Bool
 foundIs t m a x Broken = false
 foundIs t m a x (At q) =
-    sameList (stretch t a (q .size)) (stretch t (q .from) (q .size))
-    && sameList (stretch t (a + q .size) (x - q .size)) (stretch t (q .next) (x - q .size))
-    && sameList (stretch t (a + x) (m - x)) (replicate (m - x) 0)
+    sameList (substring t a (q .size)) (substring t (q .from) (q .size))
+    && sameList (substring t (a + q .size) (x - q .size)) (substring t (q .next) (x - q .size))
+    && sameList (substring t (a + x) (m - x)) (replicate (m - x) 0)

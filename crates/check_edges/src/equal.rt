@@ -2,7 +2,7 @@
 ghost use mathlib.Core.Path.{_≡_};
 ghost use Prim.Native.Nat.{_+_, _≤_, _<_};
 ghost use lib.ListN.{length};
-ghost use Rattle.text.specs.Text.{sameList, stretch};
+ghost use Rattle.text.specs.Text.{sameList, substring};
 ghost use Rattle.check_edges.specs.Eights.{eightAt};
 
 fn wide(b: u8) -> u64
@@ -29,7 +29,7 @@ fn eight(t: &[u8], at: usize) -> u64
 // Whether the n bytes at p and at q are equal; stops at the first eight that differ.
 pub fn equal_at(t: &[u8], p: usize, q: usize, n: usize) -> bool
     requires { ⌜ (p + n ≤ length (now t)) × (q + n ≤ length (now t)) ⌝ }
-    ensures { λ r. ⌜ r ≡ sameList (stretch (now (t .entry)) p n) (stretch (now (t .entry)) q n) ⌝ }
+    ensures { λ r. ⌜ r ≡ sameList (substring (now (t .entry)) p n) (substring (now (t .entry)) q n) ⌝ }
 {
     let mut i: usize = 0;
     while 8 <= n - i {

@@ -10,9 +10,9 @@ use lib.ListN.{length, getD}
 use lib.Seq.{ext-getD}
 use lib.Dec.{ltb, eqb}
 use borrow.Author.Tests.{ltb-true, eqb-true, lt-ltb}
-use Rattle.text.specs.Text.{tabulate, stretch}
+use Rattle.text.specs.Text.{tabulate, substring}
 use Rattle.text.specs.ListLaws.{and-left, and-right, pos-of-ne, length-tabulate, getD-tabulate}
-use Rattle.text.specs.TextLaws.{length-stretch, getD-stretch}
+use Rattle.text.specs.TextLaws.{length-substring, getD-substring}
 use Rattle.columns.specs.Columns.{transposed, columns, uncolumns, widthOk}
 
 -- The places: where the byte of place p of a text of n bytes goes, and where that of place p comes from.
@@ -133,17 +133,17 @@ module _ (w : ℕ) (T : List ℕ) (ok : widthOk w (length T) ≡ true) where
       ap (λ (n : ℕ). transposed (n / w) w (uncolumns w T)) uncolumns-length ∙ transposed-back w (length T / w) T (rows-are ∙ mul-comm (length T / w) w)
 
   -- Row a of the text, read by columns.
-  pub row-by-columns : (a : ℕ) → a < length T / w → stretch T (a * w) w ≡ tabulate w (λ b. getD (columns w T) (b * (length T / w) + a) 0)
+  pub row-by-columns : (a : ℕ) → a < length T / w → substring T (a * w) w ≡ tabulate w (λ b. getD (columns w T) (b * (length T / w) + a) 0)
   row-by-columns a ha =
       let end : a * w + w ≤ length T = omega (arith, rows-are, mul-le-mul-right w (let h : suc a ≤ length T / w = omega arith in h), suc-mul a w) in
-      ext-getD 0 (stretch T (a * w) w) (tabulate w (λ b. getD (columns w T) (b * (length T / w) + a) 0))
-      (length-stretch T (a * w) w end ∙ sym (length-tabulate w (λ b. getD (columns w T) (b * (length T / w) + a) 0)))
-      (λ b l. let hb : b < w = rw (length-stretch T (a * w) w end) at l in
-      getD-stretch T (a * w) w b hb ∙ sym (columns-at a b ha hb) ∙ sym (getD-tabulate w (λ k. getD (columns w T) (k * (length T / w) + a) 0) b 0 hb))
+      ext-getD 0 (substring T (a * w) w) (tabulate w (λ b. getD (columns w T) (b * (length T / w) + a) 0))
+      (length-substring T (a * w) w end ∙ sym (length-tabulate w (λ b. getD (columns w T) (b * (length T / w) + a) 0)))
+      (λ b l. let hb : b < w = rw (length-substring T (a * w) w end) at l in
+      getD-substring T (a * w) w b hb ∙ sym (columns-at a b ha hb) ∙ sym (getD-tabulate w (λ k. getD (columns w T) (k * (length T / w) + a) 0) b 0 hb))
 
 -- The other way round: row a of the text that T is the rearrangement of, read from T.
 pub row-read : (w : ℕ) (T : List ℕ) → widthOk w (length T) ≡ true → (a : ℕ) → a < length T / w
-    → stretch (uncolumns w T) (a * w) w ≡ tabulate w (λ b. getD T (b * (length T / w) + a) 0)
+    → substring (uncolumns w T) (a * w) w ≡ tabulate w (λ b. getD T (b * (length T / w) + a) 0)
 row-read w T ok a ha =
     let same = uncolumns-length w T ok in
     rw (same, rearranged w T ok) at (row-by-columns w (uncolumns w T) (rw same ok) a (rw same ha))

@@ -10,7 +10,7 @@ use Rattle.format.specs.Layout.{Settings, lengthOk, sizesOk, countedOk}
 use Rattle.format.specs.Blocks.{treeOf}
 use Rattle.format.specs.TreeReading.{asks, orNext, headerResult, Path, Visit, pathOf, Short, shortOf, shortBytes, textOf}
 use mathlib.Core.Option.{Option, none, some}
-use Rattle.text.specs.Text.{tabulate, stretch, countIn, placeOf, rowOf}
+use Rattle.text.specs.Text.{tabulate, substring, countIn, placeOf, rowOf}
 use Rattle.format.specs.Layout as at
 use mathlib.Core.Logic.{_⊎_}
 
@@ -218,7 +218,7 @@ module _ (t : List ℕ) where
 
   -- The leaf bytes of the last block up to the place reached, included.
   unfoldable pub leavesReached : Path → List ℕ
-  leavesReached p = let o = lastPlace (p .visits) in stretch t (at.leafOffset t + (p .leaf - o)) (o + 1)
+  leavesReached p = let o = lastPlace (p .visits) in substring t (at.leafOffset t + (p .leaf - o)) (o + 1)
 
   -- The count by a path, with the number of blocks on it. Refused with 14 if there is no path or the count is negative.
   abbrev pub countOf : ℕ → ℕ → Option Path → Answer
@@ -301,7 +301,7 @@ module _ (t : List ℕ) where
 
   -- Some substring of the text, copied along the paths of its places. With 0 the buffer starts with its bytes, 13 means that the buffer is shorter, 14 that a
   -- path breaks.
-  pub record RowStretch (q : ℕ) (buffer : List ℕ) (number size : ℕ) (after : List ℕ) : Type 0 where
+  pub record RowSubstring (q : ℕ) (buffer : List ℕ) (number size : ℕ) (after : List ℕ) : Type 0 where
     pub start : ℕ
     pub len : ℕ
     pub within : start + len ≤ at.textLength t
@@ -317,4 +317,4 @@ module _ (t : List ℕ) where
     pub short : rowRefusal q ≡ 0 → ok ≡ 0 → length buffer < length (rowOf (textOf t) q) → (number ≡ 13) × (size ≡ 0) × (after ≡ buffer)
     pub accepted : rowRefusal q ≡ 0 → ok ≡ 0 → length (rowOf (textOf t) q) ≤ length buffer
         → (number ≡ 0) × (size ≡ length (rowOf (textOf t) q)) × (after ≡ rowOf (textOf t) q ++ drop size buffer)
-    pub free : rowRefusal q ≡ 0 → (ok ≡ 0 → ⊥) → ((number ≡ 14) × (size ≡ 0) × (after ≡ buffer)) ⊎ RowStretch q buffer number size after
+    pub free : rowRefusal q ≡ 0 → (ok ≡ 0 → ⊥) → ((number ≡ 14) × (size ≡ 0) × (after ≡ buffer)) ⊎ RowSubstring q buffer number size after

@@ -5,7 +5,7 @@ use mathlib.Core.Bool.{Bool, cond, not, _&&_, _||_}
 use Prim.Native.Nat.{ℕ, zero, suc, _+_, _-_, _*_, _/_, min}
 use lib.ListN.{length, getD, replicate}
 use lib.Dec.{ltb, leb, eqb}
-use Rattle.text.specs.Text.{tabulate, concat, sumBelow, countBelow, stretch, leftmost, countIn}
+use Rattle.text.specs.Text.{tabulate, concat, sumBelow, countBelow, substring, leftmost, countIn}
 use Rattle.format.specs.Layout.{wordsBytes, plainFields, countFields, Settings, maxCounted, maxLevels, blockLength, pieces, recordLength, headerLength}
 use Rattle.format.specs.Layout.{edgesOf}
 
@@ -81,8 +81,8 @@ module _ (S : Settings) (T : List ℕ) (l : ℕ) (starts : List ℕ) where
       let s = startOf T b starts i in
       let up = parentStart s in
       let from = startOf T b starts (target i) in
-      countFields (countIn c (stretch T up (s - up))) (countIn c (stretch T s (lengthOf T b starts i)))
-      (cond (isKept i) 0 (countIn c (stretch T from (occurrence i - from))))
+      countFields (countIn c (substring T up (s - up))) (countIn c (substring T s (lengthOf T b starts i)))
+      (cond (isKept i) 0 (countIn c (substring T from (occurrence i - from))))
 
   -- The words of the record of block i.
   unfoldable pub recordOf : ℕ → List ℕ
@@ -94,7 +94,7 @@ module _ (S : Settings) (T : List ℕ) (l : ℕ) (starts : List ℕ) where
 
   -- The bytes of the record of block i: its words, then its edges.
   unfoldable pub recordIn : ℕ → List ℕ
-  recordIn i = wordsBytes (recordOf i) ++ edgesOf (S .leaf) (stretch T (startOf T b starts i) (lengthOf T b starts i))
+  recordIn i = wordsBytes (recordOf i) ++ edgesOf (S .leaf) (substring T (startOf T b starts i) (lengthOf T b starts i))
 
   -- The records of the level.
   unfoldable pub levelBytes : List ℕ
@@ -119,7 +119,7 @@ levelPairs S T (suc more) l at =
 unfoldable pub leafBytes : Settings → List ℕ → List ℕ
 leafBytes S T =
     let last = startsAt S T (S .levels - 1) in
-    concat (map (λ s. stretch T s (min (S .leaf) (length T - s))) last)
+    concat (map (λ s. substring T s (min (S .leaf) (length T - s))) last)
 
 -- The header.
 unfoldable pub header : Settings → List ℕ → List ℕ

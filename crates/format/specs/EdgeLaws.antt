@@ -6,8 +6,8 @@ use native.Mathlib.Omega.{arith}
 use native.Mathlib.Nat.{add-assoc}
 use lib.ListN.{length, getD, drop, replicate, length-append, length-take, length-drop, length-replicate, List·getD-append, getD-replicate}
 use lib.Seq.{getD-take, getD-drop, getD-append-add}
-use Rattle.text.specs.Text.{stretch}
-use Rattle.text.specs.TextLaws.{length-stretch, getD-stretch}
+use Rattle.text.specs.Text.{substring}
+use Rattle.text.specs.TextLaws.{length-substring, getD-substring}
 use Rattle.format.specs.Layout.{filledOut, edgesOf}
 
 module _ (m : ℕ) (bytes : List ℕ) where
@@ -47,16 +47,16 @@ module _ (m : ℕ) (bytes : List ℕ) where
 -- The edges of a block whose x bytes are in a text from p on: its own bytes, then zeros.
 module _ (T : List ℕ) (m p x : ℕ) (fits : p + x ≤ length T) where
   abbrev bytes : List ℕ
-  bytes = stretch T p x
+  bytes = substring T p x
 
   abbrev last : List ℕ
   last = drop (length bytes - m) bytes
 
   long : length bytes ≡ x
-  long = length-stretch T p x fits
+  long = length-substring T p x fits
 
   pub first-own : (y : ℕ) → y < m → y < x → getD (edgesOf m bytes) y 0 ≡ getD T (p + y) 0
-  first-own y hm hx = edges-first m bytes y hm ∙ filled-own m bytes y hm (omega (arith, long)) ∙ getD-stretch T p x y hx
+  first-own y hm hx = edges-first m bytes y hm ∙ filled-own m bytes y hm (omega (arith, long)) ∙ getD-substring T p x y hx
 
   pub first-none : (y : ℕ) → y < m → x ≤ y → getD (edgesOf m bytes) y 0 ≡ 0
   first-none y hm hx = edges-first m bytes y hm ∙ filled-zero m bytes y hm (omega (arith, long))
@@ -64,7 +64,7 @@ module _ (T : List ℕ) (m p x : ℕ) (fits : p + x ≤ length T) where
   pub last-own : (y : ℕ) → y < m → y < x → getD (edgesOf m bytes) (m + y) 0 ≡ getD T (p + (x - m) + y) 0
   last-own y hm hx =
       edges-last m bytes y ∙ filled-own m last y hm (omega (arith, long, length-drop (length bytes - m) bytes))
-      ∙ getD-drop (length bytes - m) bytes y 0 ∙ rw (long, add-assoc p (x - m) y) (getD-stretch T p x (x - m + y) (omega arith))
+      ∙ getD-drop (length bytes - m) bytes y 0 ∙ rw (long, add-assoc p (x - m) y) (getD-substring T p x (x - m + y) (omega arith))
 
   pub last-none : (y : ℕ) → y < m → x ≤ y → getD (edgesOf m bytes) (m + y) 0 ≡ 0
   last-none y hm hx = edges-last m bytes y ∙ filled-zero m last y hm (omega (arith, long, length-drop (length bytes - m) bytes))

@@ -5,7 +5,7 @@ use mathlib.Core.Bool.{Bool, not, _&&_, _||_}
 use Prim.Native.Nat.{ℕ, _+_}
 use lib.ListN.{length}
 use lib.Dec.{eqb}
-use Rattle.text.specs.Text.{tabulate, allBelow, sameList, stretch}
+use Rattle.text.specs.Text.{tabulate, allBelow, sameList, substring}
 use Rattle.format.specs.Layout as at
 use Rattle.format.specs.TreeReading.{lastLevel}
 
@@ -14,9 +14,9 @@ module _ (T t : List ℕ) where
   unfoldable pub blockFits : ℕ → ℕ → Bool
   unfolding lastLevel at.blockLengthAt at.start at.link at.gap at.isPointing
   blockFits l i =
-      let bytes = stretch T (at.start t l i) (at.blockLengthAt t l i) in
+      let bytes = substring T (at.start t l i) (at.blockLengthAt t l i) in
       let leaves = tabulate (at.blockLengthAt t l i) (λ o. at.leafByte t (at.link t l i + o)) in
-      let pointedTo = stretch T (at.start t l (at.link t l i) + at.gap t l i) (at.blockLengthAt t l i) in
+      let pointedTo = substring T (at.start t l (at.link t l i) + at.gap t l i) (at.blockLengthAt t l i) in
       (not (eqb l (lastLevel t)) || sameList bytes leaves) && (not (at.isPointing t l i) || sameList bytes pointedTo)
 
   unfoldable pub fits : Bool

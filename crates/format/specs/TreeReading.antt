@@ -6,7 +6,7 @@ use mathlib.Core.Bool.{Bool, true, false, cond, _&&_, _||_, not}
 use Prim.Native.Nat.{ℕ, zero, suc, _+_, _-_, _/_, _%_, _*_}
 use lib.Dec.{ltb, leb, eqb}
 use Rattle.format.specs.Layout as at
-use Rattle.text.specs.Text.{stretch, countIn, tabulate, allBelow, sumBelow, sameList}
+use Rattle.text.specs.Text.{substring, countIn, tabulate, allBelow, sumBelow, sameList}
 use lib.ListN.{getD}
 use Rattle.format.specs.Layout.{pieces, edgesOf}
 
@@ -145,7 +145,7 @@ module _ (t : List ℕ) where
   -- The bytes that a walk reads; none if there is no walk.
   abbrev pub shortBytes : ℕ → Option Short → List ℕ
   shortBytes len none = []
-  shortBytes len (some s) = stretch t (s .from) (s .size) ++ stretch t (s .next) (len - s .size)
+  shortBytes len (some s) = substring t (s .from) (s .size) ++ substring t (s .next) (len - s .size)
 
 -- Questions 8 and 9: whether the blocks of a tree are linked correctly, whether a text fits a tree (the tree represents the text), and whether the counts and
 -- edges are right for the text.
@@ -216,9 +216,9 @@ module _ (T t : List ℕ) where
       let byte = getD (at.settings t .counted) c 0 in
       let s = at.start t l i in
       let up = parentStart l s in
-      eqb (at.before t l i c) (countIn byte (stretch T up (s - up)))
-      && eqb (at.inside t l i c) (countIn byte (stretch T s (at.blockLengthAt t l i)))
-      && eqb (at.skip t l i c) (cond (at.isKept t l i) 0 (countIn byte (stretch T (at.start t l (at.link t l i)) (at.gap t l i))))
+      eqb (at.before t l i c) (countIn byte (substring T up (s - up)))
+      && eqb (at.inside t l i c) (countIn byte (substring T s (at.blockLengthAt t l i)))
+      && eqb (at.skip t l i c) (cond (at.isKept t l i) 0 (countIn byte (substring T (at.start t l (at.link t l i)) (at.gap t l i))))
 
   -- All counts are those of the text.
   unfoldable pub countsTrue : Bool
@@ -230,7 +230,7 @@ module _ (T t : List ℕ) where
   unfoldable pub blockEdgesTrue : ℕ → ℕ → Bool
   blockEdgesTrue l i =
       let m = at.settings t .leaf in
-      sameList (stretch t (at.edgesAt t l i) (m + m)) (edgesOf m (stretch T (at.start t l i) (at.blockLengthAt t l i)))
+      sameList (substring t (at.edgesAt t l i) (m + m)) (edgesOf m (substring T (at.start t l i) (at.blockLengthAt t l i)))
 
   -- All edges are those of the text; a layout 1 tree has none.
   unfoldable pub edgesTrue : Bool

@@ -7,7 +7,7 @@ use mathlib.Core.Path.{_≡_, refl}
 use Prim.Native.Nat.{ℕ}
 use native.Mathlib.Omega.{arith}
 use lib.ListN.{length, replicate, take, drop}
-use Rattle.text.specs.Text.{tabulate, concat, sumBelow, countBelow, allBelow, sameList, stretch, leftmost, firstFrom, countIn, placeOf, placeIn}
+use Rattle.text.specs.Text.{tabulate, concat, sumBelow, countBelow, allBelow, sameList, substring, leftmost, firstFrom, countIn, placeOf, placeIn}
 use Rattle.format.specs.Layout.{setWord, wordAt, wordsBytes, wordBytes}
 use Rattle.format.specs.Layout.{Settings, blockLength, pieces, recordLength, lengthOk, sizesOk, countedOk, rising, risingAfter, edgesOf, filledOut}
 use Rattle.format.specs.Blocks.{treeOf, header, leafBytes, levelPairs, recordBytes, levelBytes, recordIn, recordOf, target, occurrence, width}
@@ -104,7 +104,7 @@ pub record Marked : Type 0 where
   m5 : countAnswer (treeOf two book) 65 0 ≡ answered 0 0 0
   m6 : (s : Answer) → FindAnswers (treeOf two book) 65 4 s → s ≡ answered 0 16 3
   m7 : (s : Answer) → FindAnswers (treeOf two book) 65 5 s → s ≡ answered 12 0 0
-  m8 : (runAnswer (treeOf two book) 17 ≡ (518, 2)) × (stretch (treeOf two book) 518 2 ≡ 66 ∷ 67 ∷ [])
+  m8 : (runAnswer (treeOf two book) 17 ≡ (518, 2)) × (substring (treeOf two book) 518 2 ≡ 66 ∷ 67 ∷ [])
   m9 : (length (treeOf plain (replicate 12 65)) ≡ 248)
       × (recordOf plain (replicate 12 65) 0 (startsAt plain (replicate 12 65) 0) 2 ≡ 8 ∷ 1 ∷ 0 ∷ 0 ∷ [])
   m10 : (at.blockLengthAt (treeOf two abcd) 0 2 ≡ 1) × (recordOf two abcd 0 (startsAt two abcd 0) 2 ≡ 8 ∷ 1 ∷ 0 ∷ 0 ∷ 2 ∷ 1 ∷ 0 ∷ [])
@@ -112,7 +112,7 @@ pub record Marked : Type 0 where
   text : textOf (treeOf two book) ≡ book
   accepted : checkResult (treeOf two book) ≡ 0
   -- The edges of block 0, QABC, and of M10's last block, of one byte.
-  edges : (stretch (treeOf two book) 128 4 ≡ 81 ∷ 65 ∷ 66 ∷ 67 ∷ []) × (stretch (treeOf two abcd) 192 4 ≡ 65 ∷ 0 ∷ 65 ∷ 0 ∷ [])
+  edges : (substring (treeOf two book) 128 4 ≡ 81 ∷ 65 ∷ 66 ∷ 67 ∷ []) × (substring (treeOf two abcd) 192 4 ≡ 65 ∷ 0 ∷ 65 ∷ 0 ∷ [])
   -- Over a level 0 border; over a border of level 1; in a leaf; through a pointing block, and over the border of its two targets.
   over-top : spanned (treeOf two book) 3 2 ≡ (answered 0 2 2, 67 ∷ 68 ∷ 1 ∷ [])
   over-child : spanned (treeOf two book) 1 2 ≡ (answered 0 2 3, 65 ∷ 66 ∷ 1 ∷ [])
@@ -135,7 +135,7 @@ pub record Marked : Type 0 where
   -- layout 1 is read and checked as before, and its spans report 0
   older-read : (length older ≡ 480) × (textOf older ≡ book) × (checkResult older ≡ 0)
   older-bytes : (byteAnswer older 18 ≡ answered 0 67 3) × (byteAnswer older 19 ≡ answered 0 68 3) × (runAnswer older 17 ≡ (466, 2))
-      × (stretch older 466 2 ≡ 66 ∷ 67 ∷ [])
+      × (substring older 466 2 ≡ 66 ∷ 67 ∷ [])
   older-counts : (countAnswer older 65 17 ≡ answered 0 4 3) × (countAnswer older 65 0 ≡ answered 0 0 0) × (found older 65 4 ≡ answered 0 16 3)
       × (findRefusal older 65 5 ≡ 12)
   older-span : spanned older 3 2 ≡ (answered 0 2 0, 67 ∷ 68 ∷ 1 ∷ [])
@@ -147,7 +147,7 @@ pub record Marked : Type 0 where
 
 pub marked : Marked
 unfolding shape spanned other-kinds other-start pointing-two leaf-two other-end other-first words older older-twelve abcd answered book two plain tabulate
-    concat sumBelow countBelow allBelow sameList setWord wordAt wordsBytes wordBytes stretch leftmost firstFrom countIn placeOf placeIn blockLength
+    concat sumBelow countBelow allBelow sameList setWord wordAt wordsBytes wordBytes substring leftmost firstFrom countIn placeOf placeIn blockLength
     pieces lengthOk sizesOk countedOk rising risingAfter treeOf header leafBytes levelPairs recordBytes recordLength edgesOf filledOut levelBytes
     recordIn recordOf target occurrence width isKept startsAt cut keptByPairs firstPairAt pairAt lengthOf startOf pathOf pathFrom targetPlace
     targetBlock pointingBlock keptBlock lands landBlock landPlace landVisits shortOf shortFrom byEdges inLeaf linksOk textOf fits countsTrue edgesTrue
@@ -227,7 +227,7 @@ pub record Empty : Type 0 where
   block : checkResult (laid-out 1 0 128 0 (replicate 28 0)) ≡ 7
 
 pub empty : Empty
-unfolding spanned no-bytes-tree laid-out answered two tabulate concat sumBelow countBelow allBelow sameList setWord wordAt wordsBytes wordBytes stretch
+unfolding spanned no-bytes-tree laid-out answered two tabulate concat sumBelow countBelow allBelow sameList setWord wordAt wordsBytes wordBytes substring
     leftmost firstFrom countIn placeOf placeIn blockLength pieces lengthOk sizesOk countedOk rising risingAfter treeOf header leafBytes levelPairs
     recordBytes recordLength edgesOf filledOut levelBytes recordIn recordOf target occurrence width isKept startsAt cut keptByPairs firstPairAt pairAt
     lengthOf startOf pathOf pathFrom targetPlace targetBlock pointingBlock keptBlock lands landBlock landPlace landVisits shortOf shortFrom byEdges

@@ -8,8 +8,8 @@ use native.Mathlib.Numerals.{add-one}
 use lib.ListN.{length, getD, drop}
 use lib.Seq.{drop-cons}
 use Rattle.text.specs.ListLaws.{bool-clash}
-use Rattle.text.specs.Text.{stretch}
-use Rattle.text.specs.TextLaws.{length-stretch, getD-stretch}
+use Rattle.text.specs.Text.{substring}
+use Rattle.text.specs.TextLaws.{length-substring, getD-substring}
 use Rattle.text.specs.RowLaws.{trimmed, trimmed-none, trimmed-mark, trimmed-plain}
 use Rattle.search_byte.specs.FirstByte.{Without}
 use Rattle.row_filter.specs.RowAutomaton.{Automaton, Scan, found, on, RowBetween, runFrom, scanByte, scanBytes}
@@ -58,18 +58,18 @@ module _ (part : List ℕ) (from end : ℕ) (within : end ≤ length part) where
 
 -- Rows that cannot match.
 module _ (ranges part : List ℕ) (from end last : ℕ) (within : end ≤ length part) (z : BytesEnd part from end last) where
-  size : length (stretch part from (last - from)) ≡ last - from
-  size = length-stretch part from (last - from) (omega (arith, z .low, z .high))
+  size : length (substring part from (last - from)) ≡ last - from
+  size = length-substring part from (last - from) (omega (arith, z .low, z .high))
 
-  fails-by : isWhole ranges (runFrom (keyAutomaton ranges) (Code 0) (stretch part from (last - from))) ≡ false → (r : Bool) → MayMatch ranges part from end r
+  fails-by : isWhole ranges (runFrom (keyAutomaton ranges) (Code 0) (substring part from (last - from))) ≡ false → (r : Bool) → MayMatch ranges part from end r
   fails-by f r = record {
-    fails = λ e. done-whole ranges (stretch part from (end - from))
+    fails = λ e. done-whole ranges (substring part from (end - from))
         ∙ ap (λ (xs : List ℕ). isWhole ranges (runFrom (keyAutomaton ranges) (Code 0) xs)) (z .bytes) ∙ f;
   }
 
   pub may-not-short : last - from < length ranges / 2 + 2 → MayMatch ranges part from end false
   unfolding cutCount
-  may-not-short h = fails-by (too-short ranges (stretch part from (last - from)) (omega (arith, size))) false
+  may-not-short h = fails-by (too-short ranges (substring part from (last - from)) (omega (arith, size))) false
 
   pub may-by-cuts : length ranges / 2 + 2 ≤ last - from → (r : Bool) → CutsFit ranges part (last - length ranges / 2) r → MayMatch ranges part from end r
   unfolding cutCount
@@ -81,9 +81,9 @@ module _ (ranges part : List ℕ) (from end last : ℕ) (within : end ≤ length
           let j = m .cut in
           let below : j < length ranges / 2 = m .below in
           let place : from + (last - from - length ranges / 2 + j) ≡ last - length ranges / 2 + j = omega (arith, z .low) in
-          let byte : getD (stretch part from (last - from)) (last - from - length ranges / 2 + j) 0 ≡ getD part (last - length ranges / 2 + j) 0 =
-          getD-stretch part from (last - from) (last - from - length ranges / 2 + j) (omega arith) ∙ ap (λ (x : ℕ). getD part x 0) place in
-          fails-by (not-fitting ranges (stretch part from (last - from)) j below (rw (size, byte) (m .out))) false
+          let byte : getD (substring part from (last - from)) (last - from - length ranges / 2 + j) 0 ≡ getD part (last - length ranges / 2 + j) 0 =
+          getD-substring part from (last - from) (last - from - length ranges / 2 + j) (omega arith) ∙ ap (λ (x : ℕ). getD part x 0) place in
+          fails-by (not-fitting ranges (substring part from (last - from)) j below (rw (size, byte) (m .out))) false
 
 module _ (ranges part : List ℕ) (at : ℕ) where
   pub cut-out : (k : ℕ) → k < length ranges / 2 → cutFits ranges k (getD part (at + k) 0) ≡ false → CutsFit ranges part at false
@@ -96,8 +96,8 @@ module _ (ranges part : List ℕ) (at : ℕ) where
 -- A row passed over.
 module _ {S : Type 0} (m : Automaton S) (part : List ℕ) where
   read-on : (k i : ℕ) (s : S) (q : ℕ) → i + k ≤ length part → Without part i k 10
-      → scanBytes m (drop (i + k) part) (runFrom m s (stretch part i k)) q ≡ scanBytes m (drop i part) s q
-  unfolding runFrom stretch
+      → scanBytes m (drop (i + k) part) (runFrom m s (substring part i k)) q ≡ scanBytes m (drop i part) s q
+  unfolding runFrom substring
   read-on zero i s q fits w = let z : i + 0 ≡ i = omega arith in rw z
   read-on (suc k) i s q fits w =
       let z : i + suc k ≡ i + 1 + k = omega arith in
@@ -105,15 +105,15 @@ module _ {S : Type 0} (m : Automaton S) (part : List ℕ) where
       let step = byte-step m s q (getD part i 0) (rw first at (w .other 0 (omega arith))) (m .step s (getD part i 0)) refl in
       let later : (x : ℕ) → i + suc x ≡ i + 1 + x = λ x. omega arith in
       let rest : Without part (i + 1) k 10 = record { other = λ x h. rw (later x) at (w .other (suc x) (omega arith)) } in
-      let row : stretch part i (suc k) ≡ getD part i 0 ∷ stretch part (i + 1) k = rw (drop-cons part i 0 (omega arith), add-one i) in
+      let row : substring part i (suc k) ≡ getD part i 0 ∷ substring part (i + 1) k = rw (drop-cons part i 0 (omega arith), add-one i) in
       rw (z, row) (read-on k (i + 1) (m .step s (getD part i 0)) q (omega arith) rest
       ∙ scan-on m part i (omega arith) s q (m .step s (getD part i 0)) q step)
 
   row-passed : (k i q : ℕ) → i + k < length part → Without part i k 10 → getD part (i + k) 0 ≡ 10
-      → m .at-newline (runFrom m (m .start) (stretch part i k)) ≡ false
+      → m .at-newline (runFrom m (m .start) (substring part i k)) ≡ false
       → scanBytes m (drop (i + k + 1) part) (m .start) (q + 1) ≡ scanBytes m (drop i part) (m .start) q
   row-passed k i q fits w newline fails =
-      let s = runFrom m (m .start) (stretch part i k) in
+      let s = runFrom m (m .start) (substring part i k) in
       scan-on m part (i + k) fits s q (m .start) (q + 1) (byte-next m s q (getD part (i + k) 0) newline fails)
       ∙ read-on k i (m .start) q (omega arith) w
 

@@ -4,7 +4,7 @@ use mathlib.Core.Bool.{Bool, false}
 use mathlib.Core.Path.{_≡_}
 use Prim.Native.Nat.{ℕ, _+_, _-_, _≤_, _<_}
 use lib.ListN.{length, getD, drop}
-use Rattle.text.specs.Text.{stretch}
+use Rattle.text.specs.Text.{substring}
 use Rattle.text.specs.RowLaws.{trimmed}
 use Rattle.row_filter.specs.RowAutomaton.{Scan, found, on, runFrom, scanBytes}
 use Rattle.keys.specs.declared.key_state.KeyState.{KeyState}
@@ -24,7 +24,7 @@ asScan (On form q) = on form q
 pub record BytesEnd (part : List ℕ) (from end r : ℕ) : Type 0 where
   pub low : from ≤ r
   pub high : r ≤ end
-  pub bytes : trimmed (stretch part from (end - from)) ≡ stretch part from (r - from)
+  pub bytes : trimmed (substring part from (end - from)) ≡ substring part from (r - from)
 
 -- The byte of some cut is not in its range, if the cuts are at a place.
 pub record Misfit (ranges part : List ℕ) (at : ℕ) : Type 0 where
@@ -37,7 +37,7 @@ pub record CutsFit (ranges part : List ℕ) (at : ℕ) (r : Bool) : Type 0 where
 
 -- A row that is refused does not match where a newline ends it.
 pub record MayMatch (ranges part : List ℕ) (from end : ℕ) (r : Bool) : Type 0 where
-  pub fails : r ≡ false → isDone ranges (runFrom (keyAutomaton ranges) (Code 0) (stretch part from (end - from))) ≡ false
+  pub fails : r ≡ false → isDone ranges (runFrom (keyAutomaton ranges) (Code 0) (substring part from (end - from))) ≡ false
 
 -- The bytes up to r are a row that does not match, or none.
 pub record RowPassed (ranges part : List ℕ) (from r : ℕ) : Type 0 where

@@ -17,7 +17,7 @@ use Rattle.layout.specs.HeaderFields.{HeaderOf}
 use Rattle.query_access.specs.declared.ByteAnswer.{ByteAnswer}
 use Rattle.query_access.specs.declared.ByteAnswer.the-variants.{Byte, Refused}
 use Rattle.query_access.specs.declared.SpanAnswer.{SpanAnswer}
-use Rattle.query_access.specs.declared.SpanAnswer.the-variants as copied
+use Rattle.query_access.specs.declared.SpanAnswer.the-variants as span
 use Rattle.query_access.specs.ReadAnswers.{byteReply, spanReply}
 use Rattle.query_access.specs.ReadByRuns.{ReadsFrom, placesWritten, RunCopied}
 use Rattle.theory_paths.specs.PlaceBytes.{only-14}
@@ -103,12 +103,12 @@ module _ (t : List ℕ) (p len : ℕ) (d : List ℕ) (room : len ≤ length d) w
       rw is (rw (z, s) at (copy-run 0 d (copy-start t p len d) n (omega arith) (λ x l. rw z (good x l))))
 
 -- What `copy_range` returns.
-pub not-refused : (x : SpanAnswer) (n m q : ℕ) → x ≡ copied.Bytes n m → x ≡ copied.Refused q → ⊥
+pub not-refused : (x : SpanAnswer) (n m q : ℕ) → x ≡ span.Bytes n m → x ≡ span.Refused q → ⊥
 not-refused x n m q e f = let z : _≡_ {A = ℕ} 0 1 = cc in omega arith
 
 -- The bytes of a range that is known, written first.
 pub copy-first : (t : List ℕ) (p len : ℕ) (d : List ℕ) → len ≤ length d → (r : LeafRun) → ReadsFrom t p r
-    → (known : ℕ) → known ≡ min len (r .length) → (x : SpanAnswer) → x ≡ copied.Bytes known 0 → (n m : ℕ) → x ≡ copied.Bytes n m
+    → (known : ℕ) → known ≡ min len (r .length) → (x : SpanAnswer) → x ≡ span.Bytes known 0 → (n m : ℕ) → x ≡ span.Bytes n m
     → (e : List ℕ) → e ≡ bytesWritten d 0 t (r .from) known → (n ≤ len) × Copying t p len d e n
 copy-first t p len d room r k known known-is x x-is n m taken e e-is =
     let same : n ≡ known = cc in
@@ -121,16 +121,16 @@ module _ (t : List ℕ) (h : Header) (p len : ℕ)
     (k : HeaderOf t h) (low : p + len ≤ h .«text_length») (d : List ℕ) (room : len ≤ length d) (i : ℕ) (e : List ℕ) (c : Copying t p len d e i) where
   module _ (f : List ℕ) (r : SpanAnswer) (r-is : RunCopied t (p + i) (len - i) i e f r) where
     -- Bytes.
-    pub copy-on : (n m : ℕ) → r ≡ copied.Bytes n m → (1 ≤ n) × (i + n ≤ len) × Copying t p len d f (i + n)
+    pub copy-on : (n m : ℕ) → r ≡ span.Bytes n m → (1 ≤ n) × (i + n ≤ len) × Copying t p len d f (i + n)
     copy-on n m is =
-        let z : RunCopied t (p + i) (len - i) i e f (copied.Bytes n m) = rw is at r-is in
+        let z : RunCopied t (p + i) (len - i) i e f (span.Bytes n m) = rw is at r-is in
         (z .0, omega (arith, z .0, z .1), rw (z .3) (copy-run t p len d room i e c n (omega (arith, z .0, z .1)) (z .2)))
 
     -- A refusal: the first len bytes are cleared.
-    pub copy-broken : i < len → (q : ℕ) → r ≡ copied.Refused q → (z : List ℕ) → z ≡ replicate len 0 ++ drop len f
+    pub copy-broken : i < len → (q : ℕ) → r ≡ span.Refused q → (z : List ℕ) → z ≡ replicate len 0 ++ drop len f
         → NeverZero (spanReply r) × ByPaths t p len d (replied (spanReply r)) z
     copy-broken more q is z z-is =
-        let y : RunCopied t (p + i) (len - i) i e f (copied.Refused q) = rw is at r-is in
+        let y : RunCopied t (p + i) (len - i) i e f (span.Refused q) = rw is at r-is in
         let past : drop len f ≡ drop len d = ap (drop len) (y .2) ∙ c .past in
         rw is (
           omega (arith, y .0),

@@ -19,6 +19,7 @@ use Rattle.format.specs.TreeReading.{Path, Visit, visit, entered, provided, kep
 use Rattle.theory_paths.specs.Links.{b, H}
 use Rattle.theory_paths.specs.PlacesLand.{from-kept, from-pointing, target-first, target-second}
 use Rattle.walk_path.proofs.WalkLaws.{from-off, from-no-target, from-last-points}
+use Rattle.walk_path.proofs.AlongLaws.{carry-div, carry-mod}
 use Rattle.walk_steps.specs.Steps.{OnLevel, Pointing}
 use Rattle.walk_steps.specs.declared.DivRem.{DivRem}
 use Rattle.walk_steps.proofs.NextLaws.{level-below, pointing-not-kept}
@@ -30,17 +31,6 @@ use Rattle.query_access.specs.declared.descent.Piece.{Piece}
 use Rattle.query_access.specs.declared.descent.Piece.the-variants as piece
 use Rattle.query_access.proofs.LeafEndLaws.{kept-by, unkept-by, unkept-past}
 use Rattle.query_access.specs.Segments.{leafNumber, leafFrom, leafIn, fullWidth, KeptOn, SegmentAt, NextAt, IsNext}
-
--- A place further on, in blocks of c bytes.
-past-div : (o d c : ℕ) → 0 < c → (o + d) / c ≡ o / c + (o % c + d) / c
-past-div o d c pos =
-    let e : o + d ≡ o % c + d + c * (o / c) = omega (arith, div-add-mod' o c, mul-comm c (o / c)) in
-    ap (λ (x : ℕ). x / c) e ∙ add-mul-div-left (o % c + d) (o / c) pos ∙ omega arith
-
-past-mod : (o d c : ℕ) → (o + d) % c ≡ (o % c + d) % c
-past-mod o d c =
-    let e : o + d ≡ o % c + d + c * (o / c) = omega (arith, div-add-mod' o c, mul-comm c (o / c)) in
-    ap (λ (x : ℕ). x % c) e ∙ add-mul-mod-self-left (o % c + d) c (o / c)
 
 -- A place of blocks of c * r bytes, in blocks of c bytes.
 split-div : (q c r : ℕ) → 0 < c → q / (c * r) * r + q % (c * r) / c ≡ q / c
@@ -102,10 +92,10 @@ module _ (t : List ℕ) (k : Readable t) (l : ℕ) (low : l < H t) where
   unfolding leafIn leafFrom
   in-block zero first o x =
       let pos = full-pos t k l in
-      rw (left-here, past-div o x (b t l) pos, past-mod o x (b t l), add-assoc first (o / b t l) ((o % b t l + x) / b t l))
+      rw (left-here, carry-div o x (b t l) pos, carry-mod o x (b t l), add-assoc first (o / b t l) ((o % b t l + x) / b t l))
   in-block (suc p) first o x =
       let pos = full-pos t k l in
-      rw (left-here, past-div o x (b t l) pos, past-mod o x (b t l), add-assoc first (o / b t l) ((o % b t l + x) / b t l))
+      rw (left-here, carry-div o x (b t l) pos, carry-mod o x (b t l), add-assoc first (o / b t l) ((o % b t l + x) / b t l))
 
   in-none : (p first o : ℕ) → leafFrom t (H t - l) l first o ≡ none → leafIn t p l first o ≡ none
   unfolding leafIn

@@ -5,6 +5,7 @@ use Prim.Native.Nat.{ℕ, zero, suc, _+_, _-_, _≤_, _<_, min}
 use native.Mathlib.Omega.{arith}
 use native.Mathlib.Nat.{le-trans}
 use lib.ListN.{length, getD, set}
+use Rattle.format.specs.Layout.{maxText}
 use Rattle.format.specs.Layout as at
 use Rattle.format.specs.Answers.{Answer, refused, replied, byteAnswer, runAnswer}
 use Rattle.format.specs.TreeReading.{headerResult}
@@ -13,18 +14,21 @@ use Rattle.theory_paths.specs.Reads.{byte-of-path}
 use Rattle.theory_paths.specs.PlaceBytes.{byte-text}
 use Rattle.layout.specs.declared.header.Header.{Header}
 use Rattle.layout.specs.HeaderFields.{HeaderOf}
+use Rattle.walk_steps.specs.Steps.{OnLevel}
+use Rattle.walk_steps.proofs.NextLaws.{on-top}
+use Rattle.walk_path.specs.declared.TopLevel.{TopLevel}
 use Rattle.byte_slices.specs.ByteSlices.{bytesWritten}
 use Rattle.byte_slices.proofs.ByteSliceLaws.{bytes-more}
 use Rattle.query_access.specs.declared.ByteAnswer.{ByteAnswer}
 use Rattle.query_access.specs.declared.ByteAnswer.the-variants.{Byte, Refused}
 use Rattle.query_access.specs.declared.SpanAnswer.{SpanAnswer}
-use Rattle.query_access.specs.declared.SpanAnswer.the-variants as copied
+use Rattle.query_access.specs.declared.SpanAnswer.the-variants as span
 use Rattle.query_access.specs.declared.read_by_header.LeafRun.{LeafRun}
 use Rattle.query_access.specs.declared.read_by_header.LeafRunAnswer.{LeafRunAnswer}
 use Rattle.query_access.specs.declared.read_by_header.LeafRunAnswer.the-variants as found
 use Rattle.query_access.specs.declared.read_by_header.TreeRange.{TreeRange}
 use Rattle.query_access.specs.declared.read_by_header.RunRangeAnswer.{RunRangeAnswer}
-use Rattle.query_access.specs.declared.read_by_header.RunRangeAnswer.the-variants as ran
+use Rattle.query_access.specs.declared.read_by_header.RunRangeAnswer.the-variants as run
 use Rattle.query_access.specs.declared.leaf_end.LeafEnd.{LeafEnd}
 use Rattle.query_access.specs.declared.leaf_end.LeafEndAnswer.{LeafEndAnswer}
 use Rattle.query_access.specs.declared.leaf_end.LeafEndAnswer.the-variants as end
@@ -34,6 +38,13 @@ use Rattle.query_access.specs.ReadByRuns.{ReadsOn, LeafRunAt, LeafRunOf,
 use Rattle.query_access.proofs.ByteLaws as bytes
 use Rattle.query_access.proofs.RunLaws.{run-answers, run-from, run-size, run-some}
 use Rattle.query_access.proofs.LeafEndLaws.{end-is, end-left, end-entered, left-min, joined-answers}
+
+-- The walk of a place of the text can start.
+pub walk-ready : (t : List ℕ) (h : Header) → HeaderOf t h → (p : ℕ) → p < h .«text_length» → (top : TopLevel)
+    → top ≡ record { size = h .«record_size»; b = h .«top_length» }
+    → (OnLevel t (top .size) 0 (top .b)) × (p < at.textLength t) × (h .«text_length» - p ≤ maxText)
+walk-ready t h k p low top is =
+    (rw is (on-top t h k), omega (arith, k .length-is), omega (arith, k .length-is, k .facts .bounds .text-high))
 
 -- The answer of `end_of`.
 module _ (t : List ℕ) (p : ℕ) (x : LeafEndAnswer) (x-is : LeafEndOf t p x) where
@@ -143,10 +154,10 @@ module _ (t : List ℕ) (p : ℕ) (x : LeafRunAnswer) (x-is : LeafRunOf t p x) w
   pub run-refused : x ≡ found.Broken → byteAnswer t p ≡ refused 14
   run-refused e = rw e at x-is
 
-  pub broken-part : x ≡ found.Broken → IsRunAnswer t p (ran.Refused 14)
+  pub broken-part : x ≡ found.Broken → IsRunAnswer t p (run.Refused 14)
   broken-part e = bytes.run-none t p 13 14 refl (sym (run-refused e))
 
-  pub found-part : (r : LeafRun) → x ≡ found.At r → IsRunAnswer t p (ran.At (record { from = r .from; length = r .length }))
+  pub found-part : (r : LeafRun) → x ≡ found.At r → IsRunAnswer t p (run.At (record { from = r .from; length = r .length }))
   found-part r e =
       let k = run-found r e in
       let z : p + 0 ≡ p = omega arith in record {
@@ -167,7 +178,7 @@ module _ (t : List ℕ) (p most : ℕ) (x : LeafRunAnswer) (x-is : LeafRangeOf t
       let z : byteAnswer t p ≡ refused 14 = rw e at x-is in
       ap (λ (s : Answer). s .number) z
 
-  pub found-range : headerResult t ≡ 0 → (r : LeafRun) → x ≡ found.At r → IsRangeAnswer t p most (ran.At (record { from = r .from; length = r .length }))
+  pub found-range : headerResult t ≡ 0 → (r : LeafRun) → x ≡ found.At r → IsRangeAnswer t p most (run.At (record { from = r .from; length = r .length }))
   found-range passes r e =
       let k = range-found r e in
       let number : (y : ℕ) → y < r .length → byteAnswer t (p + y) .number ≡ 0 = λ y l. ap (λ (s : Answer). s .number) (k .answers y l) in (
@@ -183,10 +194,10 @@ module _ (t : List ℕ) (p most : ℕ) (x : LeafRunAnswer) (x-is : LeafRangeOf t
 
 -- The answer of `range_at`.
 module _ (t : List ℕ) (p most : ℕ) (x : RunRangeAnswer) (x-is : IsRangeAnswer t p most x) where
-  pub range-reads : (part : TreeRange) → x ≡ ran.At part → (ReadsOn t p (part .from) (part .length)) × (1 ≤ part .length) × (part .length ≤ most)
+  pub range-reads : (part : TreeRange) → x ≡ run.At part → (ReadsOn t p (part .from) (part .length)) × (1 ≤ part .length) × (part .length ≤ most)
   range-reads part e = rw e at x-is
 
-  pub range-broken : (q : ℕ) → x ≡ ran.Refused q → (q ≡ 14) × (byteAnswer t p .number ≡ 14)
+  pub range-broken : (q : ℕ) → x ≡ run.Refused q → (q ≡ 14) × (byteAnswer t p .number ≡ 14)
   range-broken q e = rw e at x-is
 
 -- The first byte of a run is that of its place.
@@ -229,7 +240,7 @@ module _ (t : List ℕ) (p : ℕ) (r : LeafRun) (k : ReadsFrom t p r) where
 
 -- A range, all copied.
 pub run-copied : (t : List ℕ) (p most : ℕ) (r : LeafRun) → LeafRangeAt t p most r
-    → (to : ℕ) (d e : List ℕ) (c : SpanAnswer) → c ≡ copied.Bytes (r .length) 0 → e ≡ bytesWritten d to t (r .from) (r .length) → RunCopied t p most to d e c
+    → (to : ℕ) (d e : List ℕ) (c : SpanAnswer) → c ≡ span.Bytes (r .length) 0 → e ≡ bytesWritten d to t (r .from) (r .length) → RunCopied t p most to d e c
 run-copied t p most r k to d e c c-is is =
     let f = range-read t p most r k in
     rw c-is (k .some-byte, k .at-most, run-answered t p r f, is ∙ run-written t p r f d to (r .length) (omega arith))

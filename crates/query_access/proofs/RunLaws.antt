@@ -7,8 +7,8 @@ use Prim.Native.Nat.{ℕ, _+_, _-_, _≤_, _<_, min}
 use native.Mathlib.Omega.{arith}
 use native.Mathlib.Nat.{add-assoc}
 use lib.ListN.{length, getD}
-use Rattle.text.specs.Text.{stretch}
-use Rattle.text.specs.TextLaws.{stretch-ext, stretch-at}
+use Rattle.text.specs.Text.{substring}
+use Rattle.text.specs.TextLaws.{substring-ext, substring-at}
 use Rattle.format.specs.Layout as at
 use Rattle.format.specs.TreeReading.{Path, pathOf, textOf, headerResult}
 use Rattle.format.specs.LayoutLaws.{Readable, header-facts}
@@ -21,7 +21,7 @@ use Rattle.layout.specs.declared.header.Header.{Header}
 use Rattle.layout.specs.HeaderFields.{HeaderOf}
 use Rattle.query_access.specs.declared.read_by_header.TreeRange.{TreeRange}
 use Rattle.query_access.specs.declared.read_by_header.RunRangeAnswer.{RunRangeAnswer}
-use Rattle.query_access.specs.declared.read_by_header.RunRangeAnswer.the-variants as ran
+use Rattle.query_access.specs.declared.read_by_header.RunRangeAnswer.the-variants as run
 use Rattle.query_access.specs.ReadAnswers.{IsRunAnswer}
 use Rattle.query_access.specs.ReadByRuns.{ReadsOn}
 
@@ -34,10 +34,10 @@ reads-none t p from h k = record {
   bytes = λ x l. absurd (let z : ⊥ = omega arith in z);
 }
 
--- The bytes in one stretch.
-pub reads-stretch : (t : List ℕ) (p from size : ℕ) → ReadsOn t p from size → stretch t from size ≡ stretch (textOf t) p size
-reads-stretch t p from size a =
-    stretch-ext t (textOf t) from p size (a .in-tree) (omega (arith, a .in-text, text-length t)) (a .bytes)
+-- The bytes in one substring.
+pub reads-substring : (t : List ℕ) (p from size : ℕ) → ReadsOn t p from size → substring t from size ≡ substring (textOf t) p size
+reads-substring t p from size a =
+    substring-ext t (textOf t) from p size (a .in-tree) (omega (arith, a .in-text, text-length t)) (a .bytes)
 
 -- What is left of it after some bytes.
 pub reads-rest : (t : List ℕ) (p from size k : ℕ) → ReadsOn t p from size → k ≤ size → ReadsOn t (p + k) (from + k) (size - k)
@@ -84,14 +84,14 @@ module _ (t : List ℕ) (r : headerResult t ≡ 0) (p : ℕ) (low : p < at.textL
 
   -- A run reads on.
   pub run-reads : byteAnswer t p .number ≡ 0 → ReadsOn t p (runAnswer t p .0) (runAnswer t p .1)
-  unfolding stretch
+  unfolding substring
   run-reads z =
       let w = path-there t r p low z in
       let part = reads.run-part t (header-facts t r) r p low (w .0) (w .1) in record {
         in-text = part .in-text;
         in-tree = part .in-tree;
         holds = run-holds (w .0) (w .1);
-        bytes = stretch-at t (textOf t) (runAnswer t p .0) p (runAnswer t p .1) (part .bytes);
+        bytes = substring-at t (textOf t) (runAnswer t p .0) p (runAnswer t p .1) (part .bytes);
       }
 
   pub run-some : byteAnswer t p .number ≡ 0 → 1 ≤ runAnswer t p .1
@@ -104,14 +104,14 @@ module _ (t : List ℕ) (h : Header) (k : HeaderOf t h) (p : ℕ) (low : p < h .
   low-text : p < at.textLength t
   low-text = omega (arith, k .length-is)
 
-  pub part-reads : (part : TreeRange) → r ≡ ran.At part → ReadsOn t p (part .from) (part .length) × (1 ≤ part .length)
+  pub part-reads : (part : TreeRange) → r ≡ run.At part → ReadsOn t p (part .from) (part .length) × (1 ≤ part .length)
   part-reads part e =
-      let z : IsRunAnswer t p (ran.At part) = rw e at a in
+      let z : IsRunAnswer t p (run.At part) = rw e at a in
       let number = sym (z .number-is) in
       (rw (z .from-is, z .length-is) (run-reads t (k .passes) p low-text number), rw (z .length-is) (run-some t (k .passes) p low-text number))
 
-  pub part-broken : (q : ℕ) → r ≡ ran.Refused q → (q ≡ 14) × (byteAnswer t p .number ≡ 14)
+  pub part-broken : (q : ℕ) → r ≡ run.Refused q → (q ≡ 14) × (byteAnswer t p .number ≡ 14)
   part-broken q e =
-      let z : IsRunAnswer t p (ran.Refused q) = rw e at a in
+      let z : IsRunAnswer t p (run.Refused q) = rw e at a in
       let y = byte-broken t (k .passes) p low-text (λ x. omega (arith, z .number-is, z .numbered)) in
       (z .number-is ∙ y, y)

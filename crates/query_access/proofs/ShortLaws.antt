@@ -8,7 +8,7 @@ use native.Mathlib.Omega.{arith}
 use lib.Dec.{eqb, leb}
 use lib.ListN.{length, take, drop, replicate, length-drop}
 use lib.Seq.{drop-drop, paste, paste-zero, paste-suc, length-paste, drop-paste, take-at, length-take-le, getD-drop}
-use Rattle.text.specs.Text.{stretch}
+use Rattle.text.specs.Text.{substring}
 use Rattle.format.specs.Layout as at
 use Rattle.format.specs.Answers.{Answer, refused, isShort, blocksOf, spanReached, spanBytes, spanBlocks}
 use Rattle.format.specs.TreeReading.{Short, shortOf, shortBytes}
@@ -40,8 +40,8 @@ access-written d T to from (suc n) h g =
 
 -- Two parts, one after the other.
 two-parts : (d t : List ℕ) (from size next rest : ℕ) → size + rest ≤ length d → from + size ≤ length t → next + rest ≤ length t
-    → bytesWritten (bytesWritten d 0 t from size) size t next rest ≡ (stretch t from size ++ stretch t next rest) ++ drop (size + rest) d
-unfolding stretch
+    → bytesWritten (bytesWritten d 0 t from size) size t next rest ≡ (substring t from size ++ substring t next rest) ++ drop (size + rest) d
+unfolding substring
 two-parts d t from size next rest h g f =
     let one : List ℕ = paste d 0 (drop from t) size in
     let front : size ≤ length (drop from t) = rw (length-drop from t) (omega arith) in
@@ -58,7 +58,7 @@ two-parts d t from size next rest h g f =
         rw e (sym (drop-drop m (0 + n) (paste d 0 s n)) ∙ ap (λ (x : List ℕ). drop m x) (drop-paste d 0 s n (omega arith) k) ∙ drop-drop m (0 + n) d)
 
 same-bytes : (t : List ℕ) (len from size next : ℕ) (u : Short) → from ≡ u .from → size ≡ u .size → next ≡ u .next
-    → stretch t from size ++ stretch t next (len - size) ≡ shortBytes t len (some u)
+    → substring t from size ++ substring t next (len - size) ≡ shortBytes t len (some u)
 same-bytes t len from size next u a b c = rw (a, b, c)
 
 blocks-found : (t : List ℕ) (r : Option Short) (u : Short) → r ≡ some u → blocksOf t r ≡ length (u .visits)
@@ -108,9 +108,9 @@ module _ (t : List ℕ) (h : Header)
       let in-tree : (q .size ≤ len) × (q .from + q .size ≤ length t) × (q .next + (len - q .size) ≤ length t) = rw a at w in
       let whole : q .size + (len - q .size) ≡ len = omega (arith, in-tree .0) in
       let parts-are = two-parts d t (q .from) (q .size) (q .next) (len - q .size) (omega arith) (in-tree .1) (in-tree .2) in
-      let written-is : e ≡ (stretch t (q .from) (q .size) ++ stretch t (q .next) (len - q .size)) ++ drop len d =
+      let written-is : e ≡ (substring t (q .from) (q .size) ++ substring t (q .next) (len - q .size)) ++ drop len d =
       e-is ∙ ap (λ (y : List ℕ). bytesWritten y (q .size) t (q .next) (len - q .size)) one-is
-      ∙ parts-are ∙ ap (λ (y : ℕ). (stretch t (q .from) (q .size) ++ stretch t (q .next) (len - q .size)) ++ drop y d) whole in
+      ∙ parts-are ∙ ap (λ (y : ℕ). (substring t (q .from) (q .size) ++ substring t (q .next) (len - q .size)) ++ drop y d) whole in
       let reached : true ≡ spanReached t p len = rw (is, z .1) in
       let by-edges : shortBytes t len (shortOf t p len) ≡ spanBytes t p len = rw is in
       let short-are : shortBytes t len (some (z .0)) ≡ spanBytes t p len = bytes-found t len (shortOf t p len) (z .0) (z .1) ∙ by-edges in

@@ -10,13 +10,13 @@ use native.Mathlib.Omega.{arith}
 use contract.Lifetimes.{Lfts}
 use denote.Ref.{RefT}
 use lib.ListN.{length, getD, take, drop}
-use Rattle.text.specs.Text.{stretch}
+use Rattle.text.specs.Text.{substring}
 use Rattle.text.specs.declared.TextPlace.{TextPlace}
 use Rattle.format.specs.Layout as at
 use Rattle.format.specs.TreeReading.{Path, pathOf, linksOk, textOf, headerResult, checkResult}
 use Rattle.format.specs.FittingText.{fits}
 use Rattle.format.specs.CheckResultLaws.{accepted-header}
-use Rattle.theory_edges.specs.Theorems as margins
+use Rattle.theory_edges.specs.Theorems as edges
 use Rattle.format.specs.Answers.{Answer, refused, NeverZero, replied, runAnswer, spanBlocks, spanAnswer}
 use Rattle.theory_paths.specs.Theorems as paths
 use Rattle.query_access.specs.declared.ByteAnswer.{ByteAnswer}
@@ -105,7 +105,7 @@ module _ (t : RefT (List ℕ)) (pass : headerResult (t .now) ≡ 0) (links : lin
     pub in-tree : from + size ≤ length (t .now)
     pub place : r .ptr ≡ (t .ptr .0, t .ptr .1 + from)
     pub of-tree : r .now ≡ take size (drop from (t .now))
-    pub of-text : r .now ≡ stretch (textOf (t .now)) p size
+    pub of-text : r .now ≡ substring (textOf (t .now)) p size
 
   pub run-slices : (κs : Lfts 1) (p : TextPlace) (r : RefT (List ℕ)) → p .0 < at.textLength (t .now) → Run κs t p r → Stretches (p .0) r
   run-slices κs p r low a =
@@ -126,12 +126,12 @@ pub span-copies :
     (t : RefT (List ℕ)) → checkResult (t .now) ≡ 0 → (κs : Lfts 2) (p : TextPlace) (len : ℕ) (buffer after : RefT (List ℕ)) (r : SpanAnswer)
     → p .0 + len ≤ at.textLength (t .now) → len ≤ length (buffer .now) → Span κs t p len buffer after r
     → (r ≡ copied.Bytes len (spanBlocks (t .now) (p .0) len)) × (spanBlocks (t .now) (p .0) len ≤ 2 * at.settings (t .now) .levels)
-    × (after .now ≡ stretch (textOf (t .now)) (p .0) len ++ drop len (buffer .now))
+    × (after .now ≡ substring (textOf (t .now)) (p .0) len ++ drop len (buffer .now))
 unfolding spanAnswer
 span-copies t v κs p len buffer after r low room a =
-    let z = margins.span-good (t .now) v (p .0) len (length (buffer .now)) low room in
+    let z = edges.span-good (t .now) v (p .0) len (length (buffer .now)) low room in
     let s : replied (spanReply r) ≡ record { number = 0; value = len; entered = spanBlocks (t .now) (p .0) len } = a .0 .answers ∙ rw z in (
       copied-is r len (spanBlocks (t .now) (p .0) len) (a .0 .numbered) s,
-      margins.span-entered (t .now) (accepted-header (t .now) v) (p .0) len,
-      a .1 ∙ margins.span-of-text (t .now) v (p .0) len (buffer .now) low room,
+      edges.span-entered (t .now) (accepted-header (t .now) v) (p .0) len,
+      a .1 ∙ edges.span-of-text (t .now) v (p .0) len (buffer .now) low room,
     )

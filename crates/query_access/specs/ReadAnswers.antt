@@ -7,9 +7,9 @@ use Rattle.format.specs.Answers.{Reply, figures, refusal, replied, NeverZero, I
 use Rattle.query_access.specs.declared.ByteAnswer.{ByteAnswer}
 use Rattle.query_access.specs.declared.ByteAnswer.the-variants as answer
 use Rattle.query_access.specs.declared.SpanAnswer.{SpanAnswer}
-use Rattle.query_access.specs.declared.SpanAnswer.the-variants as copied
+use Rattle.query_access.specs.declared.SpanAnswer.the-variants as span
 use Rattle.query_access.specs.declared.read_by_header.RunRangeAnswer.{RunRangeAnswer}
-use Rattle.query_access.specs.declared.read_by_header.RunRangeAnswer.the-variants as ran
+use Rattle.query_access.specs.declared.read_by_header.RunRangeAnswer.the-variants as run
 
 -- A byte with the blocks entered.
 abbrev pub byteReply : ByteAnswer → Reply
@@ -18,16 +18,16 @@ byteReply (answer.Refused number) = refusal number
 
 -- The bytes that were copied, with the blocks entered.
 abbrev pub spanReply : SpanAnswer → Reply
-spanReply (copied.Bytes len entered) = figures len entered
-spanReply (copied.Refused number) = refusal number
+spanReply (span.Bytes len entered) = figures len entered
+spanReply (span.Refused number) = refusal number
 
 abbrev pub IsSpanAnswer : (t : List ℕ) (p len room : ℕ) → SpanAnswer → Type 0
 IsSpanAnswer t p len room = Is spanReply (spanAnswer t p len room)
 
 -- Where a run starts in the tree, and its length.
 abbrev pub runRangeReply : RunRangeAnswer → Reply
-runRangeReply (ran.At part) = figures (part .from) (part .length)
-runRangeReply (ran.Refused number) = refusal number
+runRangeReply (run.At part) = figures (part .from) (part .length)
+runRangeReply (run.Refused number) = refusal number
 
 -- The run of place p, which is in the tree, or byte's number for p.
 pub record IsRunAnswer (t : List ℕ) (p : ℕ) (r : RunRangeAnswer) : Type 0 where

@@ -7,9 +7,9 @@ use Rattle.format.specs.Layout as at
 use Rattle.format.specs.TreeReading.{textOf}
 use Rattle.format.specs.Answers.{refused, Is, byteAnswer, runAnswer, copyAnswer}
 use Rattle.query_access.specs.declared.SpanAnswer.{SpanAnswer}
-use Rattle.query_access.specs.declared.SpanAnswer.the-variants as copied
+use Rattle.query_access.specs.declared.SpanAnswer.the-variants as span
 use Rattle.query_access.specs.declared.read_by_header.RunRangeAnswer.{RunRangeAnswer}
-use Rattle.query_access.specs.declared.read_by_header.RunRangeAnswer.the-variants as ran
+use Rattle.query_access.specs.declared.read_by_header.RunRangeAnswer.the-variants as run
 use Rattle.query_access.specs.declared.read_by_header.LeafRun.{LeafRun}
 use Rattle.query_access.specs.declared.read_by_header.LeafRunAnswer.{LeafRunAnswer}
 use Rattle.query_access.specs.declared.read_by_header.LeafRunAnswer.the-variants as found
@@ -59,8 +59,8 @@ LeafRangeOf t p most found.Broken = byteAnswer t p ≡ refused 14
 
 -- The answer of `range_at`: some bytes of the tree, at most `most`, that are those of its text from place p on; or 14, the refusal of byte.
 abbrev pub IsRangeAnswer : List ℕ → ℕ → ℕ → RunRangeAnswer → Type 0
-IsRangeAnswer t p most (ran.At part) = (ReadsOn t p (part .from) (part .length)) × (1 ≤ part .length) × (part .length ≤ most)
-IsRangeAnswer t p most (ran.Refused q) = (q ≡ 14) × (byteAnswer t p .number ≡ 14)
+IsRangeAnswer t p most (run.At part) = (ReadsOn t p (part .from) (part .length)) × (1 ≤ part .length) × (part .length ≤ most)
+IsRangeAnswer t p most (run.Refused q) = (q ≡ 14) × (byteAnswer t p .number ≡ 14)
 
 -- The buffer d with the bytes of n places from p written from `to` on.
 abbrev pub placesWritten : List ℕ → ℕ → List ℕ → ℕ → ℕ → List ℕ
@@ -69,6 +69,6 @@ placesWritten d to t p (suc n) = set (placesWritten d to t p n) (to + n) (byteAn
 
 -- The answer of `copy_run`, which turns buffer d into e: some bytes, none of them refused; or 14 for the first one, and nothing is written.
 abbrev pub RunCopied : List ℕ → ℕ → ℕ → ℕ → List ℕ → List ℕ → SpanAnswer → Type 0
-RunCopied t p most to d e (copied.Bytes n entered) =
+RunCopied t p most to d e (span.Bytes n entered) =
     (1 ≤ n) × (n ≤ most) × ((x : ℕ) → x < n → byteAnswer t (p + x) .number ≡ 0) × (e ≡ placesWritten d to t p n)
-RunCopied t p most to d e (copied.Refused q) = (q ≡ 14) × (byteAnswer t p .number ≡ 14) × (e ≡ d)
+RunCopied t p most to d e (span.Refused q) = (q ≡ 14) × (byteAnswer t p .number ≡ 14) × (e ≡ d)

@@ -12,7 +12,7 @@ use denote.Ref.{RefT, now}
 use lib.ListN.{length, drop, getD, replicate}
 use lib.Dec.{eqb}
 use borrow.Author.Tests.{lt-ltb, le-ltb, le-leb, lt-leb, eq-eqb, ne-eqb}
-use Rattle.text.specs.Text.{tabulate, stretch}
+use Rattle.text.specs.Text.{tabulate, substring}
 use Rattle.text.specs.ListLaws.{allBelow-make, allBelow-not, tabulate-ext}
 use Rattle.columns.specs.Columns.{columns, uncolumns, widthOk}
 use Rattle.columns.specs.ColumnLaws.{within, width-rows, columns-length, restored, row-read}
@@ -91,7 +91,7 @@ module _ (κs : Lfts 2) (t : RefT (List ℕ)) (w a : ℕ) (buffer after : RefT (
 module _ (κs : Lfts 2) (t : RefT (List ℕ)) (v : checkResult (now t) ≡ 0) (w a : ℕ) (buffer after : RefT (List ℕ)) (r : SpanAnswer)
     (c : ByColumns κs t w a buffer after r) where
   pub column-copies : widthOk w (length (textOf (now t))) ≡ true → a < length (textOf (now t)) / w → w ≤ length (now buffer)
-      → (r ≡ span.Bytes w 0) × (now after ≡ stretch (uncolumns w (textOf (now t))) (a * w) w ++ drop w (now buffer))
+      → (r ≡ span.Bytes w 0) × (now after ≡ substring (uncolumns w (textOf (now t))) (a * w) w ++ drop w (now buffer))
   column-copies ok low room =
       let z = column-read κs t w a buffer after r c pass (rw size at ok) (rw size at low) room (λ b l. byte-is b l .0) in
       (z .0, z .1 ∙ ap (λ (l : List ℕ). l ++ drop w (now buffer)) row-is)
@@ -112,7 +112,7 @@ module _ (κs : Lfts 2) (t : RefT (List ℕ)) (v : checkResult (now t) ≡ 0) (w
           let z = paths.byte-of-text (now t) pass (accepted-links (now t) v) (b * rows + a) below in
           (ap (λ (s : Answer). s .number) (z .2), ap (λ (s : Answer). s .value) (z .2))
 
-      row-is : tabulate w (λ b. byteAnswer (now t) (b * (at.textLength (now t) / w) + a) .value) ≡ stretch (uncolumns w (textOf (now t))) (a * w) w
+      row-is : tabulate w (λ b. byteAnswer (now t) (b * (at.textLength (now t) / w) + a) .value) ≡ substring (uncolumns w (textOf (now t))) (a * w) w
       row-is =
           tabulate-ext w (λ b. byteAnswer (now t) (b * (at.textLength (now t) / w) + a) .value)
           (λ b. getD (textOf (now t)) (b * (at.textLength (now t) / w) + a) 0)
@@ -121,7 +121,7 @@ module _ (κs : Lfts 2) (t : RefT (List ℕ)) (v : checkResult (now t) ≡ 0) (w
 
   -- From the tree of a rearranged text the call gives row a of the original text.
   pub row-of-text : (T : List ℕ) → widthOk w (length T) ≡ true → textOf (now t) ≡ columns w T → a < length T / w → w ≤ length (now buffer)
-      → (r ≡ span.Bytes w 0) × (now after ≡ stretch T (a * w) w ++ drop w (now buffer))
+      → (r ≡ span.Bytes w 0) × (now after ≡ substring T (a * w) w ++ drop w (now buffer))
   row-of-text T ok is low room =
       let size : length (textOf (now t)) ≡ length T = ap length is ∙ columns-length w T ok in
       let z = column-copies (rw size ok) (rw size low) room in

@@ -3,7 +3,7 @@ use mathlib.Core.List.{List, [], _∷_, _++_}
 use mathlib.Core.Path.{_≡_, refl}
 use Prim.Native.Nat.{ℕ}
 use lib.ListN.{replicate, take}
-use Rattle.text.specs.Text.{tabulate, concat, sumBelow, countBelow, allBelow, sameList, stretch, leftmost, firstFrom, countIn}
+use Rattle.text.specs.Text.{tabulate, concat, sumBelow, countBelow, allBelow, sameList, substring, leftmost, firstFrom, countIn}
 use Rattle.columns.specs.Columns.{transposed, columns, widthOk}
 use Rattle.format.specs.Layout.{wordAt, wordsBytes, wordBytes, setWord, blockLength, pieces, recordLength, lengthOk, sizesOk, countedOk, rising, risingAfter}
 use Rattle.format.specs.Blocks.{treeOf, header, leafBytes, levelPairs, recordBytes, levelBytes, recordIn, recordOf, target, occurrence, width, isKept}
@@ -59,7 +59,7 @@ pub record ColumnRowMarked : Type 0 where
 pub column-row-marked : ColumnRowMarked
 unfolding column-row-book column-row-tree setWord column-row-broken lent column-row-answered transposed columns widthOk cell cellsHold
     rowByColumnsRefusal rowByColumnsBuffer rowByColumnsAnswer tabulate concat sumBelow
-    countBelow allBelow sameList wordAt wordsBytes wordBytes stretch leftmost firstFrom countIn blockLength pieces recordLength lengthOk sizesOk
+    countBelow allBelow sameList wordAt wordsBytes wordBytes substring leftmost firstFrom countIn blockLength pieces recordLength lengthOk sizesOk
     countedOk rising risingAfter treeOf header leafBytes levelPairs recordBytes edgesOf filledOut levelBytes recordIn recordOf target occurrence width
     isKept startsAt cut keptByPairs firstPairAt pairAt lengthOf startOf pathOf pathFrom targetPlace targetBlock pointingBlock keptBlock lands
     landBlock landPlace landVisits headerResult at.leafByte byteAnswer at.blockLengthAt at.levelCount at.levelOffset at.layout at.textLength at.countedCount

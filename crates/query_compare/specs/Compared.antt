@@ -9,7 +9,7 @@ use Rattle.format.specs.Answers.{Answer, byteAnswer}
 use Rattle.format.specs.Layout as at
 use Rattle.format.specs.TreeReading.{headerResult}
 use Rattle.query_access.specs.declared.read_by_header.RunRangeAnswer.{RunRangeAnswer}
-use Rattle.query_access.specs.declared.read_by_header.RunRangeAnswer.the-variants as ran
+use Rattle.query_access.specs.declared.read_by_header.RunRangeAnswer.the-variants as run
 use Rattle.query_access.specs.ReadByRuns.{ReadsOn}
 use Rattle.query_compare.specs.declared.side_by_side.Progress.{Progress}
 use Rattle.query_compare.specs.declared.side_by_side.Round.{Round}
@@ -18,8 +18,8 @@ use Rattle.query_compare.specs.OrderAnswers.{before, after, stands, comp
 
 -- Bytes of the text from place p, at least one, or none because the path of p breaks.
 abbrev pub CompareReadsFrom : List ℕ → ℕ → RunRangeAnswer → Type 0
-CompareReadsFrom t p (ran.At part) = ReadsOn t p (part .from) (part .length) × (1 ≤ part .length)
-CompareReadsFrom t p (ran.Refused q) = byteAnswer t p .number ≡ 14
+CompareReadsFrom t p (run.At part) = ReadsOn t p (part .from) (part .length) × (1 ≤ part .length)
+CompareReadsFrom t p (run.Refused q) = byteAnswer t p .number ≡ 14
 
 -- The n bytes of s from a and of t from b agree in their first r, and not in the next.
 pub record Agrees (s : List ℕ) (a : ℕ) (t : List ℕ) (b n r : ℕ) : Type 0 where

@@ -3,7 +3,7 @@ use mathlib.Core.List.{List, [], _∷_, _++_}
 use mathlib.Core.Path.{_≡_, refl}
 use Prim.Native.Nat.{ℕ}
 use lib.ListN.{replicate, length, take}
-use Rattle.text.specs.Text.{tabulate, concat, sumBelow, countBelow, allBelow, sameList, stretch, leftmost, firstFrom, countIn}
+use Rattle.text.specs.Text.{tabulate, concat, sumBelow, countBelow, allBelow, sameList, substring, leftmost, firstFrom, countIn}
 use Rattle.format.specs.Answers.{refused, byteAnswer}
 use Rattle.format.specs.Layout.{wordAt, wordsBytes, wordBytes, setWord, Settings, blockLength, pieces, recordLength, lengthOk, sizesOk, countedOk, rising}
 use Rattle.format.specs.Blocks.{treeOf, header, leafBytes, levelPairs, recordBytes, levelBytes, recordIn, recordOf, target, occurrence, width, isKept}
@@ -92,7 +92,7 @@ pub record CompareMarked : Type 0 where
 pub compare-marked : CompareMarked
 unfolding nine compare-book compare-two w w′ p x high low compare-empty empty′ compare-words compare-older setWord late early standing shared byLength
     comparedFrom compareAnswer tabulate concat
-    sumBelow countBelow allBelow sameList wordAt wordsBytes wordBytes stretch leftmost firstFrom countIn blockLength pieces recordLength lengthOk
+    sumBelow countBelow allBelow sameList wordAt wordsBytes wordBytes substring leftmost firstFrom countIn blockLength pieces recordLength lengthOk
     sizesOk countedOk rising risingAfter treeOf header leafBytes levelPairs recordBytes edgesOf filledOut levelBytes recordIn recordOf target
     occurrence width isKept startsAt cut keptByPairs firstPairAt pairAt lengthOf startOf pathOf pathFrom targetPlace targetBlock pointingBlock
     keptBlock lands landBlock landPlace landVisits headerResult at.leafByte byteAnswer at.blockLengthAt at.levelCount at.levelOffset at.layout at.textLength

@@ -3,7 +3,7 @@ use mathlib.Core.List.{List, [], _∷_}
 use mathlib.Core.Path.{_≡_, refl}
 use Prim.Native.Nat.{ℕ, _-_}
 use lib.ListN.{replicate, take}
-use Rattle.text.specs.Text.{tabulate, concat, sumBelow, countBelow, allBelow, sameList, stretch, leftmost, firstFrom, countIn, placeOf, placeIn}
+use Rattle.text.specs.Text.{tabulate, concat, sumBelow, countBelow, allBelow, sameList, substring, leftmost, firstFrom, countIn, placeOf, placeIn}
 use Rattle.format.specs.Layout.{wordAt, wordsBytes, wordBytes, setWord, blockLength, pieces, recordLength, lengthOk, sizesOk, countedOk, rising, risingAfter}
 use Rattle.format.specs.Layout.{edgesOf, filledOut}
 use Rattle.format.specs.Blocks.{treeOf, header, leafBytes, levelPairs, recordBytes, levelBytes, recordIn, recordOf, target, occurrence, width, isKept}
@@ -68,7 +68,7 @@ pub record GuideMarked : Type 0 where
 pub guide-marked : GuideMarked
 unfolding guide-book blocks W both guide-answered blockOf entriesOf entriesBefore guideWords guideOf guideBytes guideRefusal guideWordsAnswer
     makeGuideRefusal makeGuideAnswer makeGuideBuffer
-    total tabulate concat sumBelow countBelow allBelow sameList setWord wordAt wordsBytes wordBytes stretch leftmost firstFrom countIn placeOf placeIn
+    total tabulate concat sumBelow countBelow allBelow sameList setWord wordAt wordsBytes wordBytes substring leftmost firstFrom countIn placeOf placeIn
     blockLength pieces lengthOk sizesOk countedOk rising risingAfter treeOf header leafBytes levelPairs recordBytes recordLength edgesOf filledOut
     levelBytes recordIn recordOf target occurrence width isKept startsAt cut keptByPairs firstPairAt pairAt lengthOf startOf pathOf pathFrom
     targetPlace targetBlock pointingBlock keptBlock lands landBlock landPlace landVisits shortOf shortFrom byEdges inLeaf linksOk textOf fits

@@ -3,7 +3,7 @@ use mathlib.Core.List.{List, [], _∷_}
 use mathlib.Core.Path.{_≡_, refl}
 use Prim.Native.Nat.{ℕ}
 use lib.ListN.{replicate}
-use Rattle.text.specs.Text.{tabulate, concat, sumBelow, countBelow, allBelow, sameList, stretch, leftmost, firstFrom, countIn, placeOf, placeIn}
+use Rattle.text.specs.Text.{tabulate, concat, sumBelow, countBelow, allBelow, sameList, substring, leftmost, firstFrom, countIn, placeOf, placeIn}
 use Rattle.format.specs.Layout.{wordAt, wordsBytes, wordBytes, blockLength, pieces, recordLength, edgesOf, filledOut}
 use Rattle.format.specs.Blocks.{treeOf, header, leafBytes, levelPairs, recordBytes, levelBytes, recordIn, recordOf, target, occurrence, width, isKept}
 use Rattle.format.specs.Blocks.{startsAt, cut, keptByPairs, firstPairAt, pairAt, lengthOf, startOf}
@@ -30,7 +30,7 @@ pub record GuidedMarked : Type 0 where
   steps : (stepsTo long 0 1 ≡ 0) × (stepsTo long 0 64 ≡ 31) × (stepsTo long 0 65 ≡ 0) × (stepsTo long 0 100 ≡ 17)
 
 pub guided-marked : GuidedMarked
-unfolding guided-book GuidedW long blockOf stepsTo found tabulate concat sumBelow countBelow allBelow sameList stretch leftmost firstFrom countIn placeOf
+unfolding guided-book GuidedW long blockOf stepsTo found tabulate concat sumBelow countBelow allBelow sameList substring leftmost firstFrom countIn placeOf
     placeIn
     wordAt wordsBytes wordBytes blockLength pieces recordLength edgesOf filledOut treeOf header leafBytes levelPairs recordBytes levelBytes recordIn
     recordOf target occurrence width isKept startsAt cut keptByPairs firstPairAt pairAt lengthOf startOf pathOf pathFrom targetPlace targetBlock

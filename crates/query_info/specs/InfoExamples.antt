@@ -3,7 +3,7 @@ use mathlib.Core.List.{List, [], _∷_}
 use mathlib.Core.Path.{_≡_, refl}
 use Prim.Native.Nat.{ℕ}
 use lib.ListN.{replicate, take}
-use Rattle.text.specs.Text.{tabulate, concat, sumBelow, countBelow, allBelow, sameList, stretch, leftmost, firstFrom, countIn}
+use Rattle.text.specs.Text.{tabulate, concat, sumBelow, countBelow, allBelow, sameList, substring, leftmost, firstFrom, countIn}
 use Rattle.format.specs.Layout.{wordAt, wordsBytes, wordBytes, blockLength, pieces, recordLength, lengthOk, sizesOk, countedOk, rising, risingAfter}
 use Rattle.format.specs.Layout.{edgesOf, filledOut}
 use Rattle.format.specs.Blocks.{treeOf, header, leafBytes, levelPairs, recordBytes, levelBytes, recordIn, recordOf, target, occurrence, width, isKept}
@@ -27,7 +27,7 @@ pub record InfoMarked : Type 0 where
 
 pub info-marked : InfoMarked
 unfolding info-book info-tree countedByte totalOf figuresOf infoBuffer total tabulate concat sumBelow countBelow allBelow sameList wordAt wordsBytes wordBytes
-    stretch leftmost firstFrom countIn blockLength pieces recordLength lengthOk sizesOk countedOk rising risingAfter treeOf header leafBytes
+    substring leftmost firstFrom countIn blockLength pieces recordLength lengthOk sizesOk countedOk rising risingAfter treeOf header leafBytes
     levelPairs recordBytes edgesOf filledOut levelBytes recordIn recordOf target occurrence width isKept startsAt cut keptByPairs firstPairAt pairAt
     lengthOf startOf headerResult at.blockLengthAt at.levelCount at.levelOffset at.layout at.textLength at.countedCount at.settings at.leafOffset
     at.leafCount at.recordSize at.field at.start at.kind at.link at.gap at.before at.inside at.skip at.edgesAt at.leafByte at.fullLength at.isKept

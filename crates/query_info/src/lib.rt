@@ -26,7 +26,7 @@ const LEVELS: usize = Settings::MAX_LEVELS as usize;
 // The version. It changes with every change of what a call returns.
 pub const MAJOR: u32 = 2;
 
-pub const MINOR: u32 = 0;
+pub const MINOR: u32 = 1;
 
 pub const PATCH: u32 = 0;
 

@@ -1,2 +1,3 @@
 pub mod MatchAnswerLaws
 pub mod Theorems
+pub mod MarkValues

@@ -11,8 +11,8 @@ use lib.ListN.{length, getD, drop, set, length-append, length-drop, length-take}
 use lib.Seq.{ext-getD}
 use lib.Dec.{eqb, ltb}
 use Rattle.text.specs.ListLaws.{lt-or-ge, bool-cases, bool-clash, ne-sameList, eq-sameList}
-use Rattle.text.specs.Text.{stretch}
-use Rattle.text.specs.TextLaws.{length-stretch, getD-stretch}
+use Rattle.text.specs.Text.{substring}
+use Rattle.text.specs.TextLaws.{length-substring, getD-substring}
 use Rattle.format.specs.Layout as at
 use Rattle.format.specs.TreeReading.{textOf}
 use Rattle.format.specs.Answers.{byteAnswer, pathsHold}
@@ -36,29 +36,29 @@ module _ (P T : List ℕ) (i k : ℕ) (l : Longest P (λ p. getD T p 0) 0 i k) (
   unfolding occursAt
   stands-full e =
       let room : length P ≤ i = omega (arith, l .ends .room) in
-      let long : length (stretch T (i - length P) (length P)) ≡ length P = length-stretch T (i - length P) (length P) (omega arith) in
-      eq-sameList (stretch T (i - length P) (length P)) P (ext-getD 0 (stretch T (i - length P) (length P)) P long (λ x h.
+      let long : length (substring T (i - length P) (length P)) ≡ length P = length-substring T (i - length P) (length P) (omega arith) in
+      eq-sameList (substring T (i - length P) (length P)) P (ext-getD 0 (substring T (i - length P) (length P)) P long (λ x h.
       let low : x < length P = omega arith in
       let same : getD T (i - length P + x) 0 ≡ getD P x 0 = rw e at (l .ends .same x (omega arith)) in
-      getD-stretch T (i - length P) (length P) x low ∙ same))
+      getD-substring T (i - length P) (length P) x low ∙ same))
 
   -- If the state is not the whole pattern, the pattern does not end here.
   stands-not : (k ≡ length P → ⊥) → length P ≤ i → occursAt P T (i - length P) ≡ false
   unfolding occursAt
-  stands-not other room = ne-sameList (stretch T (i - length P) (length P)) P (λ e. other (omega (arith, l .ends .short, l .most (length P) (match e))))
+  stands-not other room = ne-sameList (substring T (i - length P) (length P)) P (λ e. other (omega (arith, l .ends .short, l .most (length P) (match e))))
     where
-      match : stretch T (i - length P) (length P) ≡ P → Ends P (λ p. getD T p 0) 0 i (length P)
+      match : substring T (i - length P) (length P) ≡ P → Ends P (λ p. getD T p 0) 0 i (length P)
       match e = record {
         short = omega arith;
         room = omega arith;
-        same = λ x h. sym (getD-stretch T (i - length P) (length P) x h) ∙ ap (λ (s : List ℕ). getD s x 0) e;
+        same = λ x h. sym (getD-substring T (i - length P) (length P) x h) ∙ ap (λ (s : List ℕ). getD s x 0) e;
       }
 
 -- After the last place where the pattern fits, it does not occur.
 stands-past : (P T : List ℕ) (p : ℕ) → 1 ≤ length P → length T < p + length P → occursAt P T p ≡ false
-unfolding occursAt stretch
+unfolding occursAt substring
 stands-past P T p pos past =
-    ne-sameList (stretch T p (length P)) P (λ e. omega (arith, ap length e, length-take (length P) (drop p T), length-drop p T))
+    ne-sameList (substring T p (length P)) P (λ e. omega (arith, ap length e, length-take (length P) (drop p T), length-drop p T))
 
 -- Numbers below others.
 

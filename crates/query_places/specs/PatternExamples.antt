@@ -3,7 +3,7 @@ use mathlib.Core.List.{List, [], _∷_, _++_}
 use mathlib.Core.Path.{_≡_, refl}
 use Prim.Native.Nat.{ℕ, _+_}
 use lib.ListN.{replicate, take, drop}
-use Rattle.text.specs.Text.{tabulate, concat, sumBelow, countBelow, allBelow, sameList, stretch, leftmost, firstFrom, countIn}
+use Rattle.text.specs.Text.{tabulate, concat, sumBelow, countBelow, allBelow, sameList, substring, leftmost, firstFrom, countIn}
 use Rattle.format.specs.Layout.{wordAt, wordsBytes, wordBytes, blockLength, pieces, recordLength, lengthOk, sizesOk, countedOk, rising, risingAfter}
 use Rattle.format.specs.Blocks.{treeOf, header, leafBytes, levelPairs, recordBytes, levelBytes, recordIn, recordOf, target, occurrence, width, isKept}
 use Rattle.format.specs.Blocks.{startsAt, cut, keptByPairs, firstPairAt, pairAt, lengthOf, startOf}
@@ -65,7 +65,7 @@ pub record PlacesMarked : Type 0 where
 pub places-marked : PlacesMarked
 unfolding places-book places-tree places-twelve with places-abcd places-answered nines occursAt places-below placesIn patternOk placesOf placesRefusal
     placesAnswer placesBuffer wordsFor placesWordsAnswer
-    tabulate concat sumBelow countBelow allBelow sameList wordAt wordsBytes wordBytes stretch leftmost firstFrom countIn blockLength pieces
+    tabulate concat sumBelow countBelow allBelow sameList wordAt wordsBytes wordBytes substring leftmost firstFrom countIn blockLength pieces
     recordLength lengthOk sizesOk countedOk rising risingAfter treeOf header leafBytes levelPairs recordBytes edgesOf filledOut levelBytes recordIn
     recordOf target occurrence width isKept startsAt cut keptByPairs firstPairAt pairAt lengthOf startOf pathOf pathFrom targetPlace targetBlock
     pointingBlock keptBlock lands landBlock landPlace landVisits textOf headerResult at.leafByte byteAnswer pathsHold at.blockLengthAt at.levelCount

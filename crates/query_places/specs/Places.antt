@@ -5,7 +5,7 @@ use mathlib.Core.Bool.{Bool, cond, _&&_}
 use Prim.Native.Nat.{ℕ, zero, suc, _+_, _-_}
 use lib.ListN.{length, drop}
 use lib.Dec.{leb, eqb}
-use Rattle.text.specs.Text.{sameList, stretch}
+use Rattle.text.specs.Text.{sameList, substring}
 use Rattle.format.specs.Layout as at
 use Rattle.format.specs.TreeReading.{textOf, asks, orNext, headerResult}
 use Rattle.format.specs.Answers.{Answer, unless, Reply, figures, refusal, Is, pathsHold}
@@ -19,7 +19,7 @@ use Rattle.query_places.specs.declared.PlacesWordsAnswer.the-variants as
 
 -- Whether the pattern occurs in the text at place p.
 unfoldable pub occursAt : List ℕ → List ℕ → ℕ → Bool
-occursAt P T p = sameList (stretch T p (length P)) P
+occursAt P T p = sameList (substring T p (length P)) P
 
 -- The numbers below n at which f holds, ascending.
 unfoldable pub places-below : ℕ → (ℕ → Bool) → List ℕ

@@ -8,7 +8,7 @@ use native.Mathlib.Omega.{arith}
 use lib.ListN.{length, getD, drop, length-append, length-take, length-drop, List·getD-append}
 use lib.Seq.{getD-append-seam}
 use Rattle.text.specs.ListLaws.{below-suc, bool-clash, sameList-true, eq-sameList}
-use Rattle.text.specs.Text.{stretch}
+use Rattle.text.specs.Text.{substring}
 use Rattle.query_places.specs.Places.{occursAt, places-below, placesIn}
 
 -- The numbers below n with f, each once, rising.
@@ -72,23 +72,23 @@ below-listed (suc n) f = go (f n) refl (below-listed n f)
 
 -- Where the pattern occurs, its bytes are in the text.
 module _ (P T : List ℕ) (p : ℕ) where
-  pub stands-there : occursAt P T p ≡ true → stretch T p (length P) ≡ P
+  pub stands-there : occursAt P T p ≡ true → substring T p (length P) ≡ P
   unfolding occursAt
-  stands-there e = sameList-true (stretch T p (length P)) P e
+  stands-there e = sameList-true (substring T p (length P)) P e
 
-  pub there-stands : stretch T p (length P) ≡ P → occursAt P T p ≡ true
+  pub there-stands : substring T p (length P) ≡ P → occursAt P T p ≡ true
   unfolding occursAt
-  there-stands e = eq-sameList (stretch T p (length P)) P e
+  there-stands e = eq-sameList (substring T p (length P)) P e
 
   pub stands-within : 1 ≤ length P → occursAt P T p ≡ true → p + length P ≤ length T
-  unfolding occursAt stretch
+  unfolding occursAt substring
   stands-within some-byte e =
-      omega (arith, ap length (sameList-true (stretch T p (length P)) P e), length-take (length P) (drop p T), length-drop p T)
+      omega (arith, ap length (sameList-true (substring T p (length P)) P e), length-take (length P) (drop p T), length-drop p T)
 
 -- ps has exactly the places of P in T, overlapping ones too, in increasing order without repetition
 pub record AllPlaces (P T ps : List ℕ) : Type 0 where
-  pub entry : (x : ℕ) → x < length ps → stretch T (getD ps x 0) (length P) ≡ P
-  pub all : (p : ℕ) → stretch T p (length P) ≡ P → (x : ℕ) × (x < length ps) × (getD ps x 0 ≡ p)
+  pub entry : (x : ℕ) → x < length ps → substring T (getD ps x 0) (length P) ≡ P
+  pub all : (p : ℕ) → substring T p (length P) ≡ P → (x : ℕ) × (x < length ps) × (getD ps x 0 ≡ p)
   pub rising : (x y : ℕ) → x < y → y < length ps → getD ps x 0 < getD ps y 0
 
 pub places-all : (P T : List ℕ) → 1 ≤ length P → AllPlaces P T (placesIn P T)

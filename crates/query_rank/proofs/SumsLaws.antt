@@ -10,7 +10,7 @@ use borrow.Author.Tests.{eq-eqb, ne-eqb, lt-leb, le-leb}
 use lib.ListN.{length}
 use lib.Dec.{eqb}
 use Rattle.text.specs.ListLaws.{lt-or-ge}
-use Rattle.text.specs.Text.{stretch, countIn}
+use Rattle.text.specs.Text.{substring, countIn}
 use Rattle.format.specs.Layout as at
 use Rattle.format.specs.Layout.{skipField, maxLevels}
 use Rattle.format.specs.TreeReading.{Path, Visit, visit, entered, keptBlock, pointingBlock, targetBlock, pathFrom, pathOf}
@@ -114,7 +114,7 @@ module _ (t : List ℕ) (byte c : ℕ) (s : Sum) where
 
   -- On the last level.
   pub sum-leaf : (l i o n : ℕ) (r : Sum)
-      → keptBlock t l i ≡ true → at.link t l i + o < at.leafCount t → n ≡ countIn byte (stretch t (at.leafOffset t + at.link t l i) (o + 1))
+      → keptBlock t l i ≡ true → at.link t l i + o < at.leafCount t → n ≡ countIn byte (substring t (at.leafOffset t + at.link t l i) (o + 1))
       → r ≡ rank-onward s n 0 → At r ≡ summed t byte c s (pathFrom t 0 l i o)
   unfolding summed rank-onward addedRest addedAfter taken takenAfter leavesReached lastPlace
   sum-leaf l i o n r kept h e f =
@@ -169,7 +169,7 @@ leaf-fits t size level b i link o offset count k e a c s = omega (arith, k .fact
 
 module _ (t : List ℕ) (size byte c level b i o e : ℕ) (s : Sum) (k : KeptAt t size level b i o e) (link : ℕ) (link-is : link ≡ at.link t level i) where
   pub leaf-sum : (offset : ℕ) (r : Sum)
-      → offset ≡ at.leafOffset t → link + o < at.leafCount t → {n : ℕ} → n ≡ countIn byte (stretch t (offset + link) (o + 1)) → r ≡ rank-onward s n 0
+      → offset ≡ at.leafOffset t → link + o < at.leafCount t → {n : ℕ} → n ≡ countIn byte (substring t (offset + link) (o + 1)) → r ≡ rank-onward s n 0
       → settled (At r) ≡ settled (summed t byte c s (pathFrom t 0 level i o))
   leaf-sum offset r a small {n} e f = ap settled (sum-leaf t byte c s level i o n r (k .kept) (omega arith) (rw (a, link-is) at e) f)
 

@@ -8,7 +8,7 @@ use native.Mathlib.Omega.{arith}
 use lib.ListN.{length, take, drop, length-take, take-append-drop, drop-of-length-le}
 use lib.Seq.{drop-drop}
 use lib.Dec.{ltb}
-use Rattle.text.specs.Text.{stretch, placeOf, rowsOf}
+use Rattle.text.specs.Text.{substring, placeOf, rowsOf}
 use Rattle.text.specs.declared.TextPlace.{TextPlace}
 use Rattle.text.specs.RowLaws.{rows-past}
 use Rattle.format.specs.Layout as at
@@ -28,15 +28,15 @@ use Rattle.query_access.specs.declared.read_by_header.TreeRange.{TreeRange}
 use Rattle.query_access.specs.declared.read_by_header.RunRangeAnswer.{RunRangeAnswer}
 use Rattle.query_access.specs.declared.read_by_header.RunRangeAnswer.the-variants as ran
 use Rattle.query_access.specs.ReadByRuns.{ReadsOn, IsRangeAnswer}
-use Rattle.query_access.proofs.RunLaws.{reads-stretch}
+use Rattle.query_access.proofs.RunLaws.{reads-substring}
 use Rattle.query_row_filter.specs.declared.NextRowAnswer.{NextRowAnswer}
 use Rattle.query_row_filter.specs.declared.NextRowAnswer.the-variants.{Row, Nothing, Refused}
 use Rattle.query_row_filter.specs.declared.rows_after.StartPlace.the-variants as start
 use Rattle.query_row_filter.specs.RowsAfter.{FilterStartIs, PartFrom, FromRow, answerOf, endResult, SearchFrom, limited}
 
 -- The rest of a text, cut after x bytes.
-rest-parts : (T : List ℕ) (p x : ℕ) → drop p T ≡ stretch T p x ++ drop (p + x) T
-unfolding stretch
+rest-parts : (T : List ℕ) (p x : ℕ) → drop p T ≡ substring T p x ++ drop (p + x) T
+unfolding substring
 rest-parts T p x = sym (take-append-drop x (drop p T)) ∙ ap (λ (r : List ℕ). take x (drop p T) ++ r) (drop-drop x p T)
 
 -- A row number above total + 1 becomes 14.
@@ -128,9 +128,9 @@ module _ {S : Type 0} (t : List ℕ) (m : Automaton S) (p₀ q : ℕ) where
       part-short : length part ≤ x
       part-short = rw (length-take (a + x - a) (drop a t)) (omega arith)
 
-      part-is : part ≡ stretch T p x
-      unfolding stretch
-      part-is = (let e : a + x - a ≡ x = omega arith in rw e) ∙ reads-stretch t p a x run
+      part-is : part ≡ substring T p x
+      unfolding substring
+      part-is = (let e : a + x - a ≡ x = omega arith in rw e) ∙ reads-substring t p a x run
 
       pub part-few : Readable t → q ≤ at.textLength t → row + length part < 4294967296
       part-few facts h = omega (arith, part-short, k .few, run .in-text, facts .bounds .text-high)
@@ -138,8 +138,8 @@ module _ {S : Type 0} (t : List ℕ) (m : Automaton S) (p₀ q : ℕ) where
       module _ (r : Scan S) (r-is : (r ≡ scanBytes m part f row) × RowBetween row (length part) r) where
         scanned : resumeScan (scanBytes m (drop (p + x) T)) r ≡ whole
         scanned =
-            let e : r ≡ scanBytes m (stretch T p x) f row = r-is .0 ∙ ap (λ (s : List ℕ). scanBytes m s f row) part-is in
-            rw e (sym (ap (λ (s : List ℕ). scanBytes m s f row) (rest-parts T p x) ∙ scan-append m (stretch T p x) (drop (p + x) T) f row)) ∙ k .far
+            let e : r ≡ scanBytes m (substring T p x) f row = r-is .0 ∙ ap (λ (s : List ℕ). scanBytes m s f row) part-is in
+            rw e (sym (ap (λ (s : List ℕ). scanBytes m s f row) (rest-parts T p x) ∙ scan-append m (substring T p x) (drop (p + x) T) f row)) ∙ k .far
 
         pub search-on : (g : S) (n : ℕ) → r ≡ on g n → Searching (p + x) n g
         search-on g n e =

@@ -12,7 +12,7 @@ use Rattle.format.specs.Layout as at
 use Rattle.format.specs.TreeReading.{textOf, checkResult}
 use Rattle.format.specs.Answers.{isCounted, numberOfByte, total}
 use Rattle.query_access.specs.declared.read_by_header.RunRangeAnswer.{RunRangeAnswer}
-use Rattle.query_access.specs.declared.read_by_header.RunRangeAnswer.the-variants as ran
+use Rattle.query_access.specs.declared.read_by_header.RunRangeAnswer.the-variants as run
 use Rattle.query_access.specs.ReadByRuns.{ReadsOn}
 use Rattle.row_filter.specs.RowAutomaton.{Automaton, SearchResult, at-row, nothing, scanBytes, finishScan}
 use Rattle.query_row_filter.specs.declared.NextRowAnswer.{NextRowAnswer}
@@ -45,8 +45,8 @@ pub record BeginIs (t : List ℕ) (ok mark : ℕ) (r : RowsStart) : Type 0 where
 
 -- A range of the tree's bytes that has the next bytes of the text from place p on; there is none only in a tree that the check refuses.
 abbrev pub PartFrom : List ℕ → ℕ → RunRangeAnswer → Type 0
-PartFrom t p (ran.At part) = (ReadsOn t p (part .from) (part .length)) × (1 ≤ part .length)
-PartFrom t p (ran.Refused number) = checkResult t ≡ 0 → ⊥
+PartFrom t p (run.At part) = (ReadsOn t p (part .from) (part .length)) × (1 ≤ part .length)
+PartFrom t p (run.Refused number) = checkResult t ≡ 0 → ⊥
 
 -- The answer names no row below q.
 abbrev pub FromRow : ℕ → NextRowAnswer → Type 0

@@ -8,8 +8,8 @@ use native.Mathlib.Nat.{add-assoc}
 use borrow.Author.Tests.{eq-eqb, ne-eqb, eqb-true, eqb-false}
 use lib.ListN.{length, getD}
 use lib.Dec.{eqb}
-use Rattle.text.specs.Text.{stretch, countIn}
-use Rattle.text.specs.TextLaws.{stretch-ext}
+use Rattle.text.specs.Text.{substring, countIn}
+use Rattle.text.specs.TextLaws.{substring-ext}
 use Rattle.text.specs.CountLaws.{count-none, count-add, Nth, nth-past}
 use Rattle.text.specs.declared.TextPlace.{TextPlace}
 use Rattle.format.specs.Layout as at
@@ -37,7 +37,7 @@ text-small t h k = omega (arith, k .facts .bounds .text-high)
 pub record NoneYet (t : List ℕ) (p place earlier : ℕ) : Type 0 where
   pub past : p ≤ place
   pub within : place ≤ at.textLength t
-  pub absent : countIn 10 (stretch (textOf t) p (place - p)) ≡ 0
+  pub absent : countIn 10 (substring (textOf t) p (place - p)) ≡ 0
   pub earlier-is : p < place → earlier ≡ getD (textOf t) (place - 1) 0
 
 pub none-at-start : (t : List ℕ) (p : ℕ) → p ≤ at.textLength t → NoneYet t p p 0
@@ -77,11 +77,11 @@ module _ (t : List ℕ) (p : ℕ) where
     -- A run of `size` bytes, with its first newline at x, or none.
     module _ (from size : ℕ) (reads : ReadsOn t place from size) (x : ℕ) (s : HasBytes t from size 10 1 x) (before : ℕ)
         (before-is : before ≡ cond (eqb x 0) earlier (getD t (from + (x - 1)) 0)) where
-      same : stretch t from x ≡ stretch (textOf t) place x
-      same = stretch-ext t (textOf t) from place x (omega (arith, reads .in-tree, s .high)) (omega (arith, reads .in-text, s .high, text-length t))
+      same : substring t from x ≡ substring (textOf t) place x
+      same = substring-ext t (textOf t) from place x (omega (arith, reads .in-tree, s .high)) (omega (arith, reads .in-text, s .high, text-length t))
           (λ y l. reads .bytes y (omega (arith, s .high)))
 
-      joined : (y : ℕ) → countIn 10 (stretch (textOf t) p (place - p + y)) ≡ countIn 10 (stretch (textOf t) place y)
+      joined : (y : ℕ) → countIn 10 (substring (textOf t) p (place - p + y)) ≡ countIn 10 (substring (textOf t) place y)
       joined y =
           let e : p + (place - p) ≡ place = omega (arith, i .past) in
           let z = rw e at (count-add 10 (textOf t) p (place - p) y) in

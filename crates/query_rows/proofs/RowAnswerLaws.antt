@@ -8,8 +8,8 @@ use native.Mathlib.Omega.{arith}
 use borrow.Author.Tests.{ne-eqb}
 use lib.ListN.{length, drop, replicate}
 use lib.Dec.{eqb}
-use Rattle.text.specs.Text.{tabulate, stretch, rowOf}
-use Rattle.text.specs.TextLaws.{length-stretch}
+use Rattle.text.specs.Text.{tabulate, substring, rowOf}
+use Rattle.text.specs.TextLaws.{length-substring}
 use Rattle.format.specs.CheckResultLaws.{accepted-links}
 use Rattle.format.specs.TreeReading.{textOf, headerResult, checkResult}
 use Rattle.format.specs.Answers.{Answer, refused, unless, NeverZero, replied, pathsHold, bufferAfter, copyRefusal, copyAnswer, copyBuffer, findRefusal}
@@ -76,7 +76,7 @@ module _ (t : List ℕ) (ok : ℕ) (sound : ok ≡ 0 → checkResult t ≡ 0) (q
 
   -- The row is as long.
   row-long : ok ≡ 0 → length (rowOf (textOf t) q) ≡ len
-  row-long v = ap length (sym (sp .accepted v)) ∙ length-stretch (textOf t) p len (omega (arith, sp .within, text-length t))
+  row-long v = ap length (sym (sp .accepted v)) ∙ length-substring (textOf t) p len (omega (arith, sp .within, text-length t))
 
   pub row-spans : RowBy t ok q buffer (s .number) (s .value) after
   unfolding copyRefusal
@@ -90,7 +90,7 @@ module _ (t : List ℕ) (ok : ℕ) (sound : ok ≡ 0 → checkResult t ≡ 0) (q
         (let room : len ≤ length buffer = omega (arith, row-long v) in
         let e = paths.copy-good t passes (accepted-links t (sound v)) p len (length buffer) (sp .within) room in
         let size = s-some e in
-        let f : after ≡ stretch (textOf t) p len ++ drop len buffer =
+        let f : after ≡ substring (textOf t) p len ++ drop len buffer =
         after-is ∙ paths.copy-of-text t passes (accepted-links t (sound v)) p len buffer (sp .within) room in
         (s-number ∙ e, size ∙ sym (row-long v), rw (size, ← sp .accepted v) f));
     free = λ z v. inr (record {

@@ -9,7 +9,7 @@ use borrow.Author.Tests.{eqb-true, eq-eqb, ne-eqb, lt-ltb, le-ltb, lt-leb}
 use lib.ListN.{length, getD}
 use lib.Dec.{eqb, ltb, leb}
 use Rattle.text.specs.ListLaws.{bool-clash, and-false, lt-or-ge}
-use Rattle.text.specs.Text.{stretch, countIn, placeOf, rowOf}
+use Rattle.text.specs.Text.{substring, countIn, placeOf, rowOf}
 use Rattle.text.specs.CountLaws.{count-none, count-next-same, Nth, nth-earlier, nth-later, nth-past, place-nth, nth-place}
 use Rattle.text.specs.RowLaws.{trimmed, trimmed-none, trimmed-mark, trimmed-plain, rowFrom, between, row-between, row-last}
 use Rattle.text.specs.declared.TextPlace.{TextPlace}
@@ -29,7 +29,7 @@ use Rattle.query_access.specs.ReadAnswers.{byteReply}
 use Rattle.query_access.specs.declared.read_by_header.LeafRun.{LeafRun}
 use Rattle.query_access.proofs.LeafRunLaws.{access-none-read}
 use Rattle.query_counted.proofs.TotalLaws.{not-counted, is-counted}
-use Rattle.theory_counts.specs.Theorems as tallies
+use Rattle.theory_counts.specs.Theorems as counts
 use Rattle.query_select.specs.declared.FindAnswer.{FindAnswer}
 use Rattle.query_select.specs.declared.FindAnswer.the-variants as found-is
 use Rattle.query_rows.specs.declared.row_bounds.RowBounds.{RowBounds}
@@ -226,11 +226,11 @@ module _ (t : List ℕ) (ok : ℕ) (q : ℕ) where
                     (λ v. rw (ne-eqb q 1 more, place-is t ok 10 (q - 1) sound found says before figure found-at v))
 
 -- The newlines of a text up to where row q starts.
-newlines-before : (T : List ℕ) (q : ℕ) → 1 ≤ q → q ≤ countIn 10 T → countIn 10 (stretch T 0 (rowFrom T q)) + 1 ≡ q
+newlines-before : (T : List ℕ) (q : ℕ) → 1 ≤ q → q ≤ countIn 10 T → countIn 10 (substring T 0 (rowFrom T q)) + 1 ≡ q
 unfolding rowFrom
 newlines-before T q low high = go (lt-or-ge 1 q)
   where
-    go : (1 < q) ⊎ (q ≤ 1) → countIn 10 (stretch T 0 (rowFrom T q)) + 1 ≡ q
+    go : (1 < q) ⊎ (q ≤ 1) → countIn 10 (substring T 0 (rowFrom T q)) + 1 ≡ q
     go (inr first) = let e : q ≡ 1 = omega arith in rw e (omega (arith, count-none 10 T 0))
     go (inl later) =
         let h = place-nth 10 (q - 1) T (omega arith) (omega arith) in
@@ -290,7 +290,7 @@ module _ (t : List ℕ) (ok : ℕ) (sound : ok ≡ 0 → checkResult t ≡ 0) (q
     chosen = select-passes t 10 q asked
 
     in-book : ok ≡ 0 → q ≤ countIn 10 (textOf t)
-    in-book v = rw (tallies.total-of-text t (sound v) 10 (chosen .counted)) at (chosen .high)
+    in-book v = rw (counts.total-of-text t (sound v) 10 (chosen .counted)) at (chosen .high)
 
     module _ (y : Newline) (ends : NewlineIs t (p .0) y) where
       pub edges-no-end : y ≡ newline.Missing → EdgesOf t ok (number t ok q) (row t ok q) end-most (edges.Refused 14)
@@ -314,7 +314,7 @@ module _ (t : List ℕ) (ok : ℕ) (sound : ok ≡ 0 → checkResult t ≡ 0) (q
         in-text : p .0 + len < length (textOf t)
         in-text = omega (arith, end .first .within)
 
-        whole : ok ≡ 0 → stretch (textOf t) (p .0) len ≡ between (textOf t) q
+        whole : ok ≡ 0 → substring (textOf t) (p .0) len ≡ between (textOf t) q
         unfolding between
         whole v =
             let s = starts .accepted p is v in
@@ -338,14 +338,15 @@ module _ (t : List ℕ) (ok : ℕ) (sound : ok ≡ 0 → checkResult t ≡ 0) (q
                 less true = omega arith
                 less false = omega arith
 
-            cut : (0 < len) ⊎ (len ≤ 0) → stretch (textOf t) (p .0) (cond (ltb 0 len && eqb 13 before) (len - 1) len) ≡ trimmed (stretch (textOf t) (p .0) len)
+            cut : (0 < len) ⊎ (len ≤ 0)
+                → substring (textOf t) (p .0) (cond (ltb 0 len && eqb 13 before) (len - 1) len) ≡ trimmed (substring (textOf t) (p .0) len)
             cut (inr none) = let z : len ≡ 0 = omega arith in rw z (sym (trimmed-none (textOf t) (p .0)))
             cut (inl some) = rw (lt-ltb 0 len some) (go (eqb 13 before) refl)
               where
                 byte : getD (textOf t) (p .0 + (len - 1)) 0 ≡ before
                 byte = let z : p .0 + (len - 1) ≡ e .0 - 1 = omega (arith, end-past) in rw z (sym (end .before-is (omega arith)))
 
-                go : (b : Bool) → eqb 13 before ≡ b → stretch (textOf t) (p .0) (cond b (len - 1) len) ≡ trimmed (stretch (textOf t) (p .0) len)
+                go : (b : Bool) → eqb 13 before ≡ b → substring (textOf t) (p .0) (cond b (len - 1) len) ≡ trimmed (substring (textOf t) (p .0) len)
                 go true f = sym (trimmed-mark (textOf t) (p .0) len some (omega (arith, in-text)) (byte ∙ sym (eqb-true 13 before f)))
                 go false f = sym (trimmed-plain (textOf t) (p .0) len some (omega (arith, in-text))
                     (λ z. bool-clash (eqb 13 before) (eq-eqb 13 before (sym (sym byte ∙ z))) f))
@@ -430,9 +431,9 @@ module _ (t : List ℕ) (h : Header) (k : HeaderOf t h) (q : ℕ) (asks : isUnte
   most-later more = rw (asks, ne-eqb q 1 more)
 
   -- On an accepted tree it has the bytes after the last byte 10.
-  last-is : checkResult t ≡ 0 → last-row ≡ stretch (textOf t) (rowFrom (textOf t) q) (length (textOf t) - rowFrom (textOf t) q)
+  last-is : checkResult t ≡ 0 → last-row ≡ substring (textOf t) (rowFrom (textOf t) q) (length (textOf t) - rowFrom (textOf t) q)
   last-is v =
-      let e : q ≡ countIn 10 (textOf t) + 1 = a .number ∙ ap (λ (n : ℕ). n + 1) (tallies.total-of-text t v 10 (a .counted)) in
+      let e : q ≡ countIn 10 (textOf t) + 1 = a .number ∙ ap (λ (n : ℕ). n + 1) (counts.total-of-text t v 10 (a .counted)) in
       rw e (row-last (textOf t))
 
   module _ (ok : ℕ) (sound : ok ≡ 0 → checkResult t ≡ 0) (x : ByteAnswer) (x-is : replied (byteReply x) ≡ byteAnswer t (h .«text_length» - 1)) where
@@ -522,7 +523,7 @@ module _ (t : List ℕ) (ok : ℕ) (sound : ok ≡ 0 → checkResult t ≡ 0) (q
       short = rw (← asks) (y .short);
       reads = y .reads;
       accepted = λ v. (let c = select-passes t 10 q (y .asked) in
-          y .accepted v ∙ sym (row-between (textOf t) q (c .low) (rw (tallies.total-of-text t (sound v) 10 (c .counted)) at (c .high))));
+          y .accepted v ∙ sym (row-between (textOf t) q (c .low) (rw (counts.total-of-text t (sound v) 10 (c .counted)) at (c .high))));
     });
   })
 

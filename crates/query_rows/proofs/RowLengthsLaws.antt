@@ -8,7 +8,7 @@ use native.Mathlib.Omega.{arith}
 use borrow.Author.Tests.{eq-eqb, ne-eqb, lt-ltb, le-ltb}
 use lib.ListN.{length, getD}
 use lib.Dec.{eqb}
-use Rattle.text.specs.TextLaws.{length-stretch}
+use Rattle.text.specs.TextLaws.{length-substring}
 use Rattle.text.specs.Text.{rowOf}
 use Rattle.text.specs.declared.TextPlace.{TextPlace}
 use Rattle.format.specs.WordLaws.{wordAt-lt}
@@ -48,7 +48,7 @@ module _ (t : List ℕ) (q : ℕ) where
             accepted = λ z v. (
               refl,
               sym
-                  (ap length (sym (s .accepted v)) ∙ length-stretch (textOf t) (start .0) len (omega (arith, s .within, text-length t))),
+                  (ap length (sym (s .accepted v)) ∙ length-substring (textOf t) (start .0) len (omega (arith, s .within, text-length t))),
             );
             free = λ z v. inl (refl, s .short);
           };

@@ -19,7 +19,7 @@ use Rattle.format.specs.CheckResultLaws.{accepted-header, accepted-links}
 use Rattle.format.specs.Answers.{Answer, NeverZero, replied, isCounted, rowRefusal}
 use Rattle.theory_paths.specs.OneText.{text-length}
 use Rattle.theory_paths.specs.Theorems as paths
-use Rattle.theory_counts.specs.Theorems as tallies
+use Rattle.theory_counts.specs.Theorems as counts
 use Rattle.theory_counts.specs.RowsOfText.{row-lets}
 use Rattle.query_guide.specs.Guides.{guideRefusal}
 use Rattle.query_guide.proofs.GuideList.{guide-checked}
@@ -116,7 +116,7 @@ rows-say t v counted = go (lt-or-ge 0 (at.textLength t))
           ne-eqb (at.textLength t) 0 (λ e. omega arith),
           w .2,
           rows-count (textOf t),
-          tallies.total-of-text t v 10 counted,
+          counts.total-of-text t v 10 counted,
           text-length t,
           lt-ltb 0 (at.textLength t) some,
         )
@@ -127,7 +127,7 @@ rows-say t v counted = go (lt-or-ge 0 (at.textLength t))
           counted,
           eq-eqb (at.textLength t) 0 e,
           rows-count (textOf t),
-          tallies.total-of-text t v 10 counted,
+          counts.total-of-text t v 10 counted,
           text-length t,
           le-ltb 0 (at.textLength t) none,
         )

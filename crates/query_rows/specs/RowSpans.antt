@@ -3,7 +3,7 @@ use mathlib.Core.List.{List}
 use mathlib.Core.Bool.{Bool, cond}
 use mathlib.Core.Path.{_≡_}
 use Prim.Native.Nat.{ℕ, _+_, _≤_, _<_}
-use Rattle.text.specs.Text.{stretch}
+use Rattle.text.specs.Text.{substring}
 use Rattle.format.specs.Layout as at
 use Rattle.format.specs.TreeReading.{textOf, checkResult}
 use Rattle.format.specs.Answers.{refused, Is, copyAnswer}
@@ -44,7 +44,7 @@ module _ (t : List ℕ) (ok number : ℕ) (row : List ℕ) where
     pub asked : number ≡ 0
     pub within : start + len ≤ at.textLength t
     pub short : len ≤ most
-    pub accepted : ok ≡ 0 → stretch (textOf t) start len ≡ row
+    pub accepted : ok ≡ 0 → substring (textOf t) start len ≡ row
     pub reads : ReadsFrom t start run
 
   pub record EdgesOf (most : ℕ) (r : RowBounds) : Type 0 where

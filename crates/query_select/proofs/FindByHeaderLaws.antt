@@ -25,7 +25,7 @@ use Rattle.walk_steps.specs.Steps.{OnLevel, InTable}
 use Rattle.walk_steps.proofs.StepLaws.{b-small}
 use Rattle.walk_steps.proofs.NextLaws.{on-top}
 use Rattle.theory_counts.specs.CountsLocal.{byteOf}
-use Rattle.theory_counts.specs.CountedStretches.{tally-none}
+use Rattle.theory_counts.specs.CountedSubstrings.{tally-none}
 use Rattle.theory_counts.specs.Ranks as ranks
 use Rattle.theory_counts.specs.Finds as finds
 use Rattle.query_select.specs.declared.seek.CountField.{CountField}

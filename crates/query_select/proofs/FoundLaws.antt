@@ -15,7 +15,7 @@ use Rattle.format.specs.Answers.{Answer, refused, replied, findRefusal, pathLen
 use Rattle.format.specs.FindAnswerLaws.{FindAnswers, Selected, select-passes}
 use Rattle.theory_paths.specs.Visits.{path-long}
 use Rattle.theory_paths.specs.Theorems as paths
-use Rattle.theory_counts.specs.Theorems as tallies
+use Rattle.theory_counts.specs.Theorems as counts
 use Rattle.query_select.specs.declared.FindAnswer.{FindAnswer}
 use Rattle.query_select.specs.declared.FindAnswer.the-variants.{At, Refused}
 use Rattle.query_select.specs.Found.{findReply}
@@ -23,7 +23,7 @@ use Rattle.query_select.specs.Found.{findReply}
 -- On an accepted tree the path of the j-th byte enters a block.
 path-enters : (t : List ℕ) → checkResult t ≡ 0 → (byte j : ℕ) → Selected t byte j → 1 ≤ pathLength t (pathOf t (placeOf byte j (textOf t)))
 path-enters t v byte j h =
-    let w = paths.no-path-breaks t (accepted-header t v) (accepted-links t v) (placeOf byte j (textOf t)) (tallies.place-below t v byte j h) in
+    let w = paths.no-path-breaks t (accepted-header t v) (accepted-links t v) (placeOf byte j (textOf t)) (counts.place-below t v byte j h) in
     rw (w .1) (path-long t (placeOf byte j (textOf t)) (w .0) (w .1))
 
 -- If the answer is determined, find returns the same.
@@ -80,4 +80,4 @@ module _ (t : List ℕ) (ok byte j : ℕ) (sound : ok ≡ 0 → checkResult t �
         go (inl low) = either (says .free place-asked (λ v. omega arith))
         go (inr high) =
             let v : ok ≡ 0 = omega arith in
-            rw (place-is v) (tallies.place-below t (sound v) byte j (select-passes t byte j place-asked))
+            rw (place-is v) (counts.place-below t (sound v) byte j (select-passes t byte j place-asked))

@@ -10,7 +10,7 @@ use borrow.Author.Tests.{ltb-true, lt-ltb, le-leb, ne-eqb}
 use lib.ListN.{length, getD}
 use lib.Dec.{ltb, leb}
 use Rattle.text.specs.ListLaws.{bool-cases, bool-clash, and-right}
-use Rattle.text.specs.Text.{stretch, countIn}
+use Rattle.text.specs.Text.{substring, countIn}
 use Rattle.format.specs.Layout.{pieces, maxText, countedAt}
 use Rattle.format.specs.PieceLaws.{pieces-start, lt-pieces}
 use Rattle.format.specs.LayoutLaws.{Readable, header-facts, full-pos}
@@ -33,7 +33,7 @@ use Rattle.layout.proofs.ShapeLaws.{Shapes}
 use Rattle.walk_steps.proofs.StepLaws.{kept-in, pointing-in, pointing-gap, b-small, b-pos}
 use Rattle.theory_counts.specs.LevelTrue.{Level, tally}
 use Rattle.theory_counts.specs.CountsLocal.{byteOf, inLeafBytes}
-use Rattle.theory_counts.specs.CountedStretches.{leaves-end, leaves-tally}
+use Rattle.theory_counts.specs.CountedSubstrings.{leaves-end, leaves-tally}
 use Rattle.theory_counts.specs.Finds as finds
 use Rattle.theory_counts.specs.Theorems as demands
 use Rattle.query_select.specs.declared.seek.CountField.{CountField}
@@ -303,16 +303,16 @@ module _ (t : List ℕ) (size c level b i j way link n offset count : ℕ) (kept
   leaf-room within = omega (arith, kept .on .facts .size)
 
   module _ (byte : ℕ) (byte-is : byte ≡ byteOf t c) (r : ℕ) (z : HasBytes t (offset + link) n byte j r) where
-    same-stretch : (x : ℕ) → countIn byte (stretch t (offset + link) x) ≡ inLeafBytes t level i x c
+    same-substring : (x : ℕ) → countIn byte (substring t (offset + link) x) ≡ inLeafBytes t level i x c
     unfolding inLeafBytes
-    same-stretch x = rw (offset-is, link-is, byte-is)
+    same-substring x = rw (offset-is, link-is, byte-is)
 
     pub leaf-fewer : (w : ℕ) → n ≤ r → FoundIn t c level i j way w
     unfolding tally
     leaf-fewer w past = not-found t c level i j way w (λ v hc high.
         (let e = leaves-tally t (k t v) (d t v) level i (len t level i) c bottom leaf-block (omega arith) in
         let f = a t v level (omega (arith, bottom)) i c leaf-block hc .inside-is in
-        let g : countIn byte (stretch t (offset + link) n) ≡ inLeafBytes t level i (len t level i) c = same-stretch n ∙ rw (n-is .0) in
+        let g : countIn byte (substring t (offset + link) n) ≡ inLeafBytes t level i (len t level i) c = same-substring n ∙ rw (n-is .0) in
         omega (arith, z .fewer past)))
 
     pub leaf-found : (w : ℕ) → r < n → w ≡ entering way r 0 → FoundIn t c level i j way w
@@ -327,7 +327,7 @@ module _ (t : List ℕ) (size c level b i j way link n offset count : ℕ) (kept
             (let e : offset + link + r ≡ at.leafOffset t + (at.link t level i + r) = omega arith in
             rw e at (z .here within .0) ∙ byte-is) in
             finds.lands-leaf t (k t v) (d t v) (a t v) c hc level i j r bottom leaf-block (omega (arith, n-is .0)) byte-at
-            (ap (λ (y : ℕ). y + 1) (sym (same-stretch r)) ∙ z .here within .1);
+            (ap (λ (y : ℕ). y + 1) (sym (same-substring r)) ∙ z .here within .1);
       };
     }
 

@@ -8,7 +8,7 @@ use native.Mathlib.Decide.{ℕ-discrete}
 use lib.ListN.{length, set, length-set}
 use lib.Seq.{getD-set-same, getD-set-other}
 use Rattle.text.specs.ListLaws.{lt-or-ge}
-use Rattle.text.specs.Text.{stretch}
+use Rattle.text.specs.Text.{substring}
 use Rattle.scan_rolling_hash.specs.Prints.{print}
 use Rattle.scan_rolling_hash.proofs.PrintLaws.{print-below}
 use Rattle.scan_hash_table.proofs.ChainHeadLaws.{bucket-lt}
@@ -26,7 +26,7 @@ module _ (T out : List ℕ) (it : Items) where
   chain-lt low x = bucket-lt (print (it .seed) (bytesAt T out it x)) (it .heads) (print-below (it .seed) (bytesAt T out it x)) low
 
   -- The same bytes are in the same chain.
-  pub same-chain : (x p n : ℕ) → bytesAt T out it x ≡ stretch T p n → chainAt T out it x ≡ bucketOf (it .heads) (print (it .seed) (stretch T p n))
+  pub same-chain : (x p n : ℕ) → bytesAt T out it x ≡ substring T p n → chainAt T out it x ≡ bucketOf (it .heads) (print (it .seed) (substring T p n))
   unfolding chainAt
   same-chain x p n e = ap (λ (s : List ℕ). bucketOf (it .heads) (print (it .seed) s)) e
 
@@ -83,14 +83,14 @@ module _ (T out : List ℕ) (it : Items) where
   -- A window compared with item x.
   module _ (W : List ℕ) (x p n : ℕ) where
     -- The window has other bytes.
-    pub passed-by : lengthAt T out it x ≡ n → (bytesAt T out it x ≡ stretch T p n → ⊥) → Found T out it W x p → Found T out it W x (p + 1)
+    pub passed-by : lengthAt T out it x ≡ n → (bytesAt T out it x ≡ substring T p n → ⊥) → Found T out it W x p → Found T out it W x (p + 1)
     passed-by en un f = record {
       near = f .near;
       same = f .same;
       absent = λ r l m e. go r m e (lt-or-ge r p) (omega arith);
     }
       where
-        go : (r : ℕ) → r < itemPlaceIn W x → stretch T r (lengthAt T out it x) ≡ bytesAt T out it x → (r < p) ⊎ (p ≤ r) → r ≤ p → ⊥
+        go : (r : ℕ) → r < itemPlaceIn W x → substring T r (lengthAt T out it x) ≡ bytesAt T out it x → (r < p) ⊎ (p ≤ r) → r ≤ p → ⊥
         go r m e (inl a) b = f .absent r a m e
         go r m e (inr a) b =
             let q : r ≡ p = omega arith in
@@ -110,11 +110,11 @@ module _ (T out : List ℕ) (it : Items) where
     pub found-before : itemPlaceIn W x ≤ p → ItemCompared T out it W W x p n
     found-before l = touched-none (λ en. passed-after W x p n l)
 
-    pub other-bytes : (lengthAt T out it x ≡ n → bytesAt T out it x ≡ stretch T p n → ⊥) → ItemCompared T out it W W x p n
+    pub other-bytes : (lengthAt T out it x ≡ n → bytesAt T out it x ≡ substring T p n → ⊥) → ItemCompared T out it W W x p n
     other-bytes un = touched-none (λ en. passed-by W x p n en (un en))
 
     -- The window has the item's bytes, at a place before the one found so far.
-    module _ (before : p < itemPlaceIn W x) (en : lengthAt T out it x ≡ n) (es : bytesAt T out it x ≡ stretch T p n) where
+    module _ (before : p < itemPlaceIn W x) (en : lengthAt T out it x ≡ n) (es : bytesAt T out it x ≡ substring T p n) where
       abbrev Z : List ℕ
       Z = set W (3 * x + 2) p
 

@@ -9,7 +9,7 @@ use native.Mathlib.Decide.{ℕ-discrete}
 use lib.ListN.{length, getD, set, length-set}
 use lib.Seq.{getD-set-same, getD-set-other}
 use Rattle.text.specs.ListLaws.{lt-or-ge}
-use Rattle.text.specs.Text.{stretch}
+use Rattle.text.specs.Text.{substring}
 use Rattle.scan_rolling_hash.specs.Prints.{print}
 use Rattle.scan_hash_table.specs.declared.Items.{Items}
 use Rattle.scan_hash_table.specs.ChainHeads.{linkOf, markOf, bucketOf}
@@ -237,12 +237,12 @@ module _ (T out : List ℕ) (it : Items) where
       pub next-falls : nextIn W (e - 1) < e
       next-falls = omega (arith, onward .low)
 
-      pub equal-found : (p n : ℕ) → lengthAt T out it (e - 1) ≡ n → bytesAt T out it (e - 1) ≡ stretch T p n → EqualItem T out it W x p n e
+      pub equal-found : (p n : ℕ) → lengthAt T out it (e - 1) ≡ n → bytesAt T out it (e - 1) ≡ substring T p n → EqualItem T out it W x p n e
       equal-found p n en es = record {
         low = w .low;
         listed = w .listed;
         same-length = λ y q. let r : e - 1 ≡ y = omega arith in subst (λ (k : ℕ). lengthAt T out it k ≡ n) r en;
-        same = λ y q. let r : e - 1 ≡ y = omega arith in subst (λ (k : ℕ). bytesAt T out it k ≡ stretch T p n) r es;
+        same = λ y q. let r : e - 1 ≡ y = omega arith in subst (λ (k : ℕ). bytesAt T out it k ≡ substring T p n) r es;
       }
 
     pub equal-none : (p n : ℕ) → EqualItem T out it W x p n 0

@@ -9,7 +9,7 @@ use native.Mathlib.Decide.{ℕ-discrete}
 use lib.Dec.{eqb}
 use borrow.Author.Tests.{eqb-false}
 use Rattle.text.specs.ListLaws.{lt-or-ge}
-use Rattle.text.specs.Text.{stretch}
+use Rattle.text.specs.Text.{substring}
 use Rattle.scan_rolling_hash.specs.Prints.{print}
 use Rattle.scan_hash_table.specs.declared.Items.{Items}
 use Rattle.scan_hash_table.specs.ChainHeads.{linkOf, markOf, bucketOf}
@@ -110,7 +110,7 @@ module _ (T out : List ℕ) (it : Items) (W : List ℕ) (h p n : ℕ) where
       here = λ x l i en. passed-by T out it W x p n en (λ es. eqb-false _ _ (sym e ∙ f) (marked-by x l i es));
     }
       where
-        marked-by : (x : ℕ) → x < it .items → Listed T out it W x → bytesAt T out it x ≡ stretch T p n → markOf (headIn (it .items) W g) (h % 8) ≡ 1
+        marked-by : (x : ℕ) → x < it .items → Listed T out it W x → bytesAt T out it x ≡ substring T p n → markOf (headIn (it .items) W g) (h % 8) ≡ 1
         marked-by x l i es =
             let q : print (it .seed) (bytesAt T out it x) ≡ h = ap (print (it .seed)) es ∙ sym (a .print-is) in
             let c : chainAt T out it x ≡ g = same-chain T out it x p n es ∙ ap (bucketOf (it .heads)) (sym (a .print-is)) in

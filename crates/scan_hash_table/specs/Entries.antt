@@ -3,7 +3,7 @@ use mathlib.Core.List.{List}
 use mathlib.Core.Path.{_≡_}
 use Prim.Native.Nat.{ℕ, suc, _+_, _-_, _*_, _/_, _%_, _≤_, _<_, min}
 use lib.ListN.{length, getD}
-use Rattle.text.specs.Text.{stretch}
+use Rattle.text.specs.Text.{substring}
 use Rattle.format.specs.Layout.{wordAt, maxText}
 use Rattle.scan_rolling_hash.specs.Prints.{print}
 use Rattle.scan_hash_table.specs.declared.Items.{Items}
@@ -33,7 +33,7 @@ module _ (T out : List ℕ) (it : Items) where
   lengthAt x = min (it .size * (x % 2 + 1)) (length T - startAt x)
 
   unfoldable pub bytesAt : ℕ → List ℕ
-  bytesAt x = stretch T (startAt x) (lengthAt x)
+  bytesAt x = substring T (startAt x) (lengthAt x)
 
   unfoldable pub chainAt : ℕ → ℕ
   chainAt x = bucketOf (it .heads) (print (it .seed) (bytesAt x))
@@ -82,8 +82,8 @@ module _ (T out : List ℕ) (it : Items) where
     -- Among the places below q, none before the one found has the bytes of item x.
     pub record Found (x q : ℕ) : Type 0 where
       pub near : itemPlaceIn W x ≤ startAt x
-      pub same : stretch T (itemPlaceIn W x) (lengthAt x) ≡ bytesAt x
-      pub absent : (r : ℕ) → r < q → r < itemPlaceIn W x → stretch T r (lengthAt x) ≡ bytesAt x → ⊥
+      pub same : substring T (itemPlaceIn W x) (lengthAt x) ≡ bytesAt x
+      pub absent : (r : ℕ) → r < q → r < itemPlaceIn W x → substring T r (lengthAt x) ≡ bytesAt x → ⊥
 
   -- One or several windows were looked up: the chains are unchanged, and what was found is still found.
   pub record Searched (W Z : List ℕ) : Type 0 where

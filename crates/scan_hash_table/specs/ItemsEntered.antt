@@ -3,7 +3,7 @@ use mathlib.Core.List.{List}
 use mathlib.Core.Path.{_≡_}
 use Prim.Native.Nat.{ℕ, suc, _+_, _≤_, _<_}
 use lib.ListN.{length, getD}
-use Rattle.text.specs.Text.{stretch}
+use Rattle.text.specs.Text.{substring}
 use Rattle.scan_rolling_hash.specs.Prints.{print}
 use Rattle.scan_hash_table.specs.declared.Items.{Items}
 use Rattle.scan_hash_table.specs.ChainHeads.{linkOf, Pushed}
@@ -43,7 +43,7 @@ module _ (T out : List ℕ) (it : Items) where
     pub low : r ≤ x
     pub listed : (y : ℕ) → r ≡ suc y → Listed T out it W y
     pub same-length : (y : ℕ) → r ≡ suc y → lengthAt T out it y ≡ n
-    pub same : (y : ℕ) → r ≡ suc y → bytesAt T out it y ≡ stretch T p n
+    pub same : (y : ℕ) → r ≡ suc y → bytesAt T out it y ≡ substring T p n
 
   -- Item x has been entered: in its chain, or as equal to an item of that chain.
   pub record Entered (W Z : List ℕ) (x : ℕ) : Type 0 where

@@ -8,7 +8,7 @@ ghost use mathlib.Core.Path.{_≡_};
 ghost use Prim.Native.Nat.{_+_, _≤_, _<_};
 ghost use lib.ListN.{length};
 ghost use lib.Dec.{eqb};
-ghost use Rattle.text.specs.Text.{sameList, stretch};
+ghost use Rattle.text.specs.Text.{sameList, substring};
 ghost use Rattle.scan_hash_table.specs.Entries.{Placed, RunIs, lengthAt, bytesAt};
 
 // The bytes of item x.
@@ -30,7 +30,7 @@ pub fn bytes_of(text: &[u8], out: &[u8], it: Items, x: u32) -> ItemBytes
 pub fn occurs_at(text: &[u8], out: &[u8], it: Items, x: u32, p: TextPlace, n: u32) -> bool
     requires { ⌜ Placed (now text) (now out) it × (x < it .items) × (p .0 + n ≤ length (now text)) ⌝ }
     ensures { λ r. ⌜ r ≡ eqb (lengthAt (now (text .entry)) (now (out .entry)) it x) n
-        && sameList (bytesAt (now (text .entry)) (now (out .entry)) it x) (stretch (now (text .entry)) (p .0) n) ⌝ }
+        && sameList (bytesAt (now (text .entry)) (now (out .entry)) it x) (substring (now (text .entry)) (p .0) n) ⌝ }
 {
     let own = bytes_of(text, out, it, x);
     if own.length != n {

@@ -7,7 +7,7 @@ use native.Mathlib.Omega.{arith}
 use lib.ListN.{length}
 use borrow.Author.Tests.{lt-ltb, le-ltb}
 use Rattle.text.specs.ListLaws.{lt-or-ge}
-use Rattle.text.specs.Text.{stretch, leftmost}
+use Rattle.text.specs.Text.{substring, leftmost}
 use Rattle.text.specs.TextLaws.{leftmost-le}
 use Rattle.scan_hash_table.specs.declared.Items.{Items}
 use Rattle.scan_hash_table.specs.Entries.{Laid, Listed, startAt, lengthAt, bytesAt, itemPlaceIn}
@@ -43,7 +43,7 @@ module _ (T out : List ℕ) (it : Items) (W Z : List ℕ) (e : EnteredItems T ou
       equal-first =
           ap (leftmost T (startAt T out it y)) (w .2)
           ∙ leftmost-same-bytes T (startAt T out it y) (startAt T out it x) (lengthAt T out it x)
-          (ap (stretch T (startAt T out it y)) (sym (w .2)) ∙ w .3)
+          (ap (substring T (startAt T out it y)) (sym (w .2)) ∙ w .3)
 
       out-equal : placeOut (length T) Z x ≡ leftmost T (startAt T out it x) (lengthAt T out it x)
       unfolding placeOut y

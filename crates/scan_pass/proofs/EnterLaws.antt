@@ -6,7 +6,7 @@ use Prim.Native.Nat.{ℕ, _+_, _-_, _*_, _%_, _^_, _≤_, _<_}
 use native.Mathlib.Omega.{arith}
 use lib.ListN.{length}
 use Rattle.text.specs.ListLaws.{lt-or-ge}
-use Rattle.text.specs.Text.{stretch}
+use Rattle.text.specs.Text.{substring}
 use Rattle.scan_rolling_hash.specs.Prints.{baseOf, print}
 use Rattle.scan_rolling_hash.proofs.PrintLaws.{print-join}
 use Rattle.scan_hash_table.specs.declared.Items.{Items}
@@ -134,12 +134,12 @@ module _ (T out : List ℕ) (it : Items) where
           let q : 2 * i + 2 ≡ x + 1 = omega arith in
           er ∙ print-join (it .seed) T (startAt T out it x) (it .size) (lengthAt T out it (x + 1)) g top next
           (omega (arith, p, length-high T out it o h (x + 1) (omega arith)))
-          (eg ∙ ap (λ (k : ℕ). print (it .seed) (stretch T k (lengthAt T out it (2 * i)))) start-first
-          ∙ ap (λ (k : ℕ). print (it .seed) (stretch T (startAt T out it x) k)) block-full)
+          (eg ∙ ap (λ (k : ℕ). print (it .seed) (substring T k (lengthAt T out it (2 * i)))) start-first
+          ∙ ap (λ (k : ℕ). print (it .seed) (substring T (startAt T out it x) k)) block-full)
           (et ∙ ap (λ (k : ℕ). baseOf (it .seed) ^ k % 2147483647) second)
-          (en ∙ ap (λ (k : ℕ). print (it .seed) (stretch T (startAt T out it k) (lengthAt T out it k))) q
-          ∙ ap (λ (k : ℕ). print (it .seed) (stretch T k (lengthAt T out it (x + 1)))) p)
-          ∙ ap (λ (k : ℕ). print (it .seed) (stretch T (startAt T out it x) k)) (sym parts)
+          (en ∙ ap (λ (k : ℕ). print (it .seed) (substring T (startAt T out it k) (lengthAt T out it k))) q
+          ∙ ap (λ (k : ℕ). print (it .seed) (substring T k (lengthAt T out it (x + 1)))) p)
+          ∙ ap (λ (k : ℕ). print (it .seed) (substring T (startAt T out it x) k)) (sym parts)
 
     -- The lengths of both.
     pub noted-both : (l : Lengths) (n : ℕ)

@@ -6,7 +6,7 @@ use Prim.Native.Nat.{ℕ, _+_, _≤_, _<_}
 use native.Mathlib.Omega.{arith}
 use lib.ListN.{length}
 use Rattle.text.specs.ListLaws.{lt-or-ge}
-use Rattle.text.specs.Text.{stretch, leftmost}
+use Rattle.text.specs.Text.{substring, leftmost}
 use Rattle.text.specs.TextLaws.{leftmost-same, leftmost-first}
 use Rattle.scan_rolling_hash.specs.declared.Window.{Window}
 use Rattle.scan_rolling_hash.specs.Windows.{placesOf, WindowAt}
@@ -112,7 +112,7 @@ looked-sum seed T na nb nc nd ma mb mc md p a b c d ea eb ec ed sa sb sc sd l =
     rw (looked-of seed T na ma p a ea sa l, looked-of seed T nb mb p b eb sb l, looked-of seed T nc mc p c ec sc l, looked-of seed T nd md p d ed sd l)
 
 -- Equal bytes have the same first occurrence.
-pub leftmost-same-bytes : (T : List ℕ) (s t n : ℕ) → stretch T s n ≡ stretch T t n → leftmost T s n ≡ leftmost T t n
+pub leftmost-same-bytes : (T : List ℕ) (s t n : ℕ) → substring T s n ≡ substring T t n → leftmost T s n ≡ leftmost T t n
 leftmost-same-bytes T s t n e = omega (
   arith,
   leftmost-first T s n (leftmost T t n) (leftmost-same T t n ∙ sym e),
@@ -242,7 +242,7 @@ module _ (T out : List ℕ) (it : Items) where
     unfolding bytesAt
     first-found x xl i = record {
       near = omega (arith, e .own x xl i);
-      same = ap (λ (k : ℕ). stretch T k (lengthAt T out it x)) (e .own x xl i);
+      same = ap (λ (k : ℕ). substring T k (lengthAt T out it x)) (e .own x xl i);
       absent = λ r m. absurd (let z : ⊥ = omega arith in z);
     }
 
@@ -305,7 +305,7 @@ module _ (T out : List ℕ) (it : Items) where
               (lt-or-ge (leftmost T s n) (itemPlaceIn Z x));
         }
           where
-            go : (place s n : ℕ) → stretch T place n ≡ stretch T s n → ((r : ℕ) → (r ≡ r) → (r < place) × (stretch T r n ≡ stretch T s n) → ⊥)
+            go : (place s n : ℕ) → substring T place n ≡ substring T s n → ((r : ℕ) → (r ≡ r) → (r < place) × (substring T r n ≡ substring T s n) → ⊥)
                 → (leftmost T s n < place) ⊎ (place ≤ leftmost T s n) → place ≡ leftmost T s n
             go place s n same none (inl a) = absurd (none (leftmost T s n) refl (a, leftmost-same T s n))
             go place s n same none (inr a) = omega (arith, leftmost-first T s n place same)

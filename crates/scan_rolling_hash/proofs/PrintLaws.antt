@@ -8,8 +8,8 @@ use native.Mathlib.Nat.{mod-lt, mod-eq-of-lt, mod-add-div, mod-add-mod, add-mod-
 use native.Mathlib.Nat.{mul-comm, mul-assoc, add-mul, mul-le-mul, pow-zero, pow-suc, zero-mul, add-zero}
 use lib.ListN.{length, take, getD}
 use lib.Seq.{take-suc, drop-cons}
-use Rattle.text.specs.Text.{stretch}
-use Rattle.text.specs.TextLaws.{stretch-add, length-stretch}
+use Rattle.text.specs.Text.{substring}
+use Rattle.text.specs.TextLaws.{substring-add, length-substring}
 use Rattle.search.specs.FingerValues.{search-digits}
 use Rattle.search.proofs.Modulo.{mul-mod, cancel, added, power-more}
 use Rattle.scan_rolling_hash.specs.Prints.{baseOf, print}
@@ -58,8 +58,8 @@ digits-last : (b a : ℕ) (s : List ℕ) (y : ℕ) → search-digits b a (s ++ (
 unfolding search-digits
 digits-last b a s y = digits-append b a s (y ∷ [])
 
-one-byte : (T : List ℕ) (p : ℕ) → p < length T → stretch T p 1 ≡ getD T p 0 ∷ []
-unfolding stretch
+one-byte : (T : List ℕ) (p : ℕ) → p < length T → substring T p 1 ≡ getD T p 0 ∷ []
+unfolding substring
 one-byte T p l = ap (take 1) (drop-cons T p 0 l)
 
 module _ (seed : ℕ) where
@@ -150,23 +150,23 @@ module _ (seed : ℕ) where
   -- A window moved on.
   module _ (T : List ℕ) (p n : ℕ) (l : p + n < length T) where
     abbrev here : ℕ
-    here = search-digits β 0 (stretch T p n)
+    here = search-digits β 0 (substring T p n)
 
     abbrev next : ℕ
-    next = search-digits β 0 (stretch T (p + 1) n)
+    next = search-digits β 0 (substring T (p + 1) n)
 
-    entered : search-digits β 0 (stretch T p (n + 1)) ≡ here * β + getD T (p + n) 0
+    entered : search-digits β 0 (substring T p (n + 1)) ≡ here * β + getD T (p + n) 0
     entered =
-        ap (search-digits β 0) (stretch-add T p n 1 ∙ ap (λ (s : List ℕ). stretch T p n ++ s) (one-byte T (p + n) l))
-        ∙ digits-last β 0 (stretch T p n) (getD T (p + n) 0)
+        ap (search-digits β 0) (substring-add T p n 1 ∙ ap (λ (s : List ℕ). substring T p n ++ s) (one-byte T (p + n) l))
+        ∙ digits-last β 0 (substring T p n) (getD T (p + n) 0)
 
-    left-out : search-digits β 0 (stretch T p (1 + n)) ≡ getD T p 0 * β ^ n + next
+    left-out : search-digits β 0 (substring T p (1 + n)) ≡ getD T p 0 * β ^ n + next
     unfolding search-digits
     left-out =
         let z : 0 * β + getD T p 0 ≡ getD T p 0 = omega (arith, zero-mul β) in
-        ap (search-digits β 0) (stretch-add T p 1 n ∙ ap (λ (s : List ℕ). s ++ stretch T (p + 1) n) (one-byte T p (omega arith)))
-        ∙ rolling-digits-lift β (0 * β + getD T p 0) (stretch T (p + 1) n)
-        ∙ ap₂ (λ (x k : ℕ). x * β ^ k + next) z (length-stretch T (p + 1) n (omega arith))
+        ap (search-digits β 0) (substring-add T p 1 n ∙ ap (λ (s : List ℕ). s ++ substring T (p + 1) n) (one-byte T p (omega arith)))
+        ∙ rolling-digits-lift β (0 * β + getD T p 0) (substring T (p + 1) n)
+        ∙ ap₂ (λ (x k : ℕ). x * β ^ k + next) z (length-substring T (p + 1) n (omega arith))
 
     one-step : (here * β + getD T (p + n) 0) * β ≡ next * β + β ^ (n + 1) * getD T p 0
     one-step =
@@ -175,10 +175,10 @@ module _ (seed : ℕ) where
         let w : β ^ (n + 1) * o ≡ o * β ^ n * β =
         ap (λ (k : ℕ). β ^ k * o) (add-one n) ∙ ap (λ (k : ℕ). k * o) (pow-suc β n) ∙ mul-comm (β ^ n * β) o ∙ sym (mul-assoc o (β ^ n) β) in
         let d : (o * β ^ n + next) * β ≡ o * β ^ n * β + next * β = add-mul (o * β ^ n) next β in
-        ap (λ (z : ℕ). z * β) (sym entered ∙ ap (λ (k : ℕ). search-digits β 0 (stretch T p k)) e ∙ left-out) ∙ omega (arith, w, d)
+        ap (λ (z : ℕ). z * β) (sym entered ∙ ap (λ (k : ℕ). search-digits β 0 (substring T p k)) e ∙ left-out) ∙ omega (arith, w, d)
 
-    pub print-roll : (h t x out : ℕ) → h ≡ print seed (stretch T p n) → t ≡ β ^ (n + 1) % modulus → out ≡ getD T p 0 → x ≡ getD T (p + n) 0
-        → ((h + x) * β + out * (modulus - t)) % modulus ≡ print seed (stretch T (p + 1) n)
+    pub print-roll : (h t x out : ℕ) → h ≡ print seed (substring T p n) → t ≡ β ^ (n + 1) % modulus → out ≡ getD T p 0 → x ≡ getD T (p + n) 0
+        → ((h + x) * β + out * (modulus - t)) % modulus ≡ print seed (substring T (p + 1) n)
     unfolding print
     print-roll h t x out eh et eo ex =
         let lt : t < modulus = omega (arith, et, mod-lt (β ^ (n + 1)) {m = modulus} (omega arith)) in
@@ -196,17 +196,18 @@ module _ (seed : ℕ) where
         ∙ sym (added (next * β) t (β ^ (n + 1)) out modulus et))
 
   -- The fingerprint of two adjacent windows.
-  pub print-join : (T : List ℕ) (p a n h t g : ℕ) → p + a + n ≤ length T → h ≡ print seed (stretch T p a) → t ≡ β ^ n % modulus
-      → g ≡ print seed (stretch T (p + a) n) → (h * t + g) % modulus ≡ print seed (stretch T p (a + n))
+  pub print-join : (T : List ℕ) (p a n h t g : ℕ) → p + a + n ≤ length T → h ≡ print seed (substring T p a) → t ≡ β ^ n % modulus
+      → g ≡ print seed (substring T (p + a) n) → (h * t + g) % modulus ≡ print seed (substring T p (a + n))
   unfolding print
   print-join T p a n h t g fits eh et eg =
-      let u : ℕ = search-digits β 0 (stretch T p a) in
-      let v : ℕ = search-digits β 0 (stretch T (p + a) n) in
-      let digits-are : search-digits β 0 (stretch T p (a + n)) ≡ u * β ^ n + v =
-      ap (search-digits β 0) (stretch-add T p a n) ∙ digits-append β 0 (stretch T p a) (stretch T (p + a) n) ∙ rolling-digits-lift β u (stretch T (p + a) n)
-      ∙ ap (λ (k : ℕ). u * β ^ k + v) (length-stretch T (p + a) n fits) in
+      let u : ℕ = search-digits β 0 (substring T p a) in
+      let v : ℕ = search-digits β 0 (substring T (p + a) n) in
+      let digits-are : search-digits β 0 (substring T p (a + n)) ≡ u * β ^ n + v =
+      ap (search-digits β 0) (substring-add T p a n) ∙ digits-append β 0 (substring T p a) (substring T (p + a) n)
+      ∙ rolling-digits-lift β u (substring T (p + a) n)
+      ∙ ap (λ (k : ℕ). u * β ^ k + v) (length-substring T (p + a) n fits) in
       let swap : u * β ^ n * β ≡ u * β * β ^ n = mul-assoc u (β ^ n) β ∙ ap (λ (z : ℕ). u * z) (mul-comm (β ^ n) β) ∙ sym (mul-assoc u β (β ^ n)) in
-      let both : search-digits β 0 (stretch T p (a + n)) * β ≡ u * β * β ^ n + v * β =
+      let both : search-digits β 0 (substring T p (a + n)) * β ≡ u * β * β ^ n + v * β =
       ap (λ (z : ℕ). z * β) digits-are ∙ add-mul (u * β ^ n) v β ∙ ap (λ (z : ℕ). z + v * β) swap in
       let first : h * t % modulus ≡ u * β * β ^ n % modulus =
       ap (λ (y : ℕ). y * t % modulus) eh ∙ mul-mod (u * β) t modulus

@@ -6,7 +6,7 @@ use native.Mathlib.Omega.{arith}
 use native.Mathlib.Nat.{mod-lt}
 use lib.ListN.{length, getD}
 use borrow.Author.Tests.{eq-eqb, ne-eqb}
-use Rattle.text.specs.Text.{stretch}
+use Rattle.text.specs.Text.{substring}
 use Rattle.scan_rolling_hash.specs.declared.Window.{Window}
 use Rattle.scan_rolling_hash.specs.Prints.{baseOf, print}
 use Rattle.scan_rolling_hash.specs.Windows.{placesOf, WindowAt}
@@ -31,7 +31,7 @@ stands-nowhere seed T n fits few e = record {
 }
 
 pub stands-first : (seed : ℕ) (T : List ℕ) (n t h : ℕ) → n ≤ length T → length T < 4294967295 → (n ≡ 0 → ⊥)
-    → t ≡ baseOf seed ^ (n + 1) % 2147483647 → h ≡ print seed (stretch T 0 n)
+    → t ≡ baseOf seed ^ (n + 1) % 2147483647 → h ≡ print seed (substring T 0 n)
     → WindowAt seed T n 0 (record { len = n; leaving = 2147483647 - t; print = h; places = length T - n + 1; looked = 1 })
 stands-first seed T n t h fits few e et eh = record {
   len-is = refl;
@@ -61,19 +61,19 @@ module _ (seed : ℕ) (T : List ℕ) (n p : ℕ) (w : Window) (s : WindowAt seed
     before-end = omega (arith, places-are (omega arith), s .fits)
 
     pub print-low : w .print < 2147483647
-    print-low = omega (arith, s .print-is (omega arith), print-below seed (stretch T p n))
+    print-low = omega (arith, s .print-is (omega arith), print-below seed (substring T p n))
 
     pub leaving-low : w .leaving ≤ 2147483647
     leaving-low = omega (arith, s .leaving-is (omega arith))
 
     pub rolls : (h x out b : ℕ) → out ≡ getD T p 0 → x ≡ getD T (p + n) 0 → b ≡ baseOf seed
-        → h ≡ ((w .print + x) * b + out * w .leaving) % 2147483647 → h ≡ print seed (stretch T (p + 1) n)
+        → h ≡ ((w .print + x) * b + out * w .leaving) % 2147483647 → h ≡ print seed (substring T (p + 1) n)
     rolls h x out b eo ex eb e =
         e
         ∙ ap₂ (λ (k t : ℕ). ((w .print + x) * k + out * t) % 2147483647) eb (s .leaving-is (omega arith))
         ∙ print-roll seed T p n before-end (w .print) (baseOf seed ^ (n + 1) % 2147483647) x out (s .print-is (omega arith)) refl eo ex
 
-    pub stands-next : (h : ℕ) → h ≡ print seed (stretch T (p + 1) n)
+    pub stands-next : (h : ℕ) → h ≡ print seed (substring T (p + 1) n)
         → WindowAt seed T n (p + 1) (record { len = w .len; leaving = w .leaving; print = h; places = w .places; looked = w .looked + 1 })
     stands-next h e = record {
       len-is = s .len-is;

@@ -5,7 +5,7 @@ use mathlib.Core.Bool.{cond}
 use Prim.Native.Nat.{ℕ, _+_, _-_, _%_, _^_, _≤_, _<_, min}
 use lib.ListN.{length}
 use lib.Dec.{eqb}
-use Rattle.text.specs.Text.{stretch}
+use Rattle.text.specs.Text.{substring}
 use Rattle.scan_rolling_hash.specs.declared.Window.{Window}
 use Rattle.scan_rolling_hash.specs.Prints.{baseOf, print}
 
@@ -20,5 +20,5 @@ pub record WindowAt (seed : ℕ) (T : List ℕ) (n p : ℕ) (w : Window) : Type 
   pub few : length T < 4294967295
   pub places-is : w .places ≡ placesOf (length T) n
   pub leaving-is : 0 < w .places → w .leaving ≡ 2147483647 - baseOf seed ^ (n + 1) % 2147483647
-  pub print-is : p < w .places → w .print ≡ print seed (stretch T p n)
+  pub print-is : p < w .places → w .print ≡ print seed (substring T p n)
   pub looked-is : w .looked ≡ min (p + 1) (w .places)

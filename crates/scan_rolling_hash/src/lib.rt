@@ -4,7 +4,7 @@ use text::TextPlace;
 ghost use mathlib.Core.Path.{_≡_};
 ghost use Prim.Native.Nat.{_+_, _-_, _*_, _/_, _%_, _^_, _≤_, _<_};
 ghost use lib.ListN.{length, take, getD};
-ghost use Rattle.text.specs.Text.{stretch};
+ghost use Rattle.text.specs.Text.{substring};
 ghost use Rattle.scan_rolling_hash.specs.Prints.{baseOf, print};
 ghost use Rattle.scan_rolling_hash.specs.Windows.{WindowAt};
 
@@ -161,7 +161,7 @@ pub fn fingerprint(seed: u32, s: &[u8]) -> u32
 // The fingerprint of the n bytes at p.
 pub fn fingerprint_at(seed: u32, text: &[u8], p: TextPlace, n: u32) -> u32
     requires { ⌜ p .0 + n ≤ length (now text) ⌝ }
-    ensures { λ r. ⌜ r ≡ print seed (stretch (now (text .entry)) (p .0) n) ⌝ }
+    ensures { λ r. ⌜ r ≡ print seed (substring (now (text .entry)) (p .0) n) ⌝ }
 {
     let from = p.0 as usize;
     let end = from + n as usize;

@@ -7,7 +7,7 @@ use native.Mathlib.Numerals.{add-one}
 use native.Mathlib.Nat.{zero-mod, add-mul, mul-assoc, mul-comm, pow-succ', pow-zero, zero-mul, mod-lt}
 use lib.ListN.{length, take, drop, getD, length-drop}
 use lib.Seq.{take-suc, drop-cons, getD-drop, length-take-le}
-use Rattle.text.specs.Text.{stretch}
+use Rattle.text.specs.Text.{substring}
 use Rattle.search.specs.FingerValues.{search-digits, finger}
 use Rattle.search.proofs.Modulo.{pushed, rolled}
 
@@ -32,8 +32,8 @@ finger-nil b q h = sym (zero-mod q)
 -- The numbers of a window's digits at a place and at the next.
 window-step :
     (b : ℕ) (T : List ℕ) (p n : ℕ) → p + n < length T
-    → search-digits b 0 (stretch T p n) * b + getD T (p + n) 0 ≡ search-digits b 0 (stretch T (p + 1) n) + b ^ n * getD T p 0
-unfolding stretch search-digits
+    → search-digits b 0 (substring T p n) * b + getD T (p + n) 0 ≡ search-digits b 0 (substring T (p + 1) n) + b ^ n * getD T p 0
+unfolding substring search-digits
 window-step b T p n h =
     let l : n < length (drop p T) = simp length-drop (omega arith) in
     let m : n ≤ length (drop (suc p) T) = simp length-drop (omega arith) in
@@ -54,11 +54,12 @@ window-step b T p n h =
 
 -- The fingerprint of the window moved on.
 pub finger-roll :
-    (b q : ℕ) (T : List ℕ) (p n h t x out : ℕ) → p + n < length T → t < q → out < 256 → h ≡ finger b q (stretch T p n) → t ≡ b ^ n % q
-    → out ≡ getD T p 0 → x ≡ getD T (p + n) 0 → (h * b + x + (255 * q - t * out)) % q ≡ finger b q (stretch T (p + 1) n)
+    (b q : ℕ) (T : List ℕ) (p n h t x out : ℕ) → p + n < length T → t < q → out < 256 → h ≡ finger b q (substring T p n) → t ≡ b ^ n % q
+    → out ≡ getD T p 0 → x ≡ getD T (p + n) 0 → (h * b + x + (255 * q - t * out)) % q ≡ finger b q (substring T (p + 1) n)
 unfolding finger
 finger-roll b q T p n h t x out l lt lo eh et eo ex =
-    rolled b q h t (search-digits b 0 (stretch T p n)) (search-digits b 0 (stretch T (p + 1) n)) (b ^ n) x out lt lo eh et (rw (eo, ex) (window-step b T p n l))
+    rolled b q h t (search-digits b 0 (substring T p n)) (search-digits b 0 (substring T (p + 1) n)) (b ^ n) x out lt lo eh et
+    (rw (eo, ex) (window-step b T p n l))
 
 -- The fingerprint of one byte more.
 pub finger-push :

@@ -5,7 +5,7 @@ use mathlib.Core.Path.{_≡_, sym, ap, _∙_}
 use Prim.Native.Nat.{ℕ, suc, _+_, _-_, _≤_, _<_}
 use native.Mathlib.Omega.{arith}
 use native.Mathlib.Nat.{sub-zero}
-use Rattle.text.specs.Text.{sameList, stretch, firstFrom, leftmost}
+use Rattle.text.specs.Text.{sameList, substring, firstFrom, leftmost}
 use Rattle.text.specs.ListLaws.{ne-sameList}
 use Rattle.search.specs.FingerValues.{finger}
 
@@ -23,7 +23,7 @@ ahead-start T at n = rw (sub-zero at)
 
 -- A place from which the search gives the result of the whole search, and whether the bytes occur there.
 module _ (T : List ℕ) (at n p : ℕ) (whole : ahead T at n p ≡ leftmost T at n) where
-  module _ (r : Bool) (is : r ≡ sameList (stretch T p n) (stretch T at n)) where
+  module _ (r : Bool) (is : r ≡ sameList (substring T p n) (substring T at n)) where
     pub ahead-hit : r ≡ true → p < at → p ≡ leftmost T at n
     unfolding ahead firstFrom
     ahead-hit e l =

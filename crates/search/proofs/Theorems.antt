@@ -10,7 +10,7 @@ use denote.Ref.{RefT}
 use lib.ListN.{length}
 use lib.Dec.{leb}
 use borrow.Author.Tests.{leb-true}
-use Rattle.text.specs.Text.{stretch, leftmost}
+use Rattle.text.specs.Text.{substring, leftmost}
 use Rattle.text.specs.TextLaws.{leftmost-le, leftmost-same, leftmost-least}
 use Rattle.text.specs.declared.TextPlace.{TextPlace}
 use Rattle.search.specs.declared.Fingerprint.{Fingerprint}
@@ -43,8 +43,8 @@ same-earlier κs text at len one other r s p q = p ∙ sym q
 pub record Leftmost (T : List ℕ) (at len p : ℕ) : Type 0 where
   pub within : at + len ≤ length T
   pub low : p ≤ at
-  pub same : stretch T p len ≡ stretch T at len
-  pub least : (q : ℕ) → q < p → stretch T q len ≡ stretch T at len → ⊥
+  pub same : substring T p len ≡ substring T at len
+  pub least : (q : ℕ) → q < p → substring T q len ≡ substring T at len → ⊥
 
 answer-cases :
     (T : List ℕ) (at len : ℕ) (p : TextPlace) (b : Bool) → leb (at + len) (length T) ≡ b

@@ -4,7 +4,7 @@ use text::TextPlace;
 ghost use mathlib.Core.Path.{_≡_};
 ghost use Prim.Native.Nat.{_+_, _-_, _*_, _%_, _^_, _≤_, _<_};
 ghost use lib.ListN.{length};
-ghost use Rattle.text.specs.Text.{stretch};
+ghost use Rattle.text.specs.Text.{substring};
 ghost use Rattle.search.specs.FingerValues.{ReducedBase, finger};
 
 // The fingerprint of bytes with one byte more at their end.
@@ -56,7 +56,7 @@ pub fn fingerprint(by: Fingerprint, s: &[u8]) -> u64
 // The fingerprint of the n bytes at p.
 pub fn fingerprint_at(by: Fingerprint, text: &[u8], p: TextPlace, n: usize) -> u64
     requires { ⌜ (ReducedBase (by .base) (by .modulus)) × (p .0 + n ≤ length (now text)) ⌝ }
-    ensures { λ r. ⌜ r ≡ finger (by .base) (by .modulus) (stretch (now (text .entry)) (p .0) n) ⌝ }
+    ensures { λ r. ⌜ r ≡ finger (by .base) (by .modulus) (substring (now (text .entry)) (p .0) n) ⌝ }
 {
     let from = p.0 as usize;
     let end = from + n;

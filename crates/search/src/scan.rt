@@ -5,7 +5,7 @@ use text::TextPlace;
 ghost use mathlib.Core.Path.{_≡_};
 ghost use Prim.Native.Nat.{_+_, _≤_, _<_};
 ghost use lib.ListN.{length};
-ghost use Rattle.text.specs.Text.{sameList, stretch, leftmost};
+ghost use Rattle.text.specs.Text.{sameList, substring, leftmost};
 ghost use Rattle.search.specs.FingerValues.{ReducedBase, finger};
 
 // A place of the text, and the fingerprint of the bytes there.
@@ -17,9 +17,9 @@ struct WindowPrint {
 // Whether the same n bytes are at two places. Equal fingerprints only propose; a comparison of the bytes decides.
 fn occurs_at(text: &[u8], here: WindowPrint, wanted: WindowPrint, n: usize, by: Fingerprint) -> bool
     requires { ⌜ (here .start .0 + n ≤ length (now text)) × (wanted .start .0 + n ≤ length (now text)) ⌝ }
-    requires { ⌜ here .print ≡ finger (by .base) (by .modulus) (stretch (now text) (here .start .0) n) ⌝ }
-    requires { ⌜ wanted .print ≡ finger (by .base) (by .modulus) (stretch (now text) (wanted .start .0) n) ⌝ }
-    ensures { λ r. ⌜ r ≡ sameList (stretch (now (text .entry)) (here .start .0) n) (stretch (now (text .entry)) (wanted .start .0) n) ⌝ }
+    requires { ⌜ here .print ≡ finger (by .base) (by .modulus) (substring (now text) (here .start .0) n) ⌝ }
+    requires { ⌜ wanted .print ≡ finger (by .base) (by .modulus) (substring (now text) (wanted .start .0) n) ⌝ }
+    ensures { λ r. ⌜ r ≡ sameList (substring (now (text .entry)) (here .start .0) n) (substring (now (text .entry)) (wanted .start .0) n) ⌝ }
 {
     if here.print != wanted.print {
         return false;

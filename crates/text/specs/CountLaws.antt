@@ -12,8 +12,8 @@ use lib.Seq.{take-all, drop-cons}
 use lib.Dec.{eqb}
 use borrow.Author.Tests.{eqb-true, eq-eqb, ne-eqb}
 use Rattle.text.specs.ListLaws.{lt-or-ge}
-use Rattle.text.specs.Text.{stretch, countIn, placeIn, placeOf}
-use Rattle.text.specs.TextLaws.{stretch-add}
+use Rattle.text.specs.Text.{substring, countIn, placeIn, placeOf}
+use Rattle.text.specs.TextLaws.{substring-add}
 
 -- Counts.
 
@@ -47,45 +47,45 @@ unfolding countIn
 count-le c [] = omega arith
 count-le c (x ∷ xs) = omega (arith, count-cons c x xs, one-le (eqb c x), count-le c xs)
 
--- Counts of stretches.
+-- Counts of substrings.
 
-pub count-none : (c : ℕ) (T : List ℕ) (p : ℕ) → countIn c (stretch T p 0) ≡ 0
-unfolding stretch countIn
+pub count-none : (c : ℕ) (T : List ℕ) (p : ℕ) → countIn c (substring T p 0) ≡ 0
+unfolding substring countIn
 count-none c T p = refl
 
--- A stretch in two parts.
-pub count-add : (c : ℕ) (T : List ℕ) (p a b : ℕ) → countIn c (stretch T p (a + b)) ≡ countIn c (stretch T p a) + countIn c (stretch T (p + a) b)
-count-add c T p a b = ap (countIn c) (stretch-add T p a b) ∙ count-append c (stretch T p a) (stretch T (p + a) b)
+-- A substring in two parts.
+pub count-add : (c : ℕ) (T : List ℕ) (p a b : ℕ) → countIn c (substring T p (a + b)) ≡ countIn c (substring T p a) + countIn c (substring T (p + a) b)
+count-add c T p a b = ap (countIn c) (substring-add T p a b) ∙ count-append c (substring T p a) (substring T (p + a) b)
 
-pub count-stretch-le : (c : ℕ) (T : List ℕ) (p x : ℕ) → countIn c (stretch T p x) ≤ x
-unfolding stretch
-count-stretch-le c T p x = le-trans (count-le c (take x (drop p T))) (simp length-take (omega arith))
+pub count-substring-le : (c : ℕ) (T : List ℕ) (p x : ℕ) → countIn c (substring T p x) ≤ x
+unfolding substring
+count-substring-le c T p x = le-trans (count-le c (take x (drop p T))) (simp length-take (omega arith))
 
 -- From the text's start.
-pub count-start : (c : ℕ) (T : List ℕ) (x : ℕ) → countIn c (stretch T 0 x) ≡ countIn c (take x T)
-unfolding stretch
+pub count-start : (c : ℕ) (T : List ℕ) (x : ℕ) → countIn c (substring T 0 x) ≡ countIn c (take x T)
+unfolding substring
 count-start c T x = refl
 
-pub count-whole : (c : ℕ) (T : List ℕ) (x : ℕ) → length T ≤ x → countIn c (stretch T 0 x) ≡ countIn c T
-unfolding stretch
+pub count-whole : (c : ℕ) (T : List ℕ) (x : ℕ) → length T ≤ x → countIn c (substring T 0 x) ≡ countIn c T
+unfolding substring
 count-whole c T x h = ap (countIn c) (take-all x T h)
 
-stretch-one : (T : List ℕ) (p : ℕ) → p < length T → stretch T p 1 ≡ getD T p 0 ∷ []
-unfolding stretch
-stretch-one T p h = ap (take 1) (drop-cons T p 0 h)
+substring-one : (T : List ℕ) (p : ℕ) → p < length T → substring T p 1 ≡ getD T p 0 ∷ []
+unfolding substring
+substring-one T p h = ap (take 1) (drop-cons T p 0 h)
 
 -- One byte more.
 pub count-next : (c : ℕ) (T : List ℕ) (p o : ℕ) → p + o < length T
-    → countIn c (stretch T p (o + 1)) ≡ countIn c (stretch T p o) + one c (getD T (p + o) 0)
+    → countIn c (substring T p (o + 1)) ≡ countIn c (substring T p o) + one c (getD T (p + o) 0)
 count-next c T p o h =
-    omega (arith, count-add c T p o 1, ap (countIn c) (stretch-one T (p + o) h), count-cons c (getD T (p + o) 0) [], count-nil c)
+    omega (arith, count-add c T p o 1, ap (countIn c) (substring-one T (p + o) h), count-cons c (getD T (p + o) 0) [], count-nil c)
 
 one-same : (c x : ℕ) → x ≡ c → one c x ≡ 1
 one-same c x e = rw (eq-eqb c x (sym e))
 
 -- The next byte is c.
 pub count-next-same : (c : ℕ) (T : List ℕ) (p o : ℕ) → p + o < length T → getD T (p + o) 0 ≡ c
-    → countIn c (stretch T p (o + 1)) ≡ countIn c (stretch T p o) + 1
+    → countIn c (substring T p (o + 1)) ≡ countIn c (substring T p o) + 1
 count-next-same c T p o h e = omega (arith, count-next c T p o h, one-same c (getD T (p + o) 0) e)
 
 one-other : (c x : ℕ) → (x ≡ c → ⊥) → one c x ≡ 0
@@ -93,11 +93,11 @@ one-other c x e = rw (ne-eqb c x (λ f. e (sym f)))
 
 -- The next byte is another one.
 pub count-next-other : (c : ℕ) (T : List ℕ) (p o : ℕ) → p + o < length T → (getD T (p + o) 0 ≡ c → ⊥)
-    → countIn c (stretch T p (o + 1)) ≡ countIn c (stretch T p o)
+    → countIn c (substring T p (o + 1)) ≡ countIn c (substring T p o)
 count-next-other c T p o h e = omega (arith, count-next c T p o h, one-other c (getD T (p + o) 0) e)
 
--- A longer stretch has as many or more.
-pub count-mono : (c : ℕ) (T : List ℕ) (p a b : ℕ) → a ≤ b → countIn c (stretch T p a) ≤ countIn c (stretch T p b)
+-- A longer substring has as many or more.
+pub count-mono : (c : ℕ) (T : List ℕ) (p a b : ℕ) → a ≤ b → countIn c (substring T p a) ≤ countIn c (substring T p b)
 count-mono c T p a b h =
     let e : b ≡ a + (b - a) = omega arith in
     rw e (omega (arith, count-add c T p a (b - a)))
@@ -108,10 +108,10 @@ count-mono c T p a b h =
 pub record Nth (c j : ℕ) (T : List ℕ) (s o : ℕ) : Type 0 where
   pub within : s + o < length T
   pub byte-is : getD T (s + o) 0 ≡ c
-  pub rank : countIn c (stretch T s o) + 1 ≡ j
+  pub rank : countIn c (substring T s o) + 1 ≡ j
 
 -- counted from an earlier place
-pub nth-earlier : (c j : ℕ) (T : List ℕ) (s a o : ℕ) → Nth c j T (s + a) o → Nth c (countIn c (stretch T s a) + j) T s (a + o)
+pub nth-earlier : (c j : ℕ) (T : List ℕ) (s a o : ℕ) → Nth c j T (s + a) o → Nth c (countIn c (substring T s a) + j) T s (a + o)
 nth-earlier c j T s a o h =
     let e : s + a + o ≡ s + (a + o) = omega arith in record {
       within = omega (arith, h .within);
@@ -120,7 +120,7 @@ nth-earlier c j T s a o h =
     }
 
 -- The same from a later place that is not past it.
-pub nth-later : (c j : ℕ) (T : List ℕ) (s a o : ℕ) → Nth c (countIn c (stretch T s a) + j) T s (a + o) → Nth c j T (s + a) o
+pub nth-later : (c j : ℕ) (T : List ℕ) (s a o : ℕ) → Nth c (countIn c (substring T s a) + j) T s (a + o) → Nth c j T (s + a) o
 nth-later c j T s a o h =
     let e : s + (a + o) ≡ s + a + o = omega arith in record {
       within = omega (arith, h .within);
@@ -129,7 +129,7 @@ nth-later c j T s a o h =
     }
 
 -- The j-th occurrence is at or after place a exactly if fewer than j occurrences are before a.
-pub nth-past : (c j : ℕ) (T : List ℕ) (s a o : ℕ) → Nth c j T s o → countIn c (stretch T s a) < j → a ≤ o
+pub nth-past : (c j : ℕ) (T : List ℕ) (s a o : ℕ) → Nth c j T s o → countIn c (substring T s a) < j → a ≤ o
 nth-past c j T s a o h l = go (lt-or-ge o a)
   where
     go : (o < a) ⊎ (a ≤ o) → a ≤ o
@@ -137,7 +137,7 @@ nth-past c j T s a o h l = go (lt-or-ge o a)
         absurd (let z : ⊥ = omega (arith, h .rank, count-next-same c T s o (h .within) (h .byte-is), count-mono c T s (o + 1) a (omega arith)) in z)
     go (inr k) = k
 
-pub nth-before : (c j : ℕ) (T : List ℕ) (s a o : ℕ) → Nth c j T s o → j ≤ countIn c (stretch T s a) → o < a
+pub nth-before : (c j : ℕ) (T : List ℕ) (s a o : ℕ) → Nth c j T s o → j ≤ countIn c (substring T s a) → o < a
 nth-before c j T s a o h l = go (lt-or-ge o a)
   where
     go : (o < a) ⊎ (a ≤ o) → o < a

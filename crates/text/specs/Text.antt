@@ -46,15 +46,15 @@ sameList (x ∷ xs) (y ∷ ys) = eqb x y && sameList xs ys
 -- docs/FORMAT.md: "Searching", "Count", "Find".
 
 -- The substring of len bytes from place p.
-unfoldable pub stretch : List ℕ → ℕ → ℕ → List ℕ
-stretch T p len = take len (drop p T)
+unfoldable pub substring : List ℕ → ℕ → ℕ → List ℕ
+substring T p len = take len (drop p T)
 
 -- The first of the places p, p + 1, .., p + more at which the len bytes from place s occur; p + more if there is none before.
 unfoldable pub firstFrom : List ℕ → ℕ → ℕ → ℕ → ℕ → ℕ
 firstFrom T s len zero p = p
 firstFrom T s len (suc more) p =
     let later = firstFrom T s len more (p + 1) in
-    cond (sameList (stretch T p len) (stretch T s len)) p later
+    cond (sameList (substring T p len) (substring T s len)) p later
 
 -- The place of the leftmost occurrence of the len bytes from place s.
 unfoldable pub leftmost : List ℕ → ℕ → ℕ → ℕ

@@ -1,4 +1,4 @@
--- Laws of the definitions of `Text`: stretches, and leftmost occurrences.
+-- Laws of the definitions of `Text`: substrings, and leftmost occurrences.
 use mathlib.Core.List.{List, _++_}
 use mathlib.Core.Bool.{Bool, true, false, cond}
 use mathlib.Core.Path.{_≡_, refl, sym, ap, _∙_}
@@ -8,48 +8,48 @@ use native.Mathlib.Omega.{arith}
 use native.Mathlib.Nat.{add-assoc}
 use lib.ListN.{length, take, drop, getD, length-drop}
 use lib.Seq.{getD-take, getD-drop, ext-getD, length-take-le, take-add, drop-drop}
-use Rattle.text.specs.Text.{sameList, stretch, firstFrom, leftmost}
+use Rattle.text.specs.Text.{sameList, substring, firstFrom, leftmost}
 use Rattle.text.specs.ListLaws.{bool-clash, lt-or-ge, sameList-true, eq-sameList}
 
--- Stretches.
+-- Substrings.
 
-pub length-stretch : (T : List ℕ) (p len : ℕ) → p + len ≤ length T → length (stretch T p len) ≡ len
-unfolding stretch
-length-stretch T p len h = length-take-le len (drop p T) (simp length-drop (omega arith))
+pub length-substring : (T : List ℕ) (p len : ℕ) → p + len ≤ length T → length (substring T p len) ≡ len
+unfolding substring
+length-substring T p len h = length-take-le len (drop p T) (simp length-drop (omega arith))
 
-pub getD-stretch : (T : List ℕ) (p len i : ℕ) → i < len → getD (stretch T p len) i 0 ≡ getD T (p + i) 0
-unfolding stretch
-getD-stretch T p len i h = getD-take len (drop p T) i 0 h ∙ getD-drop p T i 0
+pub getD-substring : (T : List ℕ) (p len i : ℕ) → i < len → getD (substring T p len) i 0 ≡ getD T (p + i) 0
+unfolding substring
+getD-substring T p len i h = getD-take len (drop p T) i 0 h ∙ getD-drop p T i 0
 
--- Two stretches are equal exactly where their bytes are.
-pub stretch-ext :
+-- Two substrings are equal exactly where their bytes are.
+pub substring-ext :
     (T U : List ℕ) (p q len : ℕ) → p + len ≤ length T → q + len ≤ length U
-    → ((i : ℕ) → i < len → getD T (p + i) 0 ≡ getD U (q + i) 0) → stretch T p len ≡ stretch U q len
-stretch-ext T U p q len h k same =
+    → ((i : ℕ) → i < len → getD T (p + i) 0 ≡ getD U (q + i) 0) → substring T p len ≡ substring U q len
+substring-ext T U p q len h k same =
     ext-getD
-    0 (stretch T p len) (stretch U q len) (length-stretch T p len h ∙ sym (length-stretch U q len k))
+    0 (substring T p len) (substring U q len) (length-substring T p len h ∙ sym (length-substring U q len k))
     (λ i l.
-    let m : i < len = rw (length-stretch T p len h) at l in
-    getD-stretch T p len i m ∙ same i m ∙ sym (getD-stretch U q len i m))
+    let m : i < len = rw (length-substring T p len h) at l in
+    getD-substring T p len i m ∙ same i m ∙ sym (getD-substring U q len i m))
 
-pub stretch-at :
-    (T U : List ℕ) (p q len : ℕ) → stretch T p len ≡ stretch U q len → (i : ℕ) → i < len → getD T (p + i) 0 ≡ getD U (q + i) 0
-stretch-at T U p q len e i l =
-    sym (getD-stretch T p len i l) ∙ ap (λ (s : List ℕ). getD s i 0) e ∙ getD-stretch U q len i l
+pub substring-at :
+    (T U : List ℕ) (p q len : ℕ) → substring T p len ≡ substring U q len → (i : ℕ) → i < len → getD T (p + i) 0 ≡ getD U (q + i) 0
+substring-at T U p q len e i l =
+    sym (getD-substring T p len i l) ∙ ap (λ (s : List ℕ). getD s i 0) e ∙ getD-substring U q len i l
 
--- A part of equal stretches.
-pub stretch-part :
-    (T U : List ℕ) (p q len o k : ℕ) → p + len ≤ length T → q + len ≤ length U → o + k ≤ len → stretch T p len ≡ stretch U q len
-    → stretch T (p + o) k ≡ stretch U (q + o) k
-stretch-part T U p q len o k h j within e =
-    stretch-ext
+-- A part of equal substrings.
+pub substring-part :
+    (T U : List ℕ) (p q len o k : ℕ) → p + len ≤ length T → q + len ≤ length U → o + k ≤ len → substring T p len ≡ substring U q len
+    → substring T (p + o) k ≡ substring U (q + o) k
+substring-part T U p q len o k h j within e =
+    substring-ext
     T U (p + o) (q + o) k (omega arith) (omega arith)
-    (λ i l. rw (add-assoc p o i, add-assoc q o i) (stretch-at T U p q len e (o + i) (omega arith)))
+    (λ i l. rw (add-assoc p o i, add-assoc q o i) (substring-at T U p q len e (o + i) (omega arith)))
 
--- A stretch in two parts.
-pub stretch-add : (T : List ℕ) (p a b : ℕ) → stretch T p (a + b) ≡ stretch T p a ++ stretch T (p + a) b
-unfolding stretch
-stretch-add T p a b = take-add a b (drop p T) ∙ ap (λ (s : List ℕ). take a (drop p T) ++ take b s) (drop-drop a p T)
+-- A substring in two parts.
+pub substring-add : (T : List ℕ) (p a b : ℕ) → substring T p (a + b) ≡ substring T p a ++ substring T (p + a) b
+unfolding substring
+substring-add T p a b = take-add a b (drop p T) ∙ ap (λ (s : List ℕ). take a (drop p T) ++ take b s) (drop-drop a p T)
 
 -- Leftmost occurrences.
 
@@ -78,7 +78,7 @@ first-step f more p r false e h =
         let s : k ≡ p = omega arith in
         ap f s ∙ e
 
-first-from : (T : List ℕ) (s len more p : ℕ) → First (λ q. sameList (stretch T q len) (stretch T s len)) more p (firstFrom T s len more p)
+first-from : (T : List ℕ) (s len more p : ℕ) → First (λ q. sameList (substring T q len) (substring T s len)) more p (firstFrom T s len more p)
 unfolding firstFrom
 first-from T s len zero p =
     record {
@@ -89,11 +89,11 @@ first-from T s len zero p =
     }
 first-from T s len (suc more) p =
     first-step
-    (λ q. sameList (stretch T q len) (stretch T s len)) more p (firstFrom T s len more (p + 1))
-    (sameList (stretch T p len) (stretch T s len)) refl (first-from T s len more (p + 1))
+    (λ q. sameList (substring T q len) (substring T s len)) more p (firstFrom T s len more (p + 1))
+    (sameList (substring T p len) (substring T s len)) refl (first-from T s len more (p + 1))
 
 module _ (T : List ℕ) (s len : ℕ) where
-  is-first : First (λ q. sameList (stretch T q len) (stretch T s len)) s 0 (leftmost T s len)
+  is-first : First (λ q. sameList (substring T q len) (substring T s len)) s 0 (leftmost T s len)
   unfolding leftmost
   is-first = first-from T s len s 0
 
@@ -102,21 +102,21 @@ module _ (T : List ℕ) (s len : ℕ) where
   leftmost-le = omega (arith, is-first .high)
 
   -- The same bytes are there.
-  pub leftmost-same : stretch T (leftmost T s len) len ≡ stretch T s len
+  pub leftmost-same : substring T (leftmost T s len) len ≡ substring T s len
   leftmost-same = go (lt-or-ge (leftmost T s len) s)
     where
-      go : (leftmost T s len < s) ⊎ (s ≤ leftmost T s len) → stretch T (leftmost T s len) len ≡ stretch T s len
+      go : (leftmost T s len < s) ⊎ (s ≤ leftmost T s len) → substring T (leftmost T s len) len ≡ substring T s len
       go (inl l) = sameList-true _ _ (is-first .holds (omega arith))
       go (inr g) =
           let e : leftmost T s len ≡ s = omega (arith, leftmost-le) in
-          ap (λ (q : ℕ). stretch T q len) e
+          ap (λ (q : ℕ). substring T q len) e
 
   -- The bytes do not occur at an earlier place.
-  pub leftmost-least : (q : ℕ) → q < leftmost T s len → stretch T q len ≡ stretch T s len → ⊥
+  pub leftmost-least : (q : ℕ) → q < leftmost T s len → substring T q len ≡ substring T s len → ⊥
   leftmost-least q l e = bool-clash _ (eq-sameList _ _ e) (is-first .before q (omega arith) l)
 
   -- A place with the same bytes is at the leftmost one or after it.
-  pub leftmost-first : (q : ℕ) → stretch T q len ≡ stretch T s len → leftmost T s len ≤ q
+  pub leftmost-first : (q : ℕ) → substring T q len ≡ substring T s len → leftmost T s len ≤ q
   leftmost-first q e = go (lt-or-ge q (leftmost T s len))
     where
       go : (q < leftmost T s len) ⊎ (leftmost T s len ≤ q) → leftmost T s len ≤ q

@@ -17,7 +17,7 @@ use Rattle.format.specs.TreeReading.{textOf, headerResult, checkResult, asks}
 use Rattle.format.specs.CheckResultLaws.{accepted-header}
 use Rattle.format.specs.Answers.{byteAnswer}
 use Rattle.format.specs.AnswerLaws.{next-passes, asks-pass}
-use Rattle.query_access.specs.declared.SpanAnswer.the-variants as copied
+use Rattle.query_access.specs.declared.SpanAnswer.the-variants as span
 use Rattle.columns.specs.Columns.{widthOk}
 use Rattle.query_columns.proofs.Theorems as columns
 use Rattle.query_columns.specs.ColumnRows.{cell, cellsHold, rowByColumnsRefusal, rowByColumnsAnswer, rowByColumnsBuffer}
@@ -52,7 +52,7 @@ column-fits t w a room h =
 
 module _ (κs : Lfts 2) (t : Borrowed) (w a : ℕ) (buffer after : Borrowed) where
   -- A result is w bytes, which fit, and the bytes after them are unchanged.
-  pub column-answer : (m e : ℕ) → ByColumns κs t w a buffer after (copied.Bytes m e)
+  pub column-answer : (m e : ℕ) → ByColumns κs t w a buffer after (span.Bytes m e)
       → (m ≡ w) × (e ≡ 0) × (w ≤ length (now buffer)) × (drop w (now after) ≡ drop w (now buffer))
   unfolding rowByColumnsAnswer rowByColumnsBuffer
   column-answer m e c =
@@ -65,7 +65,7 @@ module _ (κs : Lfts 2) (t : Borrowed) (w a : ℕ) (buffer after : Borrowed) whe
         rw left (drop-at row (drop w (now buffer)) w (length-tabulate w (λ b. byteAnswer (now t) (cell (now t) w a b) .value))),
       )
 
-  module _ (n : ℕ) (c : ByColumns κs t w a buffer after (copied.Refused n)) where
+  module _ (n : ℕ) (c : ByColumns κs t w a buffer after (span.Refused n)) where
     -- The number is the definition's.
     column-answers : n ≡ rowByColumnsRefusal (now t) w a (length (now buffer))
     unfolding rowByColumnsAnswer

@@ -20,7 +20,7 @@ use Rattle.format.specs.CheckResultLaws.{accepted-header}
 use Rattle.format.specs.Answers.{Answer, refused, unless, NeverZero, replied, isCounted, countAnswer, numberOfByte, added, taken, leavesReached, countOf}
 use Rattle.format.specs.Answers.{pathLength}
 use Rattle.format.specs.AnswerLaws.{unless-passes}
-use Rattle.theory_counts.specs.Theorems as tallies
+use Rattle.theory_counts.specs.Theorems as counts
 use Rattle.query_rank.specs.declared.CountAnswer.{CountAnswer}
 use Rattle.query_rank.specs.declared.CountAnswer.the-variants as counted
 use Rattle.query_rank.specs.Counts.{countReply, uncountedRefusal}
@@ -164,7 +164,7 @@ module _ (t : Borrowed) (v : checkResult (now t) ≡ 0) where
   count-answers : (κs : Lfts 1) (byte i : ℕ) (r : CountAnswer) → Count κs t byte i r → CountedIn byte (S .counted) → i ≤ length T
       → r ≡ counted.Times (countIn byte (take i T)) (cond (eqb i 0) 0 (pathLength (now t) (pathOf (now t) (i - 1))))
   count-answers κs byte i r a k h =
-      count-is r _ _ (a .numbered) (a .answers ∙ tallies.count-of-text (now t) v byte i (among-counted (now t) byte k) (omega (arith, size)))
+      count-is r _ _ (a .numbered) (a .answers ∙ counts.count-of-text (now t) v byte i (among-counted (now t) byte k) (omega (arith, size)))
 
   pub accepted-answers : CountAnswers t S T
   unfolding countIn

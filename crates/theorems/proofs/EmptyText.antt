@@ -11,7 +11,7 @@ use native.Mathlib.Numerals.{add-one}
 use contract.Lifetimes.{Lfts}
 use denote.Ref.{now}
 use lib.ListN.{length}
-use Rattle.text.specs.Text.{countIn, stretch, rowsOf, tabulate, sumBelow}
+use Rattle.text.specs.Text.{countIn, substring, rowsOf, tabulate, sumBelow}
 use Rattle.text.specs.ListLaws.{lt-or-ge, sumBelow-none}
 use Rattle.text.specs.declared.TextPlace.{TextPlace}
 use Rattle.format.specs.Layout.{Settings, maxLevels, headerLength}
@@ -55,7 +55,7 @@ module _ (t : Borrowed) (S : Settings) (answers : Answers t S []) (refuses : Ref
   -- A span of 0 bytes at place 0 is empty; any other span is refused with 10.
   pub empty-span : (κ : Lfts 2) (p : TextPlace) (buffer after : Borrowed) (r : SpanAnswer) → Span κ t p 0 buffer after r → p .0 ≡ 0
       → (r ≡ copied.Bytes 0 0) × (now after ≡ now buffer)
-  unfolding stretch
+  unfolding substring
   empty-span κ p buffer after r s z =
       let w = answers .span .span-of κ p 0 buffer after r s (omega arith) (omega arith) in
       (w .2 ∙ ap (copied.Bytes 0) (w .1 .other (λ short. omega (arith, short .low))), w .3)

@@ -20,7 +20,7 @@ use Rattle.format.specs.TreeReading.{pathOf, textOf, checkResult}
 use Rattle.format.specs.CheckResultLaws.{accepted-header}
 use Rattle.format.specs.Answers.{Answer, refused, NeverZero, replied, numberOfByte, findRefusal, pathLength, total, found as foundFor}
 use Rattle.format.specs.FindAnswerLaws.{FindAnswers as FindAllowed}
-use Rattle.theory_counts.specs.Theorems as tallies
+use Rattle.theory_counts.specs.Theorems as counts
 use Rattle.query_select.specs.declared.FindAnswer.{FindAnswer}
 use Rattle.query_select.specs.declared.FindAnswer.the-variants as found
 use Rattle.query_select.specs.Found.{findReply}
@@ -90,7 +90,7 @@ module _ (t : Borrowed) (v : checkResult (now t) ≡ 0) where
   twelve byte j k none =
       let c = among-counted (now t) byte k in
       let all = total (now t) (numberOfByte (now t) byte) in
-      rw (accepted-header (now t) v, c, go all (tallies.total-of-text (now t) v byte c) (bool-cases (leb 1 j && leb j all)))
+      rw (accepted-header (now t) v, c, go all (counts.total-of-text (now t) v byte c) (bool-cases (leb 1 j && leb j all)))
     where
       go : (all : ℕ) → all ≡ countIn byte T → ((leb 1 j && leb j all) ≡ true) ⊎ ((leb 1 j && leb j all) ≡ false) → (leb 1 j && leb j all) ≡ false
       go all e (inl h) = absurd (none (leb-true 1 j (and-left (leb 1 j) (leb j all) h)) (rw e at (leb-true j all (and-right (leb 1 j) (leb j all) h))))

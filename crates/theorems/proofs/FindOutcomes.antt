@@ -13,7 +13,7 @@ use Rattle.format.specs.TreeReading.{textOf, headerResult, checkResult}
 use Rattle.format.specs.CheckResultLaws.{accepted-header}
 use Rattle.format.specs.Answers.{Answer, refused, isCounted, numberOfByte, findRefusal, found, total, FindBy}
 use Rattle.format.specs.FindAnswerLaws.{select-lets, select-passes}
-use Rattle.theory_counts.specs.Theorems as tallies
+use Rattle.theory_counts.specs.Theorems as counts
 use Rattle.theorems.specs.Promises.{CountedIn}
 use Rattle.theorems.proofs.AcceptedTree.{among-counted}
 use Rattle.theorems.proofs.RefusalNumbers.{OneOf, asks-one, not-zero, of-left, of-right, header-one, then-one}
@@ -51,7 +51,7 @@ module _ (t : List ℕ) (byte j : ℕ) where
       go (inr z) (inr w) =
           let v : ok ≡ 0 = omega arith in
           let e = a .accepted (omega arith) v in
-          let below = tallies.place-below t (sound v) byte j (select-passes t byte j (omega arith)) in
+          let below = counts.place-below t (sound v) byte j (select-passes t byte j (omega arith)) in
           placed (ap (λ (x : Answer). x .number) e) (rw (ap (λ (x : Answer). x .value) e) below)
 
   -- A returned place is a place of the text.
@@ -71,4 +71,4 @@ pub select-through : (t : List ℕ) → checkResult t ≡ 0 → (byte j : ℕ) �
     → findRefusal t byte j ≡ 0
 select-through t v byte j k low high =
     let c = among-counted t byte k in
-    select-lets t byte j (record { pass = accepted-header t v; counted = c; low = low; high = rw (tallies.total-of-text t v byte c) high })
+    select-lets t byte j (record { pass = accepted-header t v; counted = c; low = low; high = rw (counts.total-of-text t v byte c) high })

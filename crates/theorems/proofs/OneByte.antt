@@ -7,10 +7,10 @@ use Prim.Native.Nat.{ℕ, _+_, _-_, _≤_, _<_}
 use native.Mathlib.Omega.{arith}
 use lib.ListN.{length, getD, take}
 use lib.Dec.{eqb}
-use Rattle.text.specs.Text.{countIn, placeOf, stretch}
+use Rattle.text.specs.Text.{countIn, placeOf, substring}
 use Rattle.text.specs.CountLaws.{place-nth, one, count-start, count-add, count-next, Nth, nth-place, nth-high}
 use Rattle.text.specs.ListLaws.{lt-or-ge}
-use Rattle.text.specs.TextLaws.{stretch-ext}
+use Rattle.text.specs.TextLaws.{substring-ext}
 
 -- The texts have the same length and differ at place d, and nowhere else.
 pub record OneByte (T U : List ℕ) (d : ℕ) : Type 0 where
@@ -37,15 +37,15 @@ one-small c x = go (eqb c x)
 
 module _ (T U : List ℕ) (d : ℕ) (k : OneByte T U d) (c : ℕ) where
   -- Up to the place the texts are the same.
-  same-before : (i : ℕ) → i ≤ d → stretch T 0 i ≡ stretch U 0 i
+  same-before : (i : ℕ) → i ≤ d → substring T 0 i ≡ substring U 0 i
   same-before i h =
-      stretch-ext T U 0 0 i (omega (arith, k .within)) (omega (arith, k .within, k .same-length))
+      substring-ext T U 0 0 i (omega (arith, k .within)) (omega (arith, k .within, k .same-length))
       (λ x l. k .elsewhere (0 + x) (omega (arith, k .within)) (λ e. omega arith))
 
   -- The bytes after d are equal.
-  same-past : (x : ℕ) → d + 1 + x ≤ length T → stretch T (d + 1) x ≡ stretch U (d + 1) x
+  same-past : (x : ℕ) → d + 1 + x ≤ length T → substring T (d + 1) x ≡ substring U (d + 1) x
   same-past x h =
-      stretch-ext T U (d + 1) (d + 1) x h (omega (arith, k .same-length))
+      substring-ext T U (d + 1) (d + 1) x h (omega (arith, k .same-length))
       (λ y l. k .elsewhere (d + 1 + y) (omega arith) (λ e. omega arith))
 
   -- The counts in the first i bytes, the places below i, are equal for i up to d.
@@ -67,7 +67,7 @@ module _ (T U : List ℕ) (d : ℕ) (k : OneByte T U d) (c : ℕ) where
     where
       -- The bytes before the place, at it, and after it.
       parts : (X : List ℕ) (x : ℕ) → d < length X
-          → countIn c (take (d + 1 + x) X) ≡ countIn c (stretch X 0 d) + one c (getD X d 0) + countIn c (stretch X (d + 1) x)
+          → countIn c (take (d + 1 + x) X) ≡ countIn c (substring X 0 d) + one c (getD X d 0) + countIn c (substring X (d + 1) x)
       parts X x l =
           let e : 0 + d ≡ d = omega arith in
           let f : 0 + (d + 1) ≡ d + 1 = omega arith in

@@ -7,7 +7,7 @@ use native.Mathlib.Omega.{arith}
 use contract.Lifetimes.{Lfts}
 use denote.Ref.{now}
 use lib.ListN.{length, drop}
-use Rattle.text.specs.Text.{stretch, rowOf}
+use Rattle.text.specs.Text.{substring, rowOf}
 use Rattle.format.specs.Answers.{NeverZero, replied, rowMost, rowRefusal}
 use Rattle.format.specs.Layout.{Settings}
 use Rattle.format.specs.Layout as at
@@ -43,7 +43,7 @@ module _ (κs : Lfts 2) (t : Borrowed) (q : ℕ) (buffer after : Borrowed) where
   -- On a tree that the check refuses, the bytes copied are those that the paths give from some place on, and 13 means that the buffer is shorter than
   -- some such bytes.
   pub row-free : (checkResult (now t) ≡ 0 → ⊥) → (m : ℕ) → Row κs t q buffer after (rows.Bytes m)
-      → (p : ℕ) × (p + m ≤ at.textLength (now t)) × (now after ≡ stretch (textOf (now t)) p m ++ drop m (now buffer))
+      → (p : ℕ) × (p + m ≤ at.textLength (now t)) × (now after ≡ substring (textOf (now t)) p m ++ drop m (now buffer))
   row-free refuses m a = free-copied (now t) q (now buffer) (checkResult (now t)) 0 m (now after) (a .answers) refuses refl
 
   pub row-free-short : (checkResult (now t) ≡ 0 → ⊥) → Row κs t q buffer after (rows.Refused 13)

@@ -6,7 +6,7 @@ use Prim.Native.Nat.{ℕ, _+_, _≤_, _<_}
 use contract.Lifetimes.{Lfts}
 use denote.Ref.{now}
 use lib.ListN.{length, drop}
-use Rattle.text.specs.Text.{stretch}
+use Rattle.text.specs.Text.{substring}
 use Rattle.format.specs.Layout as at
 use Rattle.format.specs.TreeReading.{textOf}
 use Rattle.format.specs.Answers.{rowMost}
@@ -34,7 +34,7 @@ module _ (κs : Lfts 3) (t guide : Borrowed) (q : ℕ) (buffer after : Borrowed)
   -- If the tree or the guide is refused, the bytes copied are those that the paths give from some place on, on an accepted tree those of its text, and 13
   -- means that the buffer is shorter than some such bytes.
   pub row-guided-free : (guideRefusal (now t) (now guide) ≡ 0 → ⊥) → (m : ℕ) → RowGuided κs t guide q buffer after (rows.Bytes m)
-      → (p : ℕ) × (p + m ≤ at.textLength (now t)) × (now after ≡ stretch (textOf (now t)) p m ++ drop m (now buffer))
+      → (p : ℕ) × (p + m ≤ at.textLength (now t)) × (now after ≡ substring (textOf (now t)) p m ++ drop m (now buffer))
   row-guided-free refuses m a = free-copied (now t) q (now buffer) (guideRefusal (now t) (now guide)) 0 m (now after) (a .answers) refuses refl
 
   pub row-guided-free-short : (guideRefusal (now t) (now guide) ≡ 0 → ⊥) → RowGuided κs t guide q buffer after (rows.Refused 13)

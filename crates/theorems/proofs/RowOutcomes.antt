@@ -10,13 +10,13 @@ use lib.ListN.{length, drop, replicate}
 use lib.Dec.{eqb}
 use lib.Seq.{drop-at}
 use borrow.Author.Tests.{lt-ltb}
-use Rattle.text.specs.Text.{tabulate, stretch, rowOf}
-use Rattle.text.specs.TextLaws.{length-stretch}
+use Rattle.text.specs.Text.{tabulate, substring, rowOf}
+use Rattle.text.specs.TextLaws.{length-substring}
 use Rattle.text.specs.ListLaws.{bool-cases, lt-or-ge}
 use Rattle.format.specs.Layout as at
 use Rattle.format.specs.TreeReading.{Path, pathOf, textOf, ask, headerResult}
 use Rattle.format.specs.Answers.{Answer, unless, byteAnswer, byteOf, pathsHold, copyRefusal, copyAnswer, copyBuffer}
-use Rattle.format.specs.Answers.{rowMost, rowRefusal, lastRowRefusal, isUnterminatedRow, RowStretch, RowBy}
+use Rattle.format.specs.Answers.{rowMost, rowRefusal, lastRowRefusal, isUnterminatedRow, RowSubstring, RowBy}
 use Rattle.format.specs.RowRefusalLaws.{asks-last, row-number-last, row-number-plain, row-header}
 use Rattle.theory_paths.specs.OneText.{text-length}
 use Rattle.theory_paths.specs.PlaceBytes.{held-bytes}
@@ -51,11 +51,11 @@ module _ (t : List ℕ) where
   row-first : (q n : ℕ) → 1 ≤ n → n ≡ rowRefusal t q → OneOf (5 ∷ 6 ∷ 7 ∷ 11 ∷ 12 ∷ 13 ∷ 14 ∷ []) n
   row-first q n low e = of-more (5 ∷ 6 ∷ 7 ∷ 11 ∷ 12 ∷ []) (14 ∷ []) 13 n (row-before q n low e)
 
--- How a stretch of the text is copied along its paths: not for want of room, as the bytes that its paths give, or as zeros if a path breaks.
+-- How a substring of the text is copied along its paths: not for want of room, as the bytes that its paths give, or as zeros if a path breaks.
 module _ (t : List ℕ) (p len : ℕ) (buffer : List ℕ) where
   data CopyOutcome (n size : ℕ) (after : List ℕ) : Type 0 where
     no-space : n ≡ 13 → length buffer < len → after ≡ buffer → CopyOutcome n size after
-    bytes : n ≡ 0 → size ≡ len → len ≤ length buffer → after ≡ stretch (textOf t) p len ++ drop len buffer → CopyOutcome n size after
+    bytes : n ≡ 0 → size ≡ len → len ≤ length buffer → after ≡ substring (textOf t) p len ++ drop len buffer → CopyOutcome n size after
     zeros : n ≡ 14 → len ≤ length buffer → after ≡ replicate len 0 ++ drop len buffer → CopyOutcome n size after
 
   copy-answer : (k : ℕ) → copyRefusal t p len (length buffer) ≡ k
@@ -109,29 +109,29 @@ module _ (t : List ℕ) (q : ℕ) (buffer : List ℕ) where
     copied : n ≡ 0 → size ≤ length buffer → drop size after ≡ drop size buffer → RowOutcome n size after
 
   module _ (ok n size : ℕ) (after : List ℕ) (a : RowBy t ok q buffer n size after) where
-    stretch-copied : rowRefusal t q ≡ 0 → (s : RowStretch t q buffer n size after) → CopyOutcome t (s .start) (s .len) buffer n size after
-    stretch-copied z s = copy-outcome t (s .start) (s .len) buffer (row-header t q z) (s .within) n size after (s .number-is) (s .size-is) (s .after-is)
+    substring-copied : rowRefusal t q ≡ 0 → (s : RowSubstring t q buffer n size after) → CopyOutcome t (s .start) (s .len) buffer n size after
+    substring-copied z s = copy-outcome t (s .start) (s .len) buffer (row-header t q z) (s .within) n size after (s .number-is) (s .size-is) (s .after-is)
 
     -- If `ok` is not 0, every outcome other than 14 and a refusal before the walk is the copy of some part of the text.
-    free-stretch : (ok ≡ 0 → ⊥) → (n ≡ rowRefusal t q → 0 < rowRefusal t q → ⊥) → (n ≡ 14 → ⊥)
-        → (s : RowStretch t q buffer n size after) × CopyOutcome t (s .start) (s .len) buffer n size after
-    free-stretch refuses not-asked not-14 = go (lt-or-ge 0 (rowRefusal t q))
+    free-substring : (ok ≡ 0 → ⊥) → (n ≡ rowRefusal t q → 0 < rowRefusal t q → ⊥) → (n ≡ 14 → ⊥)
+        → (s : RowSubstring t q buffer n size after) × CopyOutcome t (s .start) (s .len) buffer n size after
+    free-substring refuses not-asked not-14 = go (lt-or-ge 0 (rowRefusal t q))
       where
-        either : rowRefusal t q ≡ 0 → ((n ≡ 14) × (size ≡ 0) × (after ≡ buffer)) ⊎ RowStretch t q buffer n size after
-            → (s : RowStretch t q buffer n size after) × CopyOutcome t (s .start) (s .len) buffer n size after
+        either : rowRefusal t q ≡ 0 → ((n ≡ 14) × (size ≡ 0) × (after ≡ buffer)) ⊎ RowSubstring t q buffer n size after
+            → (s : RowSubstring t q buffer n size after) × CopyOutcome t (s .start) (s .len) buffer n size after
         either e (inl h) = absurd (not-14 (h .0))
-        either e (inr s) = (s, stretch-copied e s)
+        either e (inr s) = (s, substring-copied e s)
 
-        go : (0 < rowRefusal t q) ⊎ (rowRefusal t q ≤ 0) → (s : RowStretch t q buffer n size after) × CopyOutcome t (s .start) (s .len) buffer n size after
+        go : (0 < rowRefusal t q) ⊎ (rowRefusal t q ≤ 0) → (s : RowSubstring t q buffer n size after) × CopyOutcome t (s .start) (s .len) buffer n size after
         go (inl low) = absurd (not-asked (a .asked low .0) low)
         go (inr passed) = either (omega arith) (a .free (omega arith) refuses)
 
     -- The bytes copied are those that the paths give from some place on.
-    pub free-copied : (ok ≡ 0 → ⊥) → n ≡ 0 → (p : ℕ) × (p + size ≤ at.textLength t) × (after ≡ stretch (textOf t) p size ++ drop size buffer)
-    free-copied refuses z = let f = free-stretch refuses (λ e low. omega arith) (λ e. omega arith) in from (f .0) (f .1)
+    pub free-copied : (ok ≡ 0 → ⊥) → n ≡ 0 → (p : ℕ) × (p + size ≤ at.textLength t) × (after ≡ substring (textOf t) p size ++ drop size buffer)
+    free-copied refuses z = let f = free-substring refuses (λ e low. omega arith) (λ e. omega arith) in from (f .0) (f .1)
       where
-        from : (s : RowStretch t q buffer n size after) → CopyOutcome t (s .start) (s .len) buffer n size after
-            → (p : ℕ) × (p + size ≤ at.textLength t) × (after ≡ stretch (textOf t) p size ++ drop size buffer)
+        from : (s : RowSubstring t q buffer n size after) → CopyOutcome t (s .start) (s .len) buffer n size after
+            → (p : ℕ) × (p + size ≤ at.textLength t) × (after ≡ substring (textOf t) p size ++ drop size buffer)
         from s (bytes e size-is room same) = (s .start, omega (arith, s .within), rw size-is same)
         from s (no-space e small same) = absurd (let y : ⊥ = omega arith in y)
         from s (zeros e room same) = absurd (let y : ⊥ = omega arith in y)
@@ -139,10 +139,10 @@ module _ (t : List ℕ) (q : ℕ) (buffer : List ℕ) where
     -- 13 means that the buffer is shorter than some such bytes
     pub free-short : (ok ≡ 0 → ⊥) → n ≡ 13 → (p : ℕ) × (len : ℕ) × (p + len ≤ at.textLength t) × (length buffer < len)
     free-short refuses z =
-        let f = free-stretch refuses (λ e low. not-13 (rw z at (row-before t q n (omega arith) e))) (λ e. omega arith) in
+        let f = free-substring refuses (λ e low. not-13 (rw z at (row-before t q n (omega arith) e))) (λ e. omega arith) in
         from (f .0) (f .1)
       where
-        from : (s : RowStretch t q buffer n size after) → CopyOutcome t (s .start) (s .len) buffer n size after
+        from : (s : RowSubstring t q buffer n size after) → CopyOutcome t (s .start) (s .len) buffer n size after
             → (p : ℕ) × (len : ℕ) × (p + len ≤ at.textLength t) × (length buffer < len)
         from s (no-space e small same) = (s .start, s .len, s .within, small)
         from s (bytes e size-is room same) = absurd (let y : ⊥ = omega arith in y)
@@ -156,17 +156,17 @@ module _ (t : List ℕ) (q : ℕ) (buffer : List ℕ) where
     pub row-outcome : RowOutcome n size after
     row-outcome = go (lt-or-ge 0 (rowRefusal t q)) (lt-or-ge 0 ok) (lt-or-ge (length buffer) (length (rowOf (textOf t) q)))
       where
-        from-copy : (s : RowStretch t q buffer n size after) → CopyOutcome t (s .start) (s .len) buffer n size after → RowOutcome n size after
+        from-copy : (s : RowSubstring t q buffer n size after) → CopyOutcome t (s .start) (s .len) buffer n size after → RowOutcome n size after
         from-copy s (no-space z small same) = short z same
         from-copy s (bytes z size-is room same) =
             copied z (omega arith)
-            (rw (size-is, same) (drop-at (stretch (textOf t) (s .start) (s .len)) (drop (s .len) buffer) (s .len)
-            (length-stretch (textOf t) (s .start) (s .len) (omega (arith, s .within, text-length t)))))
+            (rw (size-is, same) (drop-at (substring (textOf t) (s .start) (s .len)) (drop (s .len) buffer) (s .len)
+            (length-substring (textOf t) (s .start) (s .len) (omega (arith, s .within, text-length t)))))
         from-copy s (zeros z room same) = broken z (inr (s .len, room, s .short, same))
 
-        free-outcome : rowRefusal t q ≡ 0 → ((n ≡ 14) × (size ≡ 0) × (after ≡ buffer)) ⊎ RowStretch t q buffer n size after → RowOutcome n size after
+        free-outcome : rowRefusal t q ≡ 0 → ((n ≡ 14) × (size ≡ 0) × (after ≡ buffer)) ⊎ RowSubstring t q buffer n size after → RowOutcome n size after
         free-outcome z (inl h) = broken (h .0) (inl (h .2))
-        free-outcome z (inr s) = from-copy s (stretch-copied z s)
+        free-outcome z (inr s) = from-copy s (substring-copied z s)
 
         go : (0 < rowRefusal t q) ⊎ (rowRefusal t q ≤ 0) → (0 < ok) ⊎ (ok ≤ 0)
             → (length buffer < length (rowOf (textOf t) q)) ⊎ (length (rowOf (textOf t) q) ≤ length buffer) → RowOutcome n size after

@@ -6,14 +6,14 @@ use Prim.Native.Nat.{ℕ, _≤_, _<_, _*_, _/_}
 use contract.Lifetimes.{Lfts}
 use denote.Ref.{now}
 use lib.ListN.{length, take, drop}
-use Rattle.text.specs.Text.{stretch}
+use Rattle.text.specs.Text.{substring}
 use Rattle.format.specs.Layout.{Settings, given}
 use Rattle.format.specs.Layout as at
 use Rattle.format.specs.FittingText.{fits}
 use Rattle.build_by_search.specs.declared.BuildAnswer.the-variants as built
 use Rattle.build_by_scan.specs.declared.BuildScannedAnswer.the-variants as scanned
 use Rattle.query_access.specs.declared.SpanAnswer.{SpanAnswer}
-use Rattle.query_access.specs.declared.SpanAnswer.the-variants as copied
+use Rattle.query_access.specs.declared.SpanAnswer.the-variants as span
 use Rattle.columns.specs.Columns.{widthOk, columns}
 use Rattle.columns.specs.ColumnLaws.{columns-length, restored}
 use Rattle.columns.proofs.Theorems as rearranging
@@ -29,7 +29,7 @@ use Rattle.theorems.proofs.PublicCall.{Borrowed}
 abbrev pub RowsOf : Borrowed → ℕ → List ℕ → Type 0
 RowsOf t w T =
     (κs : Lfts 2) (a : ℕ) (buffer after : Borrowed) (r : SpanAnswer) → ByColumns κs t w a buffer after r → a < length T / w → w ≤ length (now buffer)
-    → (r ≡ copied.Bytes w 0) × (now after ≡ stretch T (a * w) w ++ drop w (now buffer))
+    → (r ≡ span.Bytes w 0) × (now after ≡ substring T (a * w) w ++ drop w (now buffer))
 
 -- Every question is answered from the rearranged text.
 module _ (t : Borrowed) (S : Settings) (w : ℕ) (T : List ℕ) (ok : widthOk w (length T) ≡ true) where

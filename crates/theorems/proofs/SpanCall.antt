@@ -16,7 +16,7 @@ use Rattle.format.specs.TreeReading.{textOf, headerResult, checkResult, asks}
 use Rattle.format.specs.CheckResultLaws.{accepted-header}
 use Rattle.format.specs.Answers.{spanBlocks, spanReached, bufferAfter, spanBytes, spanRefusal, spanAnswer, spanBuffer, spanQuestions}
 use Rattle.format.specs.AnswerLaws.{next-passes, asks-pass}
-use Rattle.theory_edges.specs.Theorems as margins
+use Rattle.theory_edges.specs.Theorems as edges
 use Rattle.query_access.proofs.Theorems as access
 use Rattle.query_access.specs.declared.SpanAnswer.{SpanAnswer}
 use Rattle.query_access.specs.declared.SpanAnswer.the-variants as copied
@@ -71,7 +71,7 @@ module _ (κs : Lfts 2) (t : Borrowed) (p : TextPlace) (len : ℕ) (buffer after
         s .1,
         rw (s .2) (blocks-of-span (now t) (w .pass) (p .0) len (w .reached)),
         w .fits,
-        rw left (drop-at bytes (drop len (now buffer)) len (margins.span-length (now t) (w .pass) (p .0) len (w .reached))),
+        rw left (drop-at bytes (drop len (now buffer)) len (edges.span-length (now t) (w .pass) (p .0) len (w .reached))),
       )
 
   module _ (n : ℕ) (a : Span κs t p len buffer after (copied.Refused n)) where
@@ -111,7 +111,7 @@ module _ (t : Borrowed) (v : checkResult (now t) ≡ 0) where
     span-of = λ κs p len buffer after r a low room.
         let in-text : p .0 + len ≤ at.textLength (now t) = omega (arith, size) in
         let w = access.span-copies t v κs p len buffer after r in-text room a in
-        (spanBlocks (now t) (p .0) len, blocks-of-span (now t) pass (p .0) len (margins.span-reached (now t) v (p .0) len in-text), w .0, w .2);
+        (spanBlocks (now t) (p .0) len, blocks-of-span (now t) pass (p .0) len (edges.span-reached (now t) v (p .0) len in-text), w .0, w .2);
   }
 
   -- A refused span answers its number, and leaves the buffer.

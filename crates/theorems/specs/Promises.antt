@@ -11,7 +11,7 @@ use contract.Lifetimes.{Lfts}
 use denote.Ref.{now}
 use lib.ListN.{length, getD, take, drop}
 use lib.Dec.{eqb}
-use Rattle.text.specs.Text.{stretch, countIn, placeOf, rowOf, rowsOf}
+use Rattle.text.specs.Text.{substring, countIn, placeOf, rowOf, rowsOf}
 use Rattle.format.specs.Layout.{Settings, lengthOk, sizesOk, countedOk, given}
 use Rattle.format.specs.Layout as at
 use Rattle.format.specs.TreeReading.{Path, pathOf, Short, shortOf}
@@ -92,7 +92,7 @@ module _ (t : Borrowed) (S : Settings) (T : List ℕ) where
     -- A place of the text: a part of the tree's own bytes, at least one, which are the bytes of the text from the place on.
     pub run-of : (κs : Lfts 1) (p : TextPlace) (r : Borrowed) → Run κs t p r → p .0 < length T
         → (from : ℕ) × (size : ℕ) × (1 ≤ size) × (from + size ≤ length (now t)) × (r .ptr ≡ (t .ptr .0, t .ptr .1 + from))
-        × (now r ≡ take size (drop from (now t))) × (p .0 + size ≤ length T) × (now r ≡ stretch T (p .0) size)
+        × (now r ≡ take size (drop from (now t))) × (p .0 + size ≤ length T) × (now r ≡ substring T (p .0) size)
 
   pub record RunRefuses : Type 0 where
     -- A place past the end of the text: no bytes.
@@ -103,7 +103,7 @@ module _ (t : Borrowed) (S : Settings) (T : List ℕ) where
     -- A span inside the text that fits the buffer: its bytes at the start of the buffer, the rest unchanged; with the number of blocks entered.
     pub span-of : (κs : Lfts 2) (p : TextPlace) (len : ℕ) (buffer after : Borrowed) (r : SpanAnswer) → Span κs t p len buffer after r
         → p .0 + len ≤ length T → len ≤ length (now buffer)
-        → (e : ℕ) × BlocksOfSpan (now t) (S .levels) (p .0) len e × (r ≡ copied.Bytes len e) × (now after ≡ stretch T (p .0) len ++ drop len (now buffer))
+        → (e : ℕ) × BlocksOfSpan (now t) (S .levels) (p .0) len e × (r ≡ copied.Bytes len e) × (now after ≡ substring T (p .0) len ++ drop len (now buffer))
 
   pub record SpanRefuses : Type 0 where
     -- A span past the end of the text: 10, and the buffer is unchanged.
@@ -221,7 +221,7 @@ module _ (t : Borrowed) (S : Settings) (T : List ℕ) where
     -- T is a text by columns: row a of that text, all w bytes, at the buffer's start, the rest of the buffer unchanged.
     pub column-of : (κs : Lfts 2) (w a : ℕ) (buffer after : Borrowed) (r : SpanAnswer) → ByColumns κs t w a buffer after r
         → widthOk w (length T) ≡ true → a < length T / w → w ≤ length (now buffer)
-        → (r ≡ copied.Bytes w 0) × (now after ≡ stretch (uncolumns w T) (a * w) w ++ drop w (now buffer))
+        → (r ≡ copied.Bytes w 0) × (now after ≡ substring (uncolumns w T) (a * w) w ++ drop w (now buffer))
 
   pub record ColumnRefuses : Type 0 where
     -- Width 0, or the length of the text is no multiple of the width: 20, and the buffer is unchanged.

@@ -7,7 +7,7 @@ use lib.ListN.{length, getD}
 use borrow.Author.Tests.{eq-eqb}
 use Rattle.text.specs.ListLaws.{and-both, bool-clash, allBelow-make}
 use mathlib.Core.Logic.{_⊎_, inl, inr}
-use Rattle.text.specs.Text.{stretch, countIn}
+use Rattle.text.specs.Text.{substring, countIn}
 use Rattle.format.specs.Layout.{Settings}
 use Rattle.format.specs.Blocks.{treeOf}
 use Rattle.format.specs.Layout as at
@@ -33,21 +33,21 @@ module _ (S : Settings) (T : List ℕ) (h : Taken S T) where
   byte-is c = ap (λ (s : Settings). getD (s .counted) c 0) (sym (read-settings S T h))
 
   module _ (l i c : ℕ) (e : l < S .levels) (il : i < count S T l) (cl : c < length (S .counted)) where
-    before-true : (up : ℕ) → up ≡ parentOf S T l (start S T l i) → at.before t l i c ≡ countIn (byte c) (stretch T up (at.start t l i - up))
+    before-true : (up : ℕ) → up ≡ parentOf S T l (start S T l i) → at.before t l i c ≡ countIn (byte c) (substring T up (at.start t l i - up))
     unfolding beforeOf
     before-true up is = read-before S T h l i e il c cl ∙ rw (read-start S T h l i e il, is, byte-is c)
 
-    inside-true : at.inside t l i c ≡ countIn (byte c) (stretch T (at.start t l i) (at.blockLengthAt t l i))
+    inside-true : at.inside t l i c ≡ countIn (byte c) (substring T (at.start t l i) (at.blockLengthAt t l i))
     unfolding insideOf
     inside-true = read-inside S T h l i e il c cl ∙ rw (read-start S T h l i e il, read-blockLength S T h l i e il, byte-is c)
 
-    skip-true : at.skip t l i c ≡ cond (at.isKept t l i) 0 (countIn (byte c) (stretch T (at.start t l (at.link t l i)) (at.gap t l i)))
+    skip-true : at.skip t l i c ≡ cond (at.isKept t l i) 0 (countIn (byte c) (substring T (at.start t l (at.link t l i)) (at.gap t l i)))
     unfolding skipOf
     skip-true = read-skip S T h l i e il c cl ∙ rw (read-isKept S T h l i e il, byte-is c) (go (keptAt S T l i) refl (upper-or-last S T h l e))
       where
         go : (y : Bool) → keptAt S T l i ≡ y → (suc l < S .levels) ⊎ (suc l ≡ S .levels)
-            → cond y 0 (countIn (byte c) (stretch T (start S T l (targetOf S T l i)) (placeOf S T l i - start S T l (targetOf S T l i))))
-            ≡ cond y 0 (countIn (byte c) (stretch T (at.start t l (at.link t l i)) (at.gap t l i)))
+            → cond y 0 (countIn (byte c) (substring T (start S T l (targetOf S T l i)) (placeOf S T l i - start S T l (targetOf S T l i))))
+            ≡ cond y 0 (countIn (byte c) (substring T (at.start t l (at.link t l i)) (at.gap t l i)))
         go true y _ = refl
         go false y (inr z) = bool-clash (keptAt S T l i) (kept-last S T l i z) y
         go false y (inl z) =

@@ -6,9 +6,9 @@ use Prim.Native.Nat.{ℕ, _+_, _≤_, _<_}
 use native.Mathlib.Omega.{arith}
 use lib.ListN.{length}
 use lib.Seq.{ext-getD}
-use Rattle.text.specs.Text.{allBelow, stretch}
+use Rattle.text.specs.Text.{allBelow, substring}
 use Rattle.text.specs.ListLaws.{allBelow-make, eq-sameList, or-right}
-use Rattle.text.specs.TextLaws.{length-stretch, getD-stretch}
+use Rattle.text.specs.TextLaws.{length-substring, getD-substring}
 use Rattle.format.specs.Layout.{Settings, edgesOf}
 use Rattle.format.specs.EdgeLaws.{length-edges}
 use Rattle.format.specs.Blocks.{treeOf}
@@ -41,15 +41,15 @@ module _ (S : Settings) (T : List ℕ) (h : Taken S T) where
         let in-table : i < at.levelCount t l = rw (read-levelCount S T h l e) il in
         omega (arith, rw leaf-is at (edges-inside t k l i (read-layout S T h) in-levels in-table), leaf-start-inside t k)
 
-    pub edges-are : stretch t (at.edgesAt t l i) (m + m) ≡ edgesIn S T l i
+    pub edges-are : substring t (at.edgesAt t l i) (m + m) ≡ edgesIn S T l i
     edges-are =
-        ext-getD 0 (stretch t (at.edgesAt t l i) (m + m))
-        (edgesIn S T l i) (length-stretch t (at.edgesAt t l i) (m + m) inside ∙ sym (length-edges m (stretch T (start S T l i) (bytesIn S T l i))))
-        (λ x hx. (let low : x < m + m = rw (length-stretch t (at.edgesAt t l i) (m + m) inside) at hx in
-        getD-stretch t (at.edgesAt t l i) (m + m) x low ∙ rw (read-edgesAt S T h l i e il) (edge-stands S T h l i x e il low)))
+        ext-getD 0 (substring t (at.edgesAt t l i) (m + m))
+        (edgesIn S T l i) (length-substring t (at.edgesAt t l i) (m + m) inside ∙ sym (length-edges m (substring T (start S T l i) (bytesIn S T l i))))
+        (λ x hx. (let low : x < m + m = rw (length-substring t (at.edgesAt t l i) (m + m) inside) at hx in
+        getD-substring t (at.edgesAt t l i) (m + m) x low ∙ rw (read-edgesAt S T h l i e il) (edge-stands S T h l i x e il low)))
 
-    same-edges : stretch t (at.edgesAt t l i) (at.settings t .leaf + at.settings t .leaf)
-        ≡ edgesOf (at.settings t .leaf) (stretch T (at.start t l i) (at.blockLengthAt t l i))
+    same-edges : substring t (at.edgesAt t l i) (at.settings t .leaf + at.settings t .leaf)
+        ≡ edgesOf (at.settings t .leaf) (substring T (at.start t l i) (at.blockLengthAt t l i))
     same-edges = rw (leaf-is, read-start S T h l i e il, read-blockLength S T h l i e il) edges-are
 
     block-edges : blockEdgesTrue T t l i ≡ true

@@ -9,7 +9,7 @@ use lib.ListN.{length}
 use lib.Seq.{ext-getD}
 use lib.Dec.{eqb}
 use borrow.Author.Tests.{eq-eqb}
-use Rattle.text.specs.Text.{allBelow, sumBelow, tabulate, sameList, stretch}
+use Rattle.text.specs.Text.{allBelow, sumBelow, tabulate, sameList, substring}
 use Rattle.text.specs.ListLaws.{and-both, or-left, or-right, not-eq-true, bool-clash, allBelow-make, eq-sameList, length-tabulate, getD-tabulate}
 use Rattle.format.specs.Layout.{Settings}
 use Rattle.format.specs.Blocks.{treeOf}
@@ -17,7 +17,7 @@ use Rattle.format.specs.Layout as at
 use Rattle.format.specs.TreeReading.{lastLevel}
 use Rattle.format.specs.FittingText.{blockFits, fits}
 use Rattle.theory_built.specs.BlockSizes.{Taken}
-use Rattle.text.specs.TextLaws.{length-stretch, getD-stretch}
+use Rattle.text.specs.TextLaws.{length-substring, getD-substring}
 use Rattle.theory_built.specs.Structure.{count, start, bytesIn, keptAt, widthOf}
 use Rattle.theory_built.specs.BuiltLeafBytes.{kept-last, leaf-at, bytes-fit}
 use Rattle.theory_built.specs.BuiltTargets.{placeOf, targetOf, points-to, placeOf-same}
@@ -32,12 +32,12 @@ module _ (S : Settings) (T : List ℕ) (h : Taken S T) where
   module _ (l i : ℕ) (e : l < S .levels) (il : i < count S T l) where
     -- A last-level block's leaf bytes are the text's.
     leaves-fit : suc l ≡ S .levels
-        → stretch T (at.start t l i) (at.blockLengthAt t l i) ≡ tabulate (at.blockLengthAt t l i) (λ o. at.leafByte t (at.link t l i + o))
+        → substring T (at.start t l i) (at.blockLengthAt t l i) ≡ tabulate (at.blockLengthAt t l i) (λ o. at.leafByte t (at.link t l i + o))
     leaves-fit last =
         rw (read-start S T h l i e il, read-blockLength S T h l i e il, read-link S T h l i e il, link-kept S T l i (kept-last S T l i last))
-        (ext-getD 0 (stretch T (start S T l i) len) (tabulate len leaf) (wide ∙ sym (length-tabulate len leaf))
+        (ext-getD 0 (substring T (start S T l i) len) (tabulate len leaf) (wide ∙ sym (length-tabulate len leaf))
         (λ o ol. let o< : o < len = rw wide at ol in
-        getD-stretch T (start S T l i) len o o< ∙ sym (leaf-at S T h l i o last il o<) ∙ sym (read-leafByte S T h _) ∙ sym (getD-tabulate len leaf o 0 o<)))
+        getD-substring T (start S T l i) len o o< ∙ sym (leaf-at S T h l i o last il o<) ∙ sym (read-leafByte S T h _) ∙ sym (getD-tabulate len leaf o 0 o<)))
       where
         len : ℕ
         len = bytesIn S T l i
@@ -45,12 +45,12 @@ module _ (S : Settings) (T : List ℕ) (h : Taken S T) where
         leaf : ℕ → ℕ
         leaf o = at.leafByte t (sumBelow i (widthOf S T l) + o)
 
-        wide : length (stretch T (start S T l i) len) ≡ len
-        wide = length-stretch T (start S T l i) len (bytes-fit S T h l i e il)
+        wide : length (substring T (start S T l i) len) ≡ len
+        wide = length-substring T (start S T l i) len (bytes-fit S T h l i e il)
 
     -- A pointing block's bytes are those at its occurrence.
     target-fits : suc l < S .levels → keptAt S T l i ≡ false
-        → stretch T (at.start t l i) (at.blockLengthAt t l i) ≡ stretch T (at.start t l (at.link t l i) + at.gap t l i) (at.blockLengthAt t l i)
+        → substring T (at.start t l i) (at.blockLengthAt t l i) ≡ substring T (at.start t l (at.link t l i) + at.gap t l i) (at.blockLengthAt t l i)
     target-fits up points =
         let q = points-to S T h l i up il points in
         let place : start S T l (targetOf S T l i) + (placeOf S T l i - start S T l (targetOf S T l i)) ≡ placeOf S T l i = omega (arith, q .from) in
@@ -71,13 +71,13 @@ module _ (S : Settings) (T : List ℕ) (h : Taken S T) where
     block-fits = rw (read-isPointing S T h l i e il) (go (keptAt S T l i) refl (upper-or-last S T h l e))
       where
         bytes : List ℕ
-        bytes = stretch T (at.start t l i) (at.blockLengthAt t l i)
+        bytes = substring T (at.start t l i) (at.blockLengthAt t l i)
 
         leaves : List ℕ
         leaves = tabulate (at.blockLengthAt t l i) (λ o. at.leafByte t (at.link t l i + o))
 
         pointedTo : List ℕ
-        pointedTo = stretch T (at.start t l (at.link t l i) + at.gap t l i) (at.blockLengthAt t l i)
+        pointedTo = substring T (at.start t l (at.link t l i) + at.gap t l i) (at.blockLengthAt t l i)
 
         go : (y : Bool) → keptAt S T l i ≡ y → (suc l < S .levels) ⊎ (suc l ≡ S .levels)
             → ((not (eqb l (lastLevel t)) || sameList bytes leaves) && (not (not y) || sameList bytes pointedTo)) ≡ true

@@ -7,12 +7,12 @@ use Prim.Native.Nat.{ℕ, zero, suc, _+_, _-_, _≤_, _<_, min}
 use native.Mathlib.Omega.{arith}
 use lib.ListN.{length, getD}
 use borrow.Author.Tests.{eq-eqb}
-use Rattle.text.specs.Text.{tabulate, concat, sumBelow, stretch}
+use Rattle.text.specs.Text.{tabulate, concat, sumBelow, substring}
 use Rattle.text.specs.ListLaws.{sumBelow-ext, lt-or-ge}
 use Rattle.format.specs.Layout.{Settings}
 use Rattle.format.specs.Blocks.{startsAt, isKept, width, leafBytes, startOf, lengthOf}
 use Rattle.theory_built.specs.Gather.{length-concat, getD-concat, map-tabulate, sumBelow-le}
-use Rattle.text.specs.TextLaws.{length-stretch, getD-stretch}
+use Rattle.text.specs.TextLaws.{length-substring, getD-substring}
 use Rattle.theory_built.specs.BlockSizes.{Taken, bounds, size-last}
 use Rattle.theory_built.specs.LevelBlocks.{count-le}
 use Rattle.theory_built.specs.Structure.{size, count, start, bytesIn, keptAt, widthOf, bytesIn-is, level-at, count-below}
@@ -28,12 +28,12 @@ module _ (S : Settings) (T : List ℕ) where
   width-last l i e = rw (kept-last l i e, eq-eqb (suc l) (S .levels) e)
 
   leaves : ℕ → ℕ → List ℕ
-  leaves l i = stretch T (start S T l i) (bytesIn S T l i)
+  leaves l i = substring T (start S T l i) (bytesIn S T l i)
 
   leaves-of : (m l : ℕ) → m ≡ size S T l
-      → concat (map (λ s. stretch T s (min m (length T - s))) (startsAt S T l)) ≡ concat (tabulate (count S T l) (leaves l))
+      → concat (map (λ s. substring T s (min m (length T - s))) (startsAt S T l)) ≡ concat (tabulate (count S T l) (leaves l))
   unfolding leaves startOf lengthOf
-  leaves-of m l e = rw e (ap concat (map-tabulate (λ s. stretch T s (min (size S T l) (length T - s))) (startsAt S T l)))
+  leaves-of m l e = rw e (ap concat (map-tabulate (λ s. substring T s (min (size S T l) (length T - s))) (startsAt S T l)))
 
   module _ (h : Taken S T) where
     pub bytes-fit : (l i : ℕ) → l < S .levels → i < count S T l → start S T l i + bytesIn S T l i ≤ length T
@@ -63,7 +63,7 @@ module _ (S : Settings) (T : List ℕ) where
 
     length-leaves : (l i : ℕ) → suc l ≡ S .levels → i < count S T l → length (leaves l i) ≡ widthOf S T l i
     unfolding leaves
-    length-leaves l i e il = length-stretch T (start S T l i) (bytesIn S T l i) (bytes-fit l i (omega arith) il) ∙ sym (width-last l i e)
+    length-leaves l i e il = length-substring T (start S T l i) (bytesIn S T l i) (bytes-fit l i (omega arith) il) ∙ sym (width-last l i e)
 
     widths : (l i : ℕ) → suc l ≡ S .levels → i ≤ count S T l → sumBelow i (λ i. length (leaves l i)) ≡ sumBelow i (widthOf S T l)
     widths l i e il = sumBelow-ext i _ _ (λ j jl. length-leaves l j e (omega arith))
@@ -78,7 +78,7 @@ module _ (S : Settings) (T : List ℕ) where
     leaf-at l i o e il ol =
         rw (leafBytes-is l e, ← widths l i e (omega arith))
         (getD-concat (count S T l) (leaves l) i o 0 il (rw (length-leaves l i e il, width-last l i e) ol)
-        ∙ getD-stretch T (start S T l i) (bytesIn S T l i) o ol)
+        ∙ getD-substring T (start S T l i) (bytesIn S T l i) o ol)
 
     pub leaves-le : length (leafBytes S T) ≤ length T
     leaves-le = go (S .levels) refl

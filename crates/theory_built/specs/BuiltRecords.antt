@@ -8,7 +8,7 @@ use native.Mathlib.Nat.{mul-comm}
 use lib.ListN.{length, getD, length-append}
 use lib.Seq.{getD-append-add}
 use lib.Arith.{digits-lt}
-use Rattle.text.specs.Text.{tabulate, concat, sumBelow, stretch, countIn}
+use Rattle.text.specs.Text.{tabulate, concat, sumBelow, substring, countIn}
 use Rattle.text.specs.ListLaws.{sumBelow-ext}
 use Rattle.format.specs.Layout.{Settings, wordsBytes, startField, kindField, linkField, gapField, plainFields, plainWords, countedWords}
 use Rattle.format.specs.WordLaws.{length-words}
@@ -38,13 +38,13 @@ module _ (S : Settings) (T : List ℕ) where
 
   -- The counts of byte c.
   unfoldable pub beforeOf : ℕ → ℕ → ℕ → ℕ
-  beforeOf l i c = countIn c (stretch T (parentOf l (start S T l i)) (start S T l i - parentOf l (start S T l i)))
+  beforeOf l i c = countIn c (substring T (parentOf l (start S T l i)) (start S T l i - parentOf l (start S T l i)))
 
   unfoldable pub insideOf : ℕ → ℕ → ℕ → ℕ
-  insideOf l i c = countIn c (stretch T (start S T l i) (bytesIn S T l i))
+  insideOf l i c = countIn c (substring T (start S T l i) (bytesIn S T l i))
 
   unfoldable pub skipOf : ℕ → ℕ → ℕ → ℕ
-  skipOf l i c = cond (keptAt S T l i) 0 (countIn c (stretch T (start S T l (targetOf S T l i)) (placeOf S T l i - start S T l (targetOf S T l i))))
+  skipOf l i c = cond (keptAt S T l i) 0 (countIn c (substring T (start S T l (targetOf S T l i)) (placeOf S T l i - start S T l (targetOf S T l i))))
 
   fields : ℕ → ℕ → List ℕ
   fields l i = plainFields (start S T l i) (kindOf l i) (linkOf l i) (gapOf l i)
@@ -136,7 +136,7 @@ module _ (S : Settings) (T : List ℕ) where
 
   -- A record's bytes: its words', then its edges.
   abbrev pub edgesIn : ℕ → ℕ → List ℕ
-  edgesIn l i = edgesOf (S .leaf) (stretch T (start S T l i) (bytesIn S T l i))
+  edgesIn l i = edgesOf (S .leaf) (substring T (start S T l i) (bytesIn S T l i))
 
   pub record-bytes : recordBytes S ≡ 4 * recordWords + (S .leaf + S .leaf)
   unfolding recordBytes recordWords

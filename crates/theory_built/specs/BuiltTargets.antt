@@ -6,7 +6,7 @@ use mathlib.Core.Logic.{_⊎_, inl, inr}
 use Prim.Native.Nat.{ℕ, suc, _+_, _≤_, _<_}
 use native.Mathlib.Omega.{arith}
 use lib.ListN.{length}
-use Rattle.text.specs.Text.{stretch, leftmost}
+use Rattle.text.specs.Text.{substring, leftmost}
 use Rattle.format.specs.Layout.{Settings}
 use Rattle.format.specs.Blocks.{startsAt, occurrence, target}
 use Rattle.theory_built.specs.BlockSizes.{Taken}
@@ -28,7 +28,7 @@ module _ (S : Settings) (T : List ℕ) where
   unfolding occurrence
   placeOf-is l i = refl
 
-  pub placeOf-same : (l i : ℕ) → stretch T (placeOf l i) (bytesIn S T l i) ≡ stretch T (start S T l i) (bytesIn S T l i)
+  pub placeOf-same : (l i : ℕ) → substring T (placeOf l i) (bytesIn S T l i) ≡ substring T (start S T l i) (bytesIn S T l i)
   placeOf-same l i = rw (placeOf-is l i) (leftmost-same T (start S T l i) (bytesIn S T l i))
 
   -- Block j and, where they are needed, the next one hold the bytes of block i at an earlier place, and are kept.

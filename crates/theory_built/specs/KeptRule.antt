@@ -11,7 +11,7 @@ use borrow.Author.Tests.{lt-ltb, ltb-true, eq-eqb, eqb-true}
 use Rattle.text.specs.ListLaws.{and-both, and-left, and-right, or-left, or-right, not-eq-true, bool-cases, lt-or-ge}
 use Rattle.text.specs.Text.{leftmost}
 use Rattle.format.specs.Blocks.{startOf, pairAt, firstPairAt, keptByPairs}
-use Rattle.text.specs.TextLaws.{leftmost-le, leftmost-same, leftmost-least, stretch-at, stretch-ext}
+use Rattle.text.specs.TextLaws.{leftmost-le, leftmost-same, leftmost-least, substring-at, substring-ext}
 use Rattle.theory_built.specs.OccurrencesLand.{First, Pair, FirstPair, Marks}
 
 -- The byte at each place of a text.
@@ -23,14 +23,14 @@ pub first-leftmost : (T : List ℕ) (s len : ℕ) → s + len ≤ length T → F
 first-leftmost T s len fits = record {
   within = omega (arith, leftmost-le T s len);
   absent = λ q l same. leftmost-least T s len q l
-      (stretch-ext T T q (leftmost T s len) len (omega (arith, leftmost-le T s len)) (omega (arith, leftmost-le T s len)) same ∙ leftmost-same T s len);
+      (substring-ext T T q (leftmost T s len) len (omega (arith, leftmost-le T s len)) (omega (arith, leftmost-le T s len)) same ∙ leftmost-same T s len);
 }
 
 leftmost-first : (T : List ℕ) (s len : ℕ) → First (byteAt T) (length T) s len → leftmost T s len ≡ s
 leftmost-first T s len f = go (lt-or-ge (leftmost T s len) s)
   where
     go : (leftmost T s len < s) ⊎ (s ≤ leftmost T s len) → leftmost T s len ≡ s
-    go (inl l) = absurd (f .absent (leftmost T s len) l (λ k h. stretch-at T T (leftmost T s len) s len (leftmost-same T s len) k h))
+    go (inl l) = absurd (f .absent (leftmost T s len) l (λ k h. substring-at T T (leftmost T s len) s len (leftmost-same T s len) k h))
     go (inr g) = omega (arith, leftmost-le T s len)
 
 module _ (T : List ℕ) (b : ℕ) (starts : List ℕ) where

@@ -7,7 +7,7 @@ use native.Mathlib.Omega.{arith}
 use native.Mathlib.Nat.{mul-le-mul-right}
 use lib.ListN.{length, drop, length-take, length-drop}
 use lib.Dec.{leb}
-use Rattle.text.specs.Text.{sumBelow, countBelow, stretch, countIn}
+use Rattle.text.specs.Text.{sumBelow, countBelow, substring, countIn}
 use Rattle.text.specs.CountLaws as text
 use Rattle.format.specs.Layout.{Settings}
 use Rattle.format.specs.SizeLaws.{record-edged}
@@ -23,9 +23,9 @@ use Rattle.theory_built.specs.BuiltLeafBytes.{widths-le}
 use Rattle.theory_built.specs.Pairs.{offset}
 use Rattle.theory_built.specs.BuiltRecords.{kindOf, linkOf, gapOf, beforeOf, insideOf, skipOf}
 
-stretch-le : (T : List ℕ) (p len : ℕ) → length (stretch T p len) ≤ length T
-unfolding stretch
-stretch-le T p len = rw (length-take len (drop p T), length-drop p T) (omega arith)
+substring-le : (T : List ℕ) (p len : ℕ) → length (substring T p len) ≤ length T
+unfolding substring
+substring-le T p len = rw (length-take len (drop p T), length-drop p T) (omega arith)
 
 countBelow-le : (N : ℕ) (test : ℕ → Bool) → countBelow N test ≤ N
 unfolding countBelow
@@ -41,8 +41,8 @@ cond-le true a b n p q = p
 cond-le false a b n p q = q
 
 module _ (S : Settings) (T : List ℕ) where
-  counted-le : (c p len : ℕ) → countIn c (stretch T p len) ≤ length T
-  counted-le c p len = omega (arith, text.count-le c (stretch T p len), stretch-le T p len)
+  counted-le : (c p len : ℕ) → countIn c (substring T p len) ≤ length T
+  counted-le c p len = omega (arith, text.count-le c (substring T p len), substring-le T p len)
 
   target-le : (l i : ℕ) → targetOf S T l i ≤ count S T l
   unfolding target

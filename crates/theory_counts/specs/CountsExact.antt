@@ -19,7 +19,7 @@ use Rattle.theory_paths.specs.PlacesLand.{target}
 use Rattle.theory_counts.specs.CountsLocal.{upLength, handBlock, handPlace, handPlus, upTo, beforeLocal, lastChild, keptInside, keptLocal}
 use Rattle.theory_counts.specs.CountsLocal.{pointingSkip, pointingInside, pointingLocal, blockLocal, levelLocal, countsLocal}
 use Rattle.theory_counts.specs.LevelTrue.{tally, parentPlace, Block, Level, counts-facts, counts-make}
-use Rattle.theory_counts.specs.CountedStretches.{tally-none, tally-parts, leaves-tally}
+use Rattle.theory_counts.specs.CountedSubstrings.{tally-none, tally-parts, leaves-tally}
 use Rattle.theory_counts.specs.SiblingCounts.{kept-step, last-child-tally, at-parent, neighbour}
 use Rattle.theory_counts.specs.PointedCounts.{points-hand, handed}
 

@@ -5,7 +5,7 @@ use mathlib.Core.Bool.{Bool, cond, _&&_}
 use Prim.Native.Nat.{ℕ, zero, suc, _+_, _-_, _/_, _%_}
 use lib.ListN.{getD}
 use lib.Dec.{eqb, ltb}
-use Rattle.text.specs.Text.{allBelow, stretch, countIn}
+use Rattle.text.specs.Text.{allBelow, substring, countIn}
 use Rattle.format.specs.Layout as at
 use Rattle.format.specs.TreeReading.{targetBlock, targetPlace, lastLevel}
 
@@ -16,7 +16,7 @@ module _ (t : List ℕ) where
 
   -- How often counted byte number c occurs in the first x leaf bytes of block i of the last level.
   unfoldable pub inLeafBytes : ℕ → ℕ → ℕ → ℕ → ℕ
-  inLeafBytes l i x c = countIn (byteOf c) (stretch t (at.leafOffset t + at.link t l i) x)
+  inLeafBytes l i x c = countIn (byteOf c) (substring t (at.leafOffset t + at.link t l i) x)
 
   -- The length of a full block of the level above; of the text above level 0.
   unfoldable pub upLength : ℕ → ℕ

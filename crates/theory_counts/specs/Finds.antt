@@ -11,7 +11,7 @@ use native.Mathlib.Nat.{add-mul, one-mul, zero-mul, add-zero, mul-div-cancel, mu
 use lib.Arith.{digits-div, digits-mod}
 use borrow.Author.Tests.{ne-eqb}
 use Rattle.text.specs.ListLaws.{lt-or-ge}
-use Rattle.text.specs.Text.{stretch, countIn, placeOf}
+use Rattle.text.specs.Text.{substring, countIn, placeOf}
 use Rattle.text.specs.CountLaws.{count-whole, count-mono, Nth, nth-earlier, nth-later, nth-past, nth-before, nth-place}
 use Rattle.format.specs.Layout.{pieces}
 use Rattle.format.specs.PieceLaws.{pieces-cover, pieces-start}
@@ -27,7 +27,7 @@ use Rattle.theory_paths.specs.PathWalk.{path-from-holds}
 use Rattle.theory_paths.specs.OneText.{text-length}
 use Rattle.theory_counts.specs.CountsLocal.{byteOf, inLeafBytes}
 use Rattle.theory_counts.specs.LevelTrue.{tally, parentPlace, Block, Level}
-use Rattle.theory_counts.specs.CountedStretches.{tally-none, tally-parts, fitting, points-tally, leaves-tally}
+use Rattle.theory_counts.specs.CountedSubstrings.{tally-none, tally-parts, fitting, points-tally, leaves-tally}
 use Rattle.theory_counts.specs.SiblingCounts.{child-of, child-tally}
 use Rattle.theory_counts.specs.PointedCounts.{skip-points}
 
@@ -223,8 +223,8 @@ module _ (t : List ℕ) (k : Readable t) (d : Linked t) (a : (m : ℕ) → m < H
       let below = H t - 1 - (l + 1) in
       let left : H t - 1 - l ≡ suc below = omega arith in
       let path = path-from-holds t k d below (l + 1) m o (omega arith) (child-in l i hl hi kept j hj) (h .inside) in
-      let before-is : at.before t (l + 1) m c ≡ countIn (byteOf t c) (stretch (textOf t) (s t l i) (j * w)) = child-before l i hl hi kept j hj in
-      let rank : countIn (byteOf t c) (stretch (textOf t) (s t l i) (j * w)) + (n - at.before t (l + 1) m c) ≡ n = omega arith in record {
+      let before-is : at.before t (l + 1) m c ≡ countIn (byteOf t c) (substring (textOf t) (s t l i) (j * w)) = child-before l i hl hi kept j hj in
+      let rank : countIn (byteOf t c) (substring (textOf t) (s t l i) (j * w)) + (n - at.before t (l + 1) m c) ≡ n = omega arith in record {
         inside = q .inside;
         nth = rw rank at (nth-earlier (byteOf t c) (n - at.before t (l + 1) m c) (textOf t) (s t l i) (j * w) o (rw (p .start-is) at (h .nth)));
         entered-is =
@@ -275,7 +275,7 @@ module _ (t : List ℕ) (k : Readable t) (d : Linked t) (a : (m : ℕ) → m < H
         let past : g ≤ y = nth-past x (n + at.skip t l i c) T (s t l j) g y h (omega (arith, skip-is)) in
         let o = y - g in
         let e : y ≡ g + o = omega arith in
-        let f : n + at.skip t l i c ≡ countIn x (stretch T (s t l j) g) + n = omega (arith, skip-is) in
+        let f : n + at.skip t l i c ≡ countIn x (substring T (s t l j) g) + n = omega (arith, skip-is) in
         let later : Nth x n T (s t l j + g) o = nth-later x n T (s t l j) g o (own-at y (g + o) e f h) in
         let whole : tally t c (s t l i) (len t l i) ≡ tally t c (s t l j + g) (len t l i) = points-tally t k d l i (len t l i) c hi un (omega arith) hl in
         let within : o < len t l i = nth-before x n T (s t l j + g) (len t l i) o later (omega (arith, a l hl i c hi hc .inside-is)) in record {
@@ -352,7 +352,7 @@ module _ (t : List ℕ) (k : Readable t) (d : Linked t) (a : (m : ℕ) → m < H
     lands-second past x e h =
         let f = second-holds past .0 in
         let m = n + at.skip t l i c - at.inside t l j c in
-        let rank : countIn (byteOf t c) (stretch (textOf t) (s t l j) (b t l)) + m ≡ n + at.skip t l i c = omega (arith, first-is) in
+        let rank : countIn (byteOf t c) (substring (textOf t) (s t l j) (b t l)) + m ≡ n + at.skip t l i c = omega (arith, first-is) in
         let w = own (b t l + x) (rw rank at (nth-earlier (byteOf t c) m (textOf t) (s t l j) (b t l) x (rw (f .start-is) at (h .nth)))) in
         let gap-low = w .gap-low in
         let o = b t l + x - g in
@@ -375,8 +375,8 @@ module _ (t : List ℕ) (k : Readable t) (d : Linked t) (a : (m : ℕ) → m < H
       let x = byteOf t c in
       let start = d .start0 i hi in
       let small : o < b t 0 = omega (arith, len-small t 0 i, h .inside) in
-      let before-is : at.before t 0 i c ≡ countIn x (stretch (textOf t) 0 (s t 0 i)) = rw (← start) at (top-before i hi) in
-      let rank : countIn x (stretch (textOf t) 0 (s t 0 i)) + (n - at.before t 0 i c) ≡ n = omega arith in
+      let before-is : at.before t 0 i c ≡ countIn x (substring (textOf t) 0 (s t 0 i)) = rw (← start) at (top-before i hi) in
+      let rank : countIn x (substring (textOf t) 0 (s t 0 i)) + (n - at.before t 0 i c) ≡ n = omega arith in
       let zero-is : s t 0 i ≡ 0 + s t 0 i = omega arith in
       let left : H t - 1 - 0 ≡ H t - 1 = omega arith in (
         nth-place x n (textOf t) (s t 0 i + o) (rw rank at (nth-earlier x (n - at.before t 0 i c) (textOf t) 0 (s t 0 i) o (rw zero-is at (h .nth)))),

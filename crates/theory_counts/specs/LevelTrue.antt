@@ -5,7 +5,7 @@ use mathlib.Core.Path.{_≡_}
 use Prim.Native.Nat.{ℕ, zero, suc, _-_, _*_, _/_, _<_}
 use borrow.Author.Tests.{eqb-true, eq-eqb}
 use lib.Dec.{eqb}
-use Rattle.text.specs.Text.{allBelow, stretch, countIn}
+use Rattle.text.specs.Text.{allBelow, substring, countIn}
 use Rattle.text.specs.ListLaws.{and-both, allBelow-at, allBelow-make}
 use Rattle.text.specs.Conjunctions.{parts}
 use Rattle.format.specs.Layout as at
@@ -16,7 +16,7 @@ use Rattle.theory_counts.specs.CountsLocal.{byteOf}
 module _ (t : List ℕ) where
   -- How often counted byte number c occurs in the x bytes of the text from place p.
   unfoldable pub tally : ℕ → ℕ → ℕ → ℕ
-  tally c p x = countIn (byteOf t c) (stretch (textOf t) p x)
+  tally c p x = countIn (byteOf t c) (substring (textOf t) p x)
 
   -- The start of the parent of a block of level l that starts at p; the text's on level 0.
   unfoldable pub parentPlace : ℕ → ℕ → ℕ

@@ -16,7 +16,7 @@ use Rattle.theory_paths.specs.BlockStarts.{target-full}
 use Rattle.theory_paths.specs.PlacesLand.{target, target-first, target-second}
 use Rattle.theory_counts.specs.CountsLocal.{handBlock, handPlace, handPlus, handMinus}
 use Rattle.theory_counts.specs.LevelTrue.{tally, Block, Level}
-use Rattle.theory_counts.specs.CountedStretches.{tally-parts, points-tally}
+use Rattle.theory_counts.specs.CountedSubstrings.{tally-parts, points-tally}
 
 module _ (t : List ℕ) where
   module _ (k : Readable t) (d : Linked t) where

@@ -26,7 +26,7 @@ use Rattle.theory_paths.specs.Visits.{Goes, goes}
 use Rattle.theory_paths.specs.PathWalk.{path-holds}
 use Rattle.theory_counts.specs.CountsLocal.{byteOf, inLeafBytes}
 use Rattle.theory_counts.specs.LevelTrue.{tally, parentPlace, Level}
-use Rattle.theory_counts.specs.CountedStretches.{tally-parts, leaves-tally}
+use Rattle.theory_counts.specs.CountedSubstrings.{tally-parts, leaves-tally}
 use Rattle.theory_counts.specs.SiblingCounts.{kept-step}
 use Rattle.theory_counts.specs.PointedCounts.{points-hand, skip-points}
 

@@ -17,7 +17,7 @@ use Rattle.theory_paths.specs.Links.{H, N, b, s, len, width-kept, Linked}
 use Rattle.theory_paths.specs.BlockStarts.{len-small, len-end, Parent, parent, parent-start, start-below, start-multiple, len-pos, Child, child}
 use Rattle.theory_counts.specs.CountsLocal.{upLength, lastChild}
 use Rattle.theory_counts.specs.LevelTrue.{tally, parentPlace, Block}
-use Rattle.theory_counts.specs.CountedStretches.{tally-parts}
+use Rattle.theory_counts.specs.CountedSubstrings.{tally-parts}
 
 module _ (t : List ℕ) where
   pub place-under : (l p : ℕ) → parentPlace t (l + 1) p ≡ p / b t l * b t l

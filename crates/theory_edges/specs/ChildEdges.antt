@@ -9,9 +9,9 @@ use borrow.Author.Tests.{ltb-true, eqb-true}
 use lib.Arith.{digits-div, digits-mod}
 use lib.ListN.{length, getD}
 use lib.Dec.{ltb, eqb}
-use Rattle.text.specs.Text.{sameList, stretch}
+use Rattle.text.specs.Text.{sameList, substring}
 use Rattle.text.specs.ListLaws.{and-left, and-right, and-both, sameList-true, eq-sameList}
-use Rattle.text.specs.TextLaws.{stretch-ext, stretch-at}
+use Rattle.text.specs.TextLaws.{substring-ext, substring-at}
 use Rattle.format.specs.Layout as at
 use Rattle.format.specs.LayoutLaws.{Readable, full-pos, full-step, full-last, full-falls, edges-inside, leaf-start-inside}
 use Rattle.theory_paths.specs.Links.{H, N, b, s, len, Linked}
@@ -121,10 +121,10 @@ module _ (t : List ℕ) (k : Readable t) (d : Linked t) (l i : ℕ) (hi : i < N 
         deep (first + (r - 1)) (p .block-in) .last y hy (omega (arith, p .whole, small)) ∙ ap (λ (x : ℕ). getD T x 0) e
 
     abbrev first-test : Bool
-    first-test = sameList (stretch t (at.edgesAt t l i) m) (stretch t (at.edgesAt t (l + 1) first) m)
+    first-test = sameList (substring t (at.edgesAt t l i) m) (substring t (at.edgesAt t (l + 1) first) m)
 
     abbrev last-test : Bool
-    last-test = sameList (stretch t (at.edgesAt t l i + m) m) (stretch t (last-edge + m) m)
+    last-test = sameList (substring t (at.edgesAt t l i + m) m) (substring t (last-edge + m) m)
 
     room : (j x : ℕ) → j < H t → x < N t j → at.edgesAt t j x + (m + m) ≤ length t
     room j x hj hx = omega (arith, edges-inside t k j x two hj hx, leaf-start-inside t k)
@@ -132,16 +132,16 @@ module _ (t : List ℕ) (k : Readable t) (d : Linked t) (l i : ℕ) (hi : i < N 
     pub child-edged : childEdges t l i ≡ true → Edged T t l i
     unfolding childEdges
     child-edged h =
-        let one : stretch t (at.edgesAt t l i) m ≡ stretch t first-edge m = rw (add-zero first) (sameList-true _ _ (and-left first-test last-test h)) in
-        let end : stretch t (at.edgesAt t l i + m) m ≡ stretch t (last-edge + m) m = sameList-true _ _ (and-right first-test last-test h) in
+        let one : substring t (at.edgesAt t l i) m ≡ substring t first-edge m = rw (add-zero first) (sameList-true _ _ (and-left first-test last-test h)) in
+        let end : substring t (at.edgesAt t l i + m) m ≡ substring t (last-edge + m) m = sameList-true _ _ (and-right first-test last-test h) in
         let long : m ≤ len t l i = omega (arith, f .whole, full-falls t k l (l + 1) (omega arith), small) in
         record {
-          first = λ y hm hx. stretch-at t t _ _ m one y hm ∙ first-byte y hm;
+          first = λ y hm hx. substring-at t t _ _ m one y hm ∙ first-byte y hm;
           first-zero = λ y hm hx. absurd (let z : ⊥ = omega arith in z);
           last = λ y hm hx.
               (let here : at.edgesAt t l i + (m + y) ≡ at.edgesAt t l i + m + y = omega arith in
               let there : last-edge + m + y ≡ last-edge + (m + y) = omega arith in
-              rw here (stretch-at t t _ _ m end y hm ∙ rw there (last-byte y hm)));
+              rw here (substring-at t t _ _ m end y hm ∙ rw there (last-byte y hm)));
           last-zero = λ y hm hx. absurd (let z : ⊥ = omega arith in z);
         }
 
@@ -151,11 +151,11 @@ module _ (t : List ℕ) (k : Readable t) (d : Linked t) (l i : ℕ) (hi : i < N 
         let long : m ≤ len t l i = omega (arith, f .whole, full-falls t k l (l + 1) (omega arith), small) in
         let p = part 0 (omega (arith, k .bounds .arity-low)) in
         let q = part (r - 1) last-low in
-        let one : stretch t (at.edgesAt t l i) m ≡ stretch t first-edge m =
-        stretch-ext t t _ _ m (omega (arith, room l i level-in hi)) (omega (arith, room (l + 1) (first + 0) (f .above) (p .block-in)))
+        let one : substring t (at.edgesAt t l i) m ≡ substring t first-edge m =
+        substring-ext t t _ _ m (omega (arith, room l i level-in hi)) (omega (arith, room (l + 1) (first + 0) (f .above) (p .block-in)))
         (λ y hy. e .first y hy (omega arith) ∙ sym (first-byte y hy)) in
-        let end : stretch t (at.edgesAt t l i + m) m ≡ stretch t (last-edge + m) m =
-        stretch-ext t t _ _ m (omega (arith, room l i level-in hi)) (omega (arith, room (l + 1) (first + (r - 1)) (f .above) (q .block-in)))
+        let end : substring t (at.edgesAt t l i + m) m ≡ substring t (last-edge + m) m =
+        substring-ext t t _ _ m (omega (arith, room l i level-in hi)) (omega (arith, room (l + 1) (first + (r - 1)) (f .above) (q .block-in)))
         (λ y hy.
         let here : at.edgesAt t l i + m + y ≡ at.edgesAt t l i + (m + y) = omega arith in
         let there : last-edge + m + y ≡ last-edge + (m + y) = omega arith in

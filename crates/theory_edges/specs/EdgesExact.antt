@@ -9,10 +9,10 @@ use native.Mathlib.Omega.{arith}
 use native.Mathlib.Nat.{add-assoc}
 use lib.ListN.{length, getD, replicate, length-replicate, getD-replicate}
 use lib.Seq.{ext-getD}
-use Rattle.text.specs.Text.{sameList, stretch}
+use Rattle.text.specs.Text.{sameList, substring}
 use Rattle.text.specs.ListLaws.{lt-or-ge, bool-cases, and-left, and-right, and-both, or-right, allBelow-at, allBelow-make, sameList-true, eq-sameList}
 use Rattle.text.specs.Conjunctions.{parts}
-use Rattle.text.specs.TextLaws.{length-stretch, getD-stretch, stretch-ext, stretch-at}
+use Rattle.text.specs.TextLaws.{length-substring, getD-substring, substring-ext, substring-at}
 use Rattle.format.specs.Layout as at
 use Rattle.format.specs.LayoutLaws.{Readable, edges-inside, leaf-start-inside}
 use Rattle.format.specs.TreeReading.{textOf, edgesTrue, Short, shortFrom}
@@ -25,14 +25,14 @@ use Rattle.theory_edges.specs.SpanWalk as walks
 use Rattle.theory_edges.specs.EdgesLocal.{edgeIs, ownBytes, childEdges, walkedEdges, hasFullChildren, edgesLocal, levelEdges, allEdges}
 use Rattle.theory_edges.specs.ChildEdges.{Full, full-facts, child-edged, edged-child}
 
--- A stretch of zeros, byte by byte.
-zeros-at : (t : List ℕ) (a n : ℕ) → stretch t a n ≡ replicate n 0 → (y : ℕ) → y < n → getD t (a + y) 0 ≡ 0
-zeros-at t a n e y h = sym (getD-stretch t a n y h) ∙ ap (λ (x : List ℕ). getD x y 0) e ∙ getD-replicate n y 0 0 h
+-- A substring of zeros, byte by byte.
+zeros-at : (t : List ℕ) (a n : ℕ) → substring t a n ≡ replicate n 0 → (y : ℕ) → y < n → getD t (a + y) 0 ≡ 0
+zeros-at t a n e y h = sym (getD-substring t a n y h) ∙ ap (λ (x : List ℕ). getD x y 0) e ∙ getD-replicate n y 0 0 h
 
-zeros-make : (t : List ℕ) (a n : ℕ) → a + n ≤ length t → ((y : ℕ) → y < n → getD t (a + y) 0 ≡ 0) → stretch t a n ≡ replicate n 0
+zeros-make : (t : List ℕ) (a n : ℕ) → a + n ≤ length t → ((y : ℕ) → y < n → getD t (a + y) 0 ≡ 0) → substring t a n ≡ replicate n 0
 zeros-make t a n fits z =
-    ext-getD 0 (stretch t a n) (replicate n 0) (length-stretch t a n fits ∙ sym (length-replicate n 0))
-    (λ y hy. (let low : y < n = rw (length-stretch t a n fits) at hy in getD-stretch t a n y low ∙ z y low ∙ sym (getD-replicate n y 0 0 low)))
+    ext-getD 0 (substring t a n) (replicate n 0) (length-substring t a n fits ∙ sym (length-replicate n 0))
+    (λ y hy. (let low : y < n = rw (length-substring t a n fits) at hy in getD-substring t a n y low ∙ z y low ∙ sym (getD-replicate n y 0 0 low)))
 
 module _ (T t : List ℕ) (k : Readable t) (d : Linked t) (two : at.layout t ≡ 2) (f : Fitting T t) where
   abbrev m : ℕ
@@ -49,42 +49,42 @@ module _ (T t : List ℕ) (k : Readable t) (d : Linked t) (two : at.layout t ≡
     q = w .found
 
     abbrev first : Bool
-    first = sameList (stretch t a (q .size)) (stretch t (q .from) (q .size))
+    first = sameList (substring t a (q .size)) (substring t (q .from) (q .size))
 
     abbrev second : Bool
-    second = sameList (stretch t (a + q .size) (x - q .size)) (stretch t (q .next) (x - q .size))
+    second = sameList (substring t (a + q .size) (x - q .size)) (substring t (q .next) (x - q .size))
 
     abbrev third : Bool
-    third = sameList (stretch t (a + x) (m - x)) (replicate (m - x) 0)
+    third = sameList (substring t (a + x) (m - x)) (replicate (m - x) 0)
 
     edge-facts : edgeIs t a x r ≡ true → Edge
     edge-facts h =
         let tests : (first && second && third) ≡ true = rw (w .is) at h in
         let c = parts first (second ∷ third ∷ []) tests in
-        let e1 : stretch t a (q .size) ≡ stretch T p (q .size) = sameList-true _ _ (c .0) ∙ w .first-part in
-        let e2 : stretch t (a + q .size) (x - q .size) ≡ stretch T (p + q .size) (x - q .size) = sameList-true _ _ (c .1 .0) ∙ w .next-part in
-        let e3 : stretch t (a + x) (m - x) ≡ replicate (m - x) 0 = sameList-true _ _ (c .1 .1 .0) in
+        let e1 : substring t a (q .size) ≡ substring T p (q .size) = sameList-true _ _ (c .0) ∙ w .first-part in
+        let e2 : substring t (a + q .size) (x - q .size) ≡ substring T (p + q .size) (x - q .size) = sameList-true _ _ (c .1 .0) ∙ w .next-part in
+        let e3 : substring t (a + x) (m - x) ≡ replicate (m - x) 0 = sameList-true _ _ (c .1 .1 .0) in
         record {
           own = λ y hy. own e1 e2 y hy (lt-or-ge y (q .size));
           zeros = λ y lo hi. (let e : a + y ≡ a + x + (y - x) = omega arith in rw e (zeros-at t (a + x) (m - x) e3 (y - x) (omega arith)));
         }
       where
-        own : stretch t a (q .size) ≡ stretch T p (q .size) → stretch t (a + q .size) (x - q .size) ≡ stretch T (p + q .size) (x - q .size)
+        own : substring t a (q .size) ≡ substring T p (q .size) → substring t (a + q .size) (x - q .size) ≡ substring T (p + q .size) (x - q .size)
             → (y : ℕ) → y < x → (y < q .size) ⊎ (q .size ≤ y) → getD t (a + y) 0 ≡ getD T (p + y) 0
-        own e1 e2 y hy (inl z) = stretch-at t T a p (q .size) e1 y z
+        own e1 e2 y hy (inl z) = substring-at t T a p (q .size) e1 y z
         own e1 e2 y hy (inr z) =
             let e : a + y ≡ a + q .size + (y - q .size) = omega arith in
             let g : p + y ≡ p + q .size + (y - q .size) = omega arith in
-            rw (e, g) (stretch-at t T (a + q .size) (p + q .size) (x - q .size) e2 (y - q .size) (omega arith))
+            rw (e, g) (substring-at t T (a + q .size) (p + q .size) (x - q .size) e2 (y - q .size) (omega arith))
 
     edge-make : Edge → edgeIs t a x r ≡ true
     edge-make e =
-        let e1 : stretch t a (q .size) ≡ stretch T p (q .size) =
-        stretch-ext t T a p (q .size) (omega (arith, w .few)) (omega (arith, w .few)) (λ y hy. e .own y (omega (arith, w .few))) in
-        let e2 : stretch t (a + q .size) (x - q .size) ≡ stretch T (p + q .size) (x - q .size) =
-        stretch-ext t T (a + q .size) (p + q .size) (x - q .size) (omega (arith, w .few)) (omega (arith, w .few))
+        let e1 : substring t a (q .size) ≡ substring T p (q .size) =
+        substring-ext t T a p (q .size) (omega (arith, w .few)) (omega (arith, w .few)) (λ y hy. e .own y (omega (arith, w .few))) in
+        let e2 : substring t (a + q .size) (x - q .size) ≡ substring T (p + q .size) (x - q .size) =
+        substring-ext t T (a + q .size) (p + q .size) (x - q .size) (omega (arith, w .few)) (omega (arith, w .few))
         (λ y hy. rw (add-assoc a (q .size) y, add-assoc p (q .size) y) (e .own (q .size + y) (omega arith))) in
-        let e3 : stretch t (a + x) (m - x) ≡ replicate (m - x) 0 =
+        let e3 : substring t (a + x) (m - x) ≡ replicate (m - x) 0 =
         zeros-make t (a + x) (m - x) (omega arith) (λ y hy. rw (add-assoc a x y) (e .zeros (x + y) (omega arith) (omega arith))) in
         let tests : (first && second && third) ≡ true =
         and-both (and-both (eq-sameList _ _ (e1 ∙ sym (w .first-part))) (eq-sameList _ _ (e2 ∙ sym (w .next-part)))) (eq-sameList _ _ e3) in

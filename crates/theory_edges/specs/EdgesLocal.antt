@@ -6,7 +6,7 @@ use mathlib.Core.Bool.{Bool, false, cond, not, _&&_, _||_}
 use Prim.Native.Nat.{ℕ, _+_, _-_, min}
 use lib.ListN.{replicate}
 use lib.Dec.{ltb, eqb}
-use Rattle.text.specs.Text.{allBelow, sameList, stretch}
+use Rattle.text.specs.Text.{allBelow, sameList, substring}
 use Rattle.format.specs.Layout as at
 use Rattle.format.specs.TreeReading.{Short, shortFrom}
 
@@ -15,9 +15,9 @@ module _ (t : List ℕ) where
   abbrev pub edgeIs : ℕ → ℕ → Option Short → Bool
   edgeIs a x none = false
   edgeIs a x (some q) =
-      sameList (stretch t a (q .size)) (stretch t (q .from) (q .size))
-      && sameList (stretch t (a + q .size) (x - q .size)) (stretch t (q .next) (x - q .size))
-      && sameList (stretch t (a + x) (at.settings t .leaf - x)) (replicate (at.settings t .leaf - x) 0)
+      sameList (substring t a (q .size)) (substring t (q .from) (q .size))
+      && sameList (substring t (a + q .size) (x - q .size)) (substring t (q .next) (x - q .size))
+      && sameList (substring t (a + x) (at.settings t .leaf - x)) (replicate (at.settings t .leaf - x) 0)
 
   -- The bytes of an edge of block i of level l that are its own.
   unfoldable pub ownBytes : ℕ → ℕ → ℕ
@@ -36,8 +36,8 @@ module _ (t : List ℕ) where
   childEdges l i =
       let m = at.settings t .leaf in
       let first = at.link t l i in
-      sameList (stretch t (at.edgesAt t l i) m) (stretch t (at.edgesAt t (l + 1) first) m)
-      && sameList (stretch t (at.edgesAt t l i + m) m) (stretch t (at.edgesAt t (l + 1) (first + (at.settings t .arity - 1)) + m) m)
+      sameList (substring t (at.edgesAt t l i) m) (substring t (at.edgesAt t (l + 1) first) m)
+      && sameList (substring t (at.edgesAt t l i + m) m) (substring t (at.edgesAt t (l + 1) (first + (at.settings t .arity - 1)) + m) m)
 
   -- A kept block above the last level that the text's end does not cut.
   unfoldable pub hasFullChildren : ℕ → ℕ → Bool

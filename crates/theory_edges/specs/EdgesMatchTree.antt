@@ -7,9 +7,9 @@ use Prim.Native.Nat.{ℕ, _+_, _-_, _≤_, _<_}
 use native.Mathlib.Omega.{arith}
 use lib.ListN.{length, getD}
 use lib.Seq.{ext-getD}
-use Rattle.text.specs.Text.{allBelow, stretch}
+use Rattle.text.specs.Text.{allBelow, substring}
 use Rattle.text.specs.ListLaws.{lt-or-ge, or-right, allBelow-at, allBelow-make, sameList-true, eq-sameList}
-use Rattle.text.specs.TextLaws.{length-stretch, getD-stretch}
+use Rattle.text.specs.TextLaws.{length-substring, getD-substring}
 use Rattle.format.specs.Layout.{edgesOf}
 use Rattle.format.specs.EdgeLaws.{length-edges, first-own, first-none, last-own, last-none}
 use Rattle.format.specs.Layout as at
@@ -29,13 +29,13 @@ module _ (T t : List ℕ) where
 
   -- The test of one block, and the facts that it decides.
 
-  same : (l i : ℕ) → blockEdgesTrue T t l i ≡ true → stretch t (at.edgesAt t l i) (m + m) ≡ edgesOf m (stretch T (s t l i) (len t l i))
+  same : (l i : ℕ) → blockEdgesTrue T t l i ≡ true → substring t (at.edgesAt t l i) (m + m) ≡ edgesOf m (substring T (s t l i) (len t l i))
   unfolding blockEdgesTrue
   same l i h = sameList-true _ _ h
 
   at-edge : (l i y : ℕ) → blockEdgesTrue T t l i ≡ true → y < m + m
-      → getD t (at.edgesAt t l i + y) 0 ≡ getD (edgesOf m (stretch T (s t l i) (len t l i))) y 0
-  at-edge l i y h hy = sym (getD-stretch t (at.edgesAt t l i) (m + m) y hy) ∙ ap (λ (x : List ℕ). getD x y 0) (same l i h)
+      → getD t (at.edgesAt t l i + y) 0 ≡ getD (edgesOf m (substring T (s t l i) (len t l i))) y 0
+  at-edge l i y h hy = sym (getD-substring t (at.edgesAt t l i) (m + m) y hy) ∙ ap (λ (x : List ℕ). getD x y 0) (same l i h)
 
   pub edged-facts : (l i : ℕ) → s t l i + len t l i ≤ length T → blockEdgesTrue T t l i ≡ true → Edged l i
   edged-facts l i fits h = record {
@@ -49,27 +49,27 @@ module _ (T t : List ℕ) where
     abbrev L : ℕ
     L = len t l i
 
-    front : (y : ℕ) → y < m → (y < L) ⊎ (L ≤ y) → getD t (at.edgesAt t l i + y) 0 ≡ getD (edgesOf m (stretch T (s t l i) L)) y 0
+    front : (y : ℕ) → y < m → (y < L) ⊎ (L ≤ y) → getD t (at.edgesAt t l i + y) 0 ≡ getD (edgesOf m (substring T (s t l i) L)) y 0
     front y low (inl z) = e .first y low z ∙ sym (first-own T m (s t l i) L fits y low z)
     front y low (inr z) = e .first-zero y low z ∙ sym (first-none T m (s t l i) L fits y low z)
 
-    back : (y : ℕ) → y < m → (y < L) ⊎ (L ≤ y) → getD t (at.edgesAt t l i + (m + y)) 0 ≡ getD (edgesOf m (stretch T (s t l i) L)) (m + y) 0
+    back : (y : ℕ) → y < m → (y < L) ⊎ (L ≤ y) → getD t (at.edgesAt t l i + (m + y)) 0 ≡ getD (edgesOf m (substring T (s t l i) L)) (m + y) 0
     back y low (inl z) = e .last y low z ∙ sym (last-own T m (s t l i) L fits y low z)
     back y low (inr z) = e .last-zero y low z ∙ sym (last-none T m (s t l i) L fits y low z)
 
-    byte-same : (y : ℕ) → y < m + m → getD t (at.edgesAt t l i + y) 0 ≡ getD (edgesOf m (stretch T (s t l i) L)) y 0
+    byte-same : (y : ℕ) → y < m + m → getD t (at.edgesAt t l i + y) 0 ≡ getD (edgesOf m (substring T (s t l i) L)) y 0
     byte-same y hy = go (lt-or-ge y m)
       where
-        go : (y < m) ⊎ (m ≤ y) → getD t (at.edgesAt t l i + y) 0 ≡ getD (edgesOf m (stretch T (s t l i) L)) y 0
+        go : (y < m) ⊎ (m ≤ y) → getD t (at.edgesAt t l i + y) 0 ≡ getD (edgesOf m (substring T (s t l i) L)) y 0
         go (inl z) = front y z (lt-or-ge y L)
         go (inr z) = let q : y ≡ m + (y - m) = omega arith in rw q (back (y - m) (omega arith) (lt-or-ge (y - m) L))
 
-    edges-same : stretch t (at.edgesAt t l i) (m + m) ≡ edgesOf m (stretch T (s t l i) (len t l i))
+    edges-same : substring t (at.edgesAt t l i) (m + m) ≡ edgesOf m (substring T (s t l i) (len t l i))
     edges-same =
-        ext-getD 0 (stretch t (at.edgesAt t l i) (m + m)) (edgesOf m (stretch T (s t l i) (len t l i)))
-        (length-stretch t (at.edgesAt t l i) (m + m) inside ∙ sym (length-edges m (stretch T (s t l i) (len t l i))))
-        (λ y hy. (let low : y < m + m = rw (length-stretch t (at.edgesAt t l i) (m + m) inside) at hy in
-        getD-stretch t (at.edgesAt t l i) (m + m) y low ∙ byte-same y low))
+        ext-getD 0 (substring t (at.edgesAt t l i) (m + m)) (edgesOf m (substring T (s t l i) (len t l i)))
+        (length-substring t (at.edgesAt t l i) (m + m) inside ∙ sym (length-edges m (substring T (s t l i) (len t l i))))
+        (λ y hy. (let low : y < m + m = rw (length-substring t (at.edgesAt t l i) (m + m) inside) at hy in
+        getD-substring t (at.edgesAt t l i) (m + m) y low ∙ byte-same y low))
 
     pub edged-make : blockEdgesTrue T t l i ≡ true
     unfolding blockEdgesTrue

@@ -11,8 +11,8 @@ use native.Mathlib.Nat.{add-assoc, mod-lt, div-add-mod', add-mul}
 use lib.Arith.{digits-div, digits-mod}
 use lib.ListN.{length, getD}
 use Rattle.text.specs.ListLaws.{lt-or-ge, bool-cases}
-use Rattle.text.specs.Text.{stretch}
-use Rattle.text.specs.TextLaws.{stretch-ext, stretch-add, stretch-part}
+use Rattle.text.specs.Text.{substring}
+use Rattle.text.specs.TextLaws.{substring-ext, substring-add, substring-part}
 use Rattle.format.specs.Layout as at
 use Rattle.format.specs.LayoutLaws.{Readable, full-pos, full-last, full-falls, edges-inside, leaf-start-inside, level0-holds}
 use Rattle.format.specs.TreeReading.{Visit, visit, targetBlock, targetPlace, Short, led, byEdges, shortFrom, shortOf, shortBytes}
@@ -34,13 +34,13 @@ module _ (T t : List ℕ) (k : Readable t) (d : Linked t) (two : at.layout t ≡
     pub few : found .size ≤ x
     pub first-in : found .from + found .size ≤ length t
     pub next-in : found .next + (x - found .size) ≤ length t
-    pub first-part : stretch t (found .from) (found .size) ≡ stretch T p (found .size)
-    pub next-part : stretch t (found .next) (x - found .size) ≡ stretch T (p + found .size) (x - found .size)
+    pub first-part : substring t (found .from) (found .size) ≡ substring T p (found .size)
+    pub next-part : substring t (found .next) (x - found .size) ≡ substring T (p + found .size) (x - found .size)
 
-  pub reads-bytes : (r : Option Short) (p : ℕ) (w : Reads r p) → shortBytes t x r ≡ stretch T p x
+  pub reads-bytes : (r : Option Short) (p : ℕ) (w : Reads r p) → shortBytes t x r ≡ substring T p x
   reads-bytes r p w =
       let all : w .found .size + (x - w .found .size) ≡ x = omega (arith, w .few) in
-      rw (w .is, w .first-part, w .next-part) (sym (stretch-add T p (w .found .size) (x - w .found .size)) ∙ ap (λ (z : ℕ). stretch T p z) all)
+      rw (w .is, w .first-part, w .next-part) (sym (substring-add T p (w .found .size) (x - w .found .size)) ∙ ap (λ (z : ℕ). substring T p z) all)
 
   reads-led : (vs : List Visit) (r u : Option Short) (p : ℕ) → u ≡ led vs r → Reads r p → Reads u p
   reads-led vs r u p e w = record {
@@ -56,10 +56,10 @@ module _ (T t : List ℕ) (k : Readable t) (d : Linked t) (two : at.layout t ≡
   reads-same : (r u : Option Short) (p q : ℕ) → u ≡ r → p ≡ q → Reads r p → Reads u q
   reads-same r u p q e g w = rw (e, ← g) w
 
-  reads-text : (r : Option Short) (p q : ℕ) → p + x ≤ length T → q + x ≤ length T → stretch T p x ≡ stretch T q x → Reads r p → Reads r q
+  reads-text : (r : Option Short) (p q : ℕ) → p + x ≤ length T → q + x ≤ length T → substring T p x ≡ substring T q x → Reads r p → Reads r q
   reads-text r p q hp hq e w =
       let z = w .found .size in
-      let part : (y len : ℕ) → y + len ≤ x → stretch T (p + y) len ≡ stretch T (q + y) len = λ y len h. stretch-part T T p q x y len hp hq h e in
+      let part : (y len : ℕ) → y + len ≤ x → substring T (p + y) len ≡ substring T (q + y) len = λ y len h. substring-part T T p q x y len hp hq h e in
       let a : p + 0 ≡ p = omega arith in
       let c : q + 0 ≡ q = omega arith in record {
         found = w .found;
@@ -101,10 +101,10 @@ module _ (T t : List ℕ) (k : Readable t) (d : Linked t) (two : at.layout t ≡
         let most : b t l ≤ len t l i = len-has l i (b t l) (omega arith) (omega (arith, start-below t k d l (i + 1) (c .level-in) (c .block-in), c .follows)) in
         omega (arith, len-small t l i)
 
-    first-part : stretch t (at.edgesAt t l i + (m + m - left)) left ≡ stretch T (s t l i + o) left
+    first-part : substring t (at.edgesAt t l i + (m + m - left)) left ≡ substring T (s t l i + o) left
     unfolding left
     first-part =
-        stretch-ext t T (at.edgesAt t l i + (m + m - left)) (s t l i + o) left
+        substring-ext t T (at.edgesAt t l i + (m + m - left)) (s t l i + o) left
         (omega (arith, edges-inside t k l i two (c .level-in) (omega (arith, c .block-in)), leaf-start-inside t k, short, c .past, c .before))
         (omega (arith, f .size, c .ends, c .past))
         (λ y hy.
@@ -114,12 +114,12 @@ module _ (T t : List ℕ) (k : Readable t) (d : Linked t) (two : at.layout t ≡
         rw here (e .last (m - left + y) (omega (arith, c .past, c .before, short)) (omega (arith, full, c .past, c .before, short))
         ∙ ap (λ (z : ℕ). getD T z 0) there))
 
-    second-part : stretch t (at.edgesAt t l (i + 1)) (x - left) ≡ stretch T (s t l i + o + left) (x - left)
+    second-part : substring t (at.edgesAt t l (i + 1)) (x - left) ≡ substring T (s t l i + o + left) (x - left)
     unfolding left
     second-part =
         let small = leaf-small l (c .level-in) in
         let most : x - left ≤ len t l (i + 1) = len-has l (i + 1) (x - left) (omega (arith, short)) (omega (arith, c .follows, c .ends, c .past, c .before)) in
-        stretch-ext t T (at.edgesAt t l (i + 1)) (s t l i + o + left) (x - left)
+        substring-ext t T (at.edgesAt t l (i + 1)) (s t l i + o + left) (x - left)
         (omega (arith, edges-inside t k l (i + 1) two (c .level-in) (c .block-in), leaf-start-inside t k, short))
         (omega (arith, f .size, c .ends, c .past))
         (λ y hy.
@@ -200,9 +200,9 @@ module _ (T t : List ℕ) (k : Readable t) (d : Linked t) (two : at.layout t ≡
 
   -- The bytes of a pointing block are also those of its occurrence.
   occurrence : (l i o : ℕ) → l < H t → i < N t l → at.isKept t l i ≡ false → Pointing t l i → o + x ≤ len t l i
-      → stretch T (s t l (at.link t l i) + at.gap t l i + o) x ≡ stretch T (s t l i + o) x
+      → substring T (s t l (at.link t l i) + at.gap t l i + o) x ≡ substring T (s t l i + o) x
   occurrence l i o hl hi un p ho =
-      stretch-ext T T (s t l (at.link t l i) + at.gap t l i + o) (s t l i + o) x
+      substring-ext T T (s t l (at.link t l i) + at.gap t l i + o) (s t l i + o) x
       (omega (arith, p .ends, f .size, start-below t k d l i hl hi)) (omega (arith, f .size, block-end l i hl hi))
       (λ y hy.
       let here : s t l i + o + y ≡ s t l i + (o + y) = omega arith in
@@ -255,8 +255,8 @@ module _ (T t : List ℕ) (k : Readable t) (d : Linked t) (two : at.layout t ≡
               crossing l j q cross (edged-kept j (p .target-below) (p .target-kept)) (edged-kept (j + 1) (n .below) (n .kept)) in
               reads-same _ _ _ _ refl (sym (add-assoc (s t l j) (at.gap t l i) o)) (reads-led (visit l i o ∷ []) _ _ (s t l j + q) step at-border)
 
-  nothing : (A B : List ℕ) (p q y : ℕ) → stretch A p (y - y) ≡ stretch B q (y - y)
-  unfolding stretch
+  nothing : (A B : List ℕ) (p q y : ℕ) → substring A p (y - y) ≡ substring B q (y - y)
+  unfolding substring
   nothing A B p q y = let z : y - y ≡ 0 = omega arith in rw z
 
   -- A block of the last level has leaf bytes.
@@ -268,8 +268,8 @@ module _ (T t : List ℕ) (k : Readable t) (d : Linked t) (two : at.layout t ≡
       let link = at.link t l i in
       let in-leaves : link + o + x ≤ at.leafCount t = omega (arith, leaf-below t k d i (o + x - 1) hi (omega arith)) in
       let from : ℕ = at.leafOffset t + (link + o) in
-      let same : stretch t from x ≡ stretch T (s t l i + o) x =
-      stretch-ext t T from (s t l i + o) x (omega (arith, k .size)) (omega (arith, f .size, block-end l i (omega (arith, k .bounds .levels-low)) hi))
+      let same : substring t from x ≡ substring T (s t l i + o) x =
+      substring-ext t T from (s t l i + o) x (omega (arith, k .size)) (omega (arith, f .size, block-end l i (omega (arith, k .bounds .levels-low)) hi))
       (λ y hy.
       let here : from + y ≡ at.leafOffset t + (link + (o + y)) = omega arith in
       let there : s t l i + o + y ≡ s t l i + (o + y) = omega arith in

@@ -10,8 +10,8 @@ use native.Mathlib.Omega.{arith}
 use borrow.Author.Tests.{le-leb}
 use lib.ListN.{length, drop, length-append}
 use Rattle.text.specs.ListLaws.{bool-cases, length-tabulate}
-use Rattle.text.specs.Text.{stretch, tabulate}
-use Rattle.text.specs.TextLaws.{length-stretch}
+use Rattle.text.specs.Text.{substring, tabulate}
+use Rattle.text.specs.TextLaws.{length-substring}
 use Rattle.format.specs.Layout as at
 use Rattle.format.specs.TreeReading.{linksOk, textOf, edgesTrue, headerResult, checkResult, Short, shortOf, shortBytes}
 use Rattle.format.specs.CheckResultLaws.{accepted-header, accepted-links, accepted-edges}
@@ -71,12 +71,12 @@ module _ (t : List ℕ) (r : headerResult t ≡ 0) (p len : ℕ) where
   unfolding spanBytes
   span-length reached = go (bool-cases (isShort t len))
     where
-      both : (q : Short) → Inside t len q → length (stretch t (q .from) (q .size) ++ stretch t (q .next) (len - q .size)) ≡ len
+      both : (q : Short) → Inside t len q → length (substring t (q .from) (q .size) ++ substring t (q .next) (len - q .size)) ≡ len
       both q in-tree =
           rw (
-            length-append (stretch t (q .from) (q .size)) (stretch t (q .next) (len - q .size)),
-            length-stretch t (q .from) (q .size) (in-tree .first-in),
-            length-stretch t (q .next) (len - q .size) (in-tree .next-in),
+            length-append (substring t (q .from) (q .size)) (substring t (q .next) (len - q .size)),
+            length-substring t (q .from) (q .size) (in-tree .first-in),
+            length-substring t (q .next) (len - q .size) (in-tree .next-in),
           )
           (omega (arith, in-tree .few))
 
@@ -110,7 +110,7 @@ module _ (t : List ℕ) (v : checkResult t ≡ 0) where
     pub short-holds : (q : Short) × (shortOf t p len ≡ some q)
     short-holds = (reads .found, reads .is)
 
-    pub short-text : shortBytes t len (shortOf t p len) ≡ stretch (textOf t) p len
+    pub short-text : shortBytes t len (shortOf t p len) ≡ substring (textOf t) p len
     short-text = walks.reads-bytes (textOf t) t k d (sort .two) (exact.fitting t k d) len (sort .low) (sort .high) (shortOf t p len) p reads
 
   -- Every span of the text is reached.
@@ -123,12 +123,12 @@ module _ (t : List ℕ) (v : checkResult t ≡ 0) where
       go (inr y) = rw y (paths.paths-all t r (accepted-links t v) p len fits)
 
   -- The bytes of a span are those of the text.
-  bytes : (p len : ℕ) → p + len ≤ at.textLength t → spanBytes t p len ≡ stretch (textOf t) p len
+  bytes : (p len : ℕ) → p + len ≤ at.textLength t → spanBytes t p len ≡ substring (textOf t) p len
   unfolding spanBytes
   bytes p len fits = go (bool-cases (isShort t len))
     where
       go : (isShort t len ≡ true) ⊎ (isShort t len ≡ false)
-          → cond (isShort t len) (shortBytes t len (shortOf t p len)) (tabulate len (λ k. byteAnswer t (p + k) .value)) ≡ stretch (textOf t) p len
+          → cond (isShort t len) (shortBytes t len (shortOf t p len)) (tabulate len (λ k. byteAnswer t (p + k) .value)) ≡ substring (textOf t) p len
       go (inl y) = rw y (short-text p len fits y)
       go (inr y) = rw y (paths.bytes-all t r (accepted-links t v) p len fits)
 
@@ -138,6 +138,6 @@ module _ (t : List ℕ) (v : checkResult t ≡ 0) where
   span-good p len room fits h = rw (r, le-leb _ _ fits, le-leb _ _ h, span-reached p len fits)
 
   pub span-of-text : (p len : ℕ) (buffer : List ℕ) → p + len ≤ at.textLength t → len ≤ length buffer
-      → spanBuffer t p len buffer ≡ stretch (textOf t) p len ++ drop len buffer
+      → spanBuffer t p len buffer ≡ substring (textOf t) p len ++ drop len buffer
   unfolding spanBuffer bufferAfter
   span-of-text p len buffer fits h = rw (span-good p len (length buffer) fits h, bytes p len fits)

@@ -9,10 +9,10 @@ use borrow.Author.Tests.{eqb-true, eq-eqb, ne-eqb}
 use lib.ListN.{length, getD}
 use lib.Seq.{ext-getD}
 use lib.Dec.{eqb}
-use Rattle.text.specs.Text.{tabulate, allBelow, sameList, stretch}
+use Rattle.text.specs.Text.{tabulate, allBelow, sameList, substring}
 use Rattle.text.specs.ListLaws.{and-left, and-right, and-both, bool-cases, allBelow-at, allBelow-make, sameList-true, eq-sameList, length-tabulate}
 use Rattle.text.specs.ListLaws.{getD-tabulate, below-suc, or-left, or-right, not-eq-true}
-use Rattle.text.specs.TextLaws.{length-stretch, getD-stretch, stretch-ext, stretch-at}
+use Rattle.text.specs.TextLaws.{length-substring, getD-substring, substring-ext, substring-at}
 use Rattle.format.specs.LayoutLaws.{Readable}
 use Rattle.format.specs.Layout as at
 use Rattle.format.specs.TreeReading.{lastLevel}
@@ -20,11 +20,11 @@ use Rattle.format.specs.FittingText.{blockFits, fits}
 use Rattle.theory_paths.specs.Links.{H, N, s, len, Linked, points-not-kept}
 use Rattle.theory_paths.specs.BlockStarts.{len-end, start-below}
 
--- A stretch is the list of its bytes.
-pub stretch-tabulate : (T : List ℕ) (p x : ℕ) (f : ℕ → ℕ) → p + x ≤ length T → ((o : ℕ) → o < x → getD T (p + o) 0 ≡ f o) → stretch T p x ≡ tabulate x f
-stretch-tabulate T p x f h same =
-    ext-getD 0 (stretch T p x) (tabulate x f) (length-stretch T p x h ∙ sym (length-tabulate x f))
-    (λ o l. (let m : o < x = rw (length-stretch T p x h) at l in getD-stretch T p x o m ∙ same o m ∙ sym (getD-tabulate x f o 0 m)))
+-- A substring is the list of its bytes.
+pub substring-tabulate : (T : List ℕ) (p x : ℕ) (f : ℕ → ℕ) → p + x ≤ length T → ((o : ℕ) → o < x → getD T (p + o) 0 ≡ f o) → substring T p x ≡ tabulate x f
+substring-tabulate T p x f h same =
+    ext-getD 0 (substring T p x) (tabulate x f) (length-substring T p x h ∙ sym (length-tabulate x f))
+    (λ o l. (let m : o < x = rw (length-substring T p x h) at l in getD-substring T p x o m ∙ same o m ∙ sym (getD-tabulate x f o 0 m)))
 
 module _ (T t : List ℕ) where
   pub record Fitting : Type 0 where
@@ -39,13 +39,13 @@ module _ (T t : List ℕ) where
   -- One block's two tests.
 
   abbrev bytes : ℕ → ℕ → List ℕ
-  bytes l i = stretch T (s t l i) (len t l i)
+  bytes l i = substring T (s t l i) (len t l i)
 
   abbrev leafBytes : ℕ → ℕ → List ℕ
   leafBytes l i = tabulate (len t l i) (λ o. at.leafByte t (at.link t l i + o))
 
   abbrev pointedTo : ℕ → ℕ → List ℕ
-  pointedTo l i = stretch T (s t l (at.link t l i) + at.gap t l i) (len t l i)
+  pointedTo l i = substring T (s t l (at.link t l i) + at.gap t l i) (len t l i)
 
   abbrev leavesTest : ℕ → ℕ → Bool
   leavesTest l i = not (eqb l (lastLevel t)) || sameList (bytes l i) (leafBytes l i)
@@ -80,9 +80,9 @@ module _ (T t : List ℕ) where
     size = fits-size h;
     leaves = λ i o hi ho.
         let e = leaves-fit i (block-fits h (H t - 1) i (omega arith) hi) in
-        sym (getD-stretch T (s t (H t - 1) i) (len t (H t - 1) i) o ho) ∙ ap (λ (x : List ℕ). getD x o 0) e
+        sym (getD-substring T (s t (H t - 1) i) (len t (H t - 1) i) o ho) ∙ ap (λ (x : List ℕ). getD x o 0) e
         ∙ getD-tabulate (len t (H t - 1) i) (λ y. at.leafByte t (at.link t (H t - 1) i + y)) o 0 ho;
-    points = λ l i o hl hi un ho. stretch-at T T _ _ (len t l i) (points-fit l i un (block-fits h l i hl hi)) o ho;
+    points = λ l i o hl hi un ho. substring-at T T _ _ (len t l i) (points-fit l i un (block-fits h l i hl hi)) o ho;
   }
 
   -- From the facts back to the tests.
@@ -110,7 +110,7 @@ module _ (T t : List ℕ) where
         last x e hx hy =
             let hi₁ : i < N t (H t - 1) = rw e at hx in
             let end₁ : s t (H t - 1) i + len t (H t - 1) i ≤ length T = rw e at hy in
-            rw e (leaves-last i (stretch-tabulate T _ _ (λ o. at.leafByte t (at.link t (H t - 1) i + o)) end₁ (λ o ho. f .leaves i o hi₁ ho)))
+            rw e (leaves-last i (substring-tabulate T _ _ (λ o. at.leafByte t (at.link t (H t - 1) i + o)) end₁ (λ o ho. f .leaves i o hi₁ ho)))
 
         leaves : (l < H t - 1) ⊎ (l ≡ H t - 1) → leavesTest l i ≡ true
         leaves (inl h) = leaves-above l i (omega arith)
@@ -120,7 +120,7 @@ module _ (T t : List ℕ) where
         points (inr other) = or-left _ (not-eq-true other)
         points (inl pointing) =
             or-right (not (at.isPointing t l i)) (eq-sameList _ _
-            (stretch-ext T T (s t l i) (s t l (at.link t l i) + at.gap t l i) (len t l i) end
+            (substring-ext T T (s t l i) (s t l (at.link t l i) + at.gap t l i) (len t l i) end
             (omega (arith, end, d .points l i hl hi (points-not-kept t l i pointing) .ends)) (λ o ho. f .points l i o hl hi pointing ho)))
 
     pub fits-make : fits T t ≡ true

@@ -8,14 +8,14 @@ use native.Mathlib.Omega.{arith}
 use borrow.Author.Tests.{lt-ltb, eqb-true}
 use lib.ListN.{getD}
 use lib.Dec.{eqb}
-use Rattle.text.specs.Text.{tabulate, stretch}
+use Rattle.text.specs.Text.{tabulate, substring}
 use Rattle.text.specs.ListLaws.{and-left, and-right}
 use Rattle.format.specs.Layout as at
 use Rattle.format.specs.TreeReading.{Path, pathOf, linksOk, textOf, headerResult}
 use Rattle.format.specs.LayoutLaws.{header-facts}
 use Rattle.format.specs.Answers.{Answer, refused, byteOf, byteAnswer, pathsHold}
 use Rattle.theory_paths.specs.Visits.{path-long}
-use Rattle.theory_paths.specs.FitsFacts.{stretch-tabulate}
+use Rattle.theory_paths.specs.FitsFacts.{substring-tabulate}
 use Rattle.theory_paths.specs.OneText.{text-length}
 use Rattle.theory_paths.specs.Reads.{byte-of-path, text-of-path}
 use Rattle.theory_paths.specs.Theorems.{byte-of-text}
@@ -92,7 +92,7 @@ module _ (t : List ℕ) (r : headerResult t ≡ 0) (p : ℕ) (low : p < at.textL
 -- The bytes of places whose paths all hold are those of the text, in any tree that passes questions 5 to 7.
 module _ (t : List ℕ) (r : headerResult t ≡ 0) where
   pub held-bytes : (p len : ℕ) → p + len ≤ at.textLength t → pathsHold t p len ≡ true
-      → tabulate len (λ x. byteAnswer t (p + x) .value) ≡ stretch (textOf t) p len
+      → tabulate len (λ x. byteAnswer t (p + x) .value) ≡ substring (textOf t) p len
   held-bytes p len within hold =
-      sym (stretch-tabulate (textOf t) p len (λ x. byteAnswer t (p + x) .value) (omega (arith, text-length t))
+      sym (substring-tabulate (textOf t) p len (λ x. byteAnswer t (p + x) .value) (omega (arith, text-length t))
       (λ o ho. sym (byte-text t r (p + o) (omega arith) (hold-at t len p o hold ho))))

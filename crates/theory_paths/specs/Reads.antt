@@ -8,9 +8,9 @@ use native.Mathlib.Omega.{arith}
 use native.Mathlib.Nat.{mod-lt, add-assoc}
 use borrow.Author.Tests.{lt-ltb, le-leb, eq-eqb}
 use lib.ListN.{length, getD, take, drop}
-use Rattle.text.specs.Text.{tabulate, stretch}
+use Rattle.text.specs.Text.{tabulate, substring}
 use Rattle.text.specs.ListLaws.{and-both}
-use Rattle.text.specs.TextLaws.{stretch-ext}
+use Rattle.text.specs.TextLaws.{substring-ext}
 use Rattle.format.specs.Layout as at
 use Rattle.format.specs.TreeReading.{Path, pathOf, leafOf, textOf, headerResult}
 use Rattle.format.specs.LayoutLaws.{Readable, full-pos}
@@ -18,7 +18,7 @@ use Rattle.format.specs.Answers.{Answer, byteAnswer, leftOver, runAnswer, paths
 use Rattle.theory_paths.specs.Links.{H, b}
 use Rattle.theory_paths.specs.Visits.{Goes, goes, goes-leaf}
 use Rattle.theory_paths.specs.Shift.{left-most, left-within, within-left, goes-within, path-further}
-use Rattle.theory_paths.specs.FitsFacts.{stretch-tabulate}
+use Rattle.theory_paths.specs.FitsFacts.{substring-tabulate}
 use Rattle.theory_paths.specs.OneText.{text-length, text-at}
 
 -- The x bytes from a of the tree are x bytes of the tree's text, from place p.
@@ -26,7 +26,7 @@ pub record Part (t : List ℕ) (p a x : ℕ) : Type 0 where
   pub some-byte : 1 ≤ x
   pub in-text : p + x ≤ at.textLength t
   pub in-tree : a + x ≤ length t
-  pub bytes : take x (drop a t) ≡ stretch (textOf t) p x
+  pub bytes : take x (drop a t) ≡ substring (textOf t) p x
 
 module _ (t : List ℕ) (k : Readable t) (r : headerResult t ≡ 0) (p : ℕ) (hp : p < at.textLength t) (q : Path) (e : pathOf t p ≡ some q) where
   -- Byte, where the path holds: the leaf byte at its end, which is the text's byte, and the number of blocks entered.
@@ -63,7 +63,7 @@ module _ (t : List ℕ) (k : Readable t) (r : headerResult t ≡ 0) (p : ℕ) (h
       sym (text-at t (p + d) (omega arith) ∙ ap (leafOf t) (path-further t p d q e w (omega arith)))
 
   part-of-path : Part t p (at.leafOffset t + q .leaf) size
-  unfolding stretch at.leafByte
+  unfolding substring at.leafByte
   part-of-path =
       let most = min (at.textLength t - p) (at.leafCount t - q .leaf) in
       let short = left-most t (q .visits) most in
@@ -71,7 +71,7 @@ module _ (t : List ℕ) (k : Readable t) (r : headerResult t ≡ 0) (p : ℕ) (h
         some-byte = size-low;
         in-text = omega arith;
         in-tree = in-tree;
-        bytes = stretch-ext t (textOf t) (at.leafOffset t + q .leaf) p size in-tree (omega (arith, text-length t))
+        bytes = substring-ext t (textOf t) (at.leafOffset t + q .leaf) p size in-tree (omega (arith, text-length t))
             (λ d h. rw (add-assoc (at.leafOffset t) (q .leaf) d) (run-byte d h));
       }
 
@@ -98,11 +98,12 @@ module _ (t : List ℕ) (k : Readable t) (r : headerResult t ≡ 0) (holds : (p 
   unfolding copyRefusal spanQuestions
   copy-number p len room h fits = rw (r, le-leb _ _ h, le-leb _ _ fits, paths-hold len p h)
 
-  pub bytes-of-text : (p len : ℕ) → p + len ≤ at.textLength t → tabulate len (λ x. byteAnswer t (p + x) .value) ≡ stretch (textOf t) p len
+  pub bytes-of-text : (p len : ℕ) → p + len ≤ at.textLength t → tabulate len (λ x. byteAnswer t (p + x) .value) ≡ substring (textOf t) p len
   bytes-of-text p len h =
-      sym (stretch-tabulate (textOf t) p len (λ x. byteAnswer t (p + x) .value) (omega (arith, text-length t)) (λ o ho. sym (byte-value (p + o) (omega arith))))
+      sym (substring-tabulate (textOf t) p len (λ x. byteAnswer t (p + x) .value) (omega (arith, text-length t))
+      (λ o ho. sym (byte-value (p + o) (omega arith))))
 
   pub copy-leaves : (p len : ℕ) (buffer : List ℕ) → p + len ≤ at.textLength t → len ≤ length buffer
-      → copyBuffer t p len buffer ≡ stretch (textOf t) p len ++ drop len buffer
+      → copyBuffer t p len buffer ≡ substring (textOf t) p len ++ drop len buffer
   unfolding copyBuffer bufferAfter
   copy-leaves p len buffer h fits = rw (copy-number p len (length buffer) h fits, bytes-of-text p len h)

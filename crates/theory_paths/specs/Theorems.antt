@@ -7,7 +7,7 @@ use mathlib.Core.Path.{_≡_}
 use Prim.Native.Nat.{ℕ, _+_, _-_, _*_, _/_, _%_, _≤_, _<_}
 use native.Mathlib.Omega.{arith}
 use lib.ListN.{length, getD, drop}
-use Rattle.text.specs.Text.{stretch, tabulate}
+use Rattle.text.specs.Text.{substring, tabulate}
 use Rattle.format.specs.Layout as at
 use Rattle.format.specs.TreeReading.{Path, Visit, entered, pathFrom, pathOf, linksOk, textOf, headerResult}
 use Rattle.format.specs.FittingText.{fits}
@@ -85,7 +85,7 @@ module _ (t : List ℕ) (r : headerResult t ≡ 0) (h : linksOk t ≡ true) wher
   pub paths-all : (p len : ℕ) → p + len ≤ at.textLength t → pathsHold t p len ≡ true
   paths-all p len fits = reads.paths-hold t k r no-path-breaks len p fits
 
-  pub bytes-all : (p len : ℕ) → p + len ≤ at.textLength t → tabulate len (λ x. byteAnswer t (p + x) .value) ≡ stretch (textOf t) p len
+  pub bytes-all : (p len : ℕ) → p + len ≤ at.textLength t → tabulate len (λ x. byteAnswer t (p + x) .value) ≡ substring (textOf t) p len
   bytes-all = reads.bytes-of-text t k r no-path-breaks
 
   -- Copying bytes by their paths, with room for them, is not refused, and leaves the text's bytes in the buffer.
@@ -93,5 +93,5 @@ module _ (t : List ℕ) (r : headerResult t ≡ 0) (h : linksOk t ≡ true) wher
   copy-good = reads.copy-number t k r no-path-breaks
 
   pub copy-of-text : (p len : ℕ) (buffer : List ℕ) → p + len ≤ at.textLength t → len ≤ length buffer
-      → copyBuffer t p len buffer ≡ stretch (textOf t) p len ++ drop len buffer
+      → copyBuffer t p len buffer ≡ substring (textOf t) p len ++ drop len buffer
   copy-of-text = reads.copy-leaves t k r no-path-breaks

@@ -7,9 +7,9 @@ use native.Mathlib.Omega.{arith}
 use native.Mathlib.Nat.{add-mul}
 use lib.ListN.{length, getD, length-append, List·getD-append}
 use lib.Seq.{getD-append-add, ext-getD}
-use Rattle.text.specs.Text.{tabulate, concat, sumBelow, stretch}
+use Rattle.text.specs.Text.{tabulate, concat, sumBelow, substring}
 use Rattle.text.specs.ListLaws.{lt-or-ge, sumBelow-ext, sumBelow-part, tabulate-ext}
-use Rattle.text.specs.TextLaws.{length-stretch, getD-stretch}
+use Rattle.text.specs.TextLaws.{length-substring, getD-substring}
 use Rattle.format.specs.Layout.{wordBytes, wordsBytes, Settings, maxLevels, maxCounted, countedAt, pairsAt, offsetAt, headerLength}
 use Rattle.format.specs.WordLaws.{length-words}
 use Rattle.format.specs.SizeLaws.{record-plain}
@@ -113,12 +113,12 @@ module _ (S : Settings) (T : List ℕ) (h : Taken S T) where
   unfolding layout1LeafBytes
   leaves-same =
       rw (back.read-leafOffset S T h, back.read-leafCount S T h)
-      (ext-getD 0 (stretch t (pairs.offset S T (S .levels)) (length (leafBytes S T))) (leafBytes S T) size
+      (ext-getD 0 (substring t (pairs.offset S T (S .levels)) (length (leafBytes S T))) (leafBytes S T) size
       (λ x l. (let m : x < length (leafBytes S T) = rw size at l in
-      getD-stretch t (pairs.offset S T (S .levels)) (length (leafBytes S T)) x m ∙ leaf-place S T h x)))
+      getD-substring t (pairs.offset S T (S .levels)) (length (leafBytes S T)) x m ∙ leaf-place S T h x)))
     where
-      size : length (stretch t (pairs.offset S T (S .levels)) (length (leafBytes S T))) ≡ length (leafBytes S T)
-      size = length-stretch t _ _ (omega (arith, tree-length S T h))
+      size : length (substring t (pairs.offset S T (S .levels)) (length (leafBytes S T))) ≡ length (leafBytes S T)
+      size = length-substring t _ _ (omega (arith, tree-length S T h))
 
   -- The records.
   record-at : (l i x : ℕ) → l < S .levels → i < count S T l → x < recordBytes S
@@ -136,9 +136,9 @@ module _ (S : Settings) (T : List ℕ) (h : Taken S T) where
   unfolding layout1Record
   record-same l i e il =
       rw (back.read-recordSize S T h, size-layout1)
-      (ext-getD 0 (stretch t p n) (wordsBytes (recordAt S T l i)) (size ∙ sym size-words)
+      (ext-getD 0 (substring t p n) (wordsBytes (recordAt S T l i)) (size ∙ sym size-words)
       (λ x m. (let y : x < n = rw size at m in
-      getD-stretch t p n x y ∙ record-at l i x e il (omega (arith, record-bytes S T))
+      getD-substring t p n x y ∙ record-at l i x e il (omega (arith, record-bytes S T))
       ∙ rw (bytes-are S T l i) (List·getD-append (wordsBytes (recordAt S T l i)) (edgesIn S T l i) 0 x (rw size-words y)))))
     where
       j : ℕ
@@ -156,8 +156,8 @@ module _ (S : Settings) (T : List ℕ) (h : Taken S T) where
       below : j < recordCount t
       below = rw (sizes.count-is t, levels-are, counts-are (S .levels) (omega arith)) (omega (arith, sumBelow-part (S .levels) (count S T) l e))
 
-      size : length (stretch t p n) ≡ n
-      size = length-stretch t p n (rw (back.read-recordSize S T h, size-layout1) at
+      size : length (substring t p n) ≡ n
+      size = length-substring t p n (rw (back.read-recordSize S T h, size-layout1) at
           (let z : headerLength + j * at.recordSize t + layout1RecordSize t ≤ length t = omega (arith, sizes.record-inside t k j below, k .size) in z))
 
   record-in : (l i : ℕ) → bytesOf edgelessLayout S T l i ≡ wordsBytes (recordAt S T l i)

@@ -8,8 +8,8 @@ use lib.ListN.{length, getD, take, drop, length-append, length-drop, List·getD-
 use lib.Seq.{getD-append-add, length-take-le, getD-take, getD-drop, take-all}
 use lib.Arith.{digits-lt}
 use Rattle.text.specs.ListLaws.{below-suc}
-use Rattle.text.specs.Text.{stretch}
-use Rattle.text.specs.TextLaws.{getD-stretch}
+use Rattle.text.specs.Text.{substring}
+use Rattle.text.specs.TextLaws.{getD-substring}
 use Rattle.format.specs.Layout.{wordAt, wordBytes, setWord, maxLevels, layoutAt, offsetAt, leafOffsetAt, headerLength}
 use Rattle.format.specs.WordLaws.{length-setWord, getD-setWord-other, setWord-eq}
 use Rattle.format.specs.LayoutLaws.{Readable}
@@ -143,11 +143,11 @@ module _ (t : List ℕ) where
         among =
             rw (← sizes.records-before t k j (omega arith))
             (getD-concat (recordCount t) (layout1Record t) j x 0 hj (rw (sizes.length-layout1-record t k j hj) hx)
-            ∙ getD-stretch t (headerLength + j * at.recordSize t) (layout1RecordSize t) x hx)
+            ∙ getD-substring t (headerLength + j * at.recordSize t) (layout1RecordSize t) x hx)
 
     -- The leaf bytes, and nothing after them.
     pub leaf-byte : (x : ℕ) → getD (withoutEdges t) (layout1Offset t H + x) 0 ≡ getD t (at.leafOffset t + x) 0
-    unfolding withoutEdges layout1LeafBytes stretch
+    unfolding withoutEdges layout1LeafBytes substring
     leaf-byte x =
         let rest : length (drop (at.leafOffset t) t) ≤ at.leafCount t = rw (length-drop (at.leafOffset t) t) (omega (arith, k .size)) in
         rw (← sizes.length-before-leaves t k)

@@ -3,7 +3,7 @@ use mathlib.Core.List.{List, [], _∷_, _++_}
 use mathlib.Core.Path.{_≡_, refl}
 use Prim.Native.Nat.{ℕ}
 use lib.ListN.{length, replicate, take}
-use Rattle.text.specs.Text.{tabulate, concat, sumBelow, countBelow, sameList, stretch, leftmost, firstFrom, countIn}
+use Rattle.text.specs.Text.{tabulate, concat, sumBelow, countBelow, sameList, substring, leftmost, firstFrom, countIn}
 use Rattle.format.specs.Layout.{setWord, wordAt, wordsBytes, wordBytes, Settings, blockLength, pieces, recordLength, edgesOf, filledOut}
 use Rattle.format.specs.Blocks.{treeOf, header, leafBytes, levelPairs, recordBytes, levelBytes, recordIn, recordOf, target, occurrence, width, isKept}
 use Rattle.format.specs.Blocks.{startsAt, cut, keptByPairs, firstPairAt, pairAt, lengthOf, startOf}
@@ -54,7 +54,7 @@ pub layout1-marked : Layout1Marked
 unfolding layout1-book layout1-twelve layout1-two uncounted layout1-words layout1-by-hand layout1-older layout1-older-twelve withoutEdges
     layout1RecordSize layout1Offset offsetsIn layout1Header recordCount
     layout1Record layout1Records layout1LeafBytes treeIn headerIn pairsIn levelIn bytesOf sizeIn tabulate concat sumBelow countBelow sameList setWord
-    wordAt wordsBytes wordBytes stretch leftmost firstFrom countIn blockLength pieces recordLength treeOf header leafBytes levelPairs recordBytes
+    wordAt wordsBytes wordBytes substring leftmost firstFrom countIn blockLength pieces recordLength treeOf header leafBytes levelPairs recordBytes
     edgesOf filledOut levelBytes recordIn recordOf target occurrence width isKept startsAt cut keptByPairs firstPairAt pairAt lengthOf startOf
     at.levelCount at.levelOffset at.layout at.textLength at.countedCount at.settings at.leafOffset at.leafCount at.recordSize at.field at.start
     at.kind at.link at.gap at.before at.inside at.skip at.edgesAt at.leafByte at.fullLength at.blockLengthAt at.isKept at.isPointing at.hasEdges

@@ -9,9 +9,9 @@ use native.Mathlib.Nat.{add-mul}
 use lib.ListN.{length, getD, take, drop}
 use lib.Dec.{leb, eqb}
 use borrow.Author.Tests.{le-leb, eq-eqb}
-use Rattle.text.specs.Text.{allBelow, sumBelow, stretch}
+use Rattle.text.specs.Text.{allBelow, sumBelow, substring}
 use Rattle.text.specs.ListLaws.{and-both, allBelow-make, sumBelow-ext, sumBelow-part}
-use Rattle.text.specs.TextLaws.{stretch-ext}
+use Rattle.text.specs.TextLaws.{substring-ext}
 use Rattle.format.specs.Layout.{wordAt, Settings, maxLevels, maxCounted, lengthOk, sizesOk, countedOk, pieces}
 use Rattle.format.specs.LayoutLaws.{fieldCount, Readable}
 use Rattle.format.specs.SizeLaws.{record-plain}
@@ -66,8 +66,8 @@ module _ (t : List ℕ) (k : Readable t) (small : at.leafOffset t < 4294967296) 
   }
 
   counted-places : take maxCounted (drop countedAt u) ≡ take maxCounted (drop countedAt t)
-  unfolding stretch
-  counted-places = stretch-ext u t countedAt countedAt maxCounted (omega (arith, long)) (omega (arith, k .long)) counted-byte
+  unfolding substring
+  counted-places = substring-ext u t countedAt countedAt maxCounted (omega (arith, long)) (omega (arith, k .long)) counted-byte
 
   pub read-settings : at.settings u ≡ at.settings t
   unfolding at.settings

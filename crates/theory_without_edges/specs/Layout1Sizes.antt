@@ -8,7 +8,7 @@ use lib.ListN.{length, take, length-append}
 use lib.Seq.{length-take-le}
 use Rattle.text.specs.Text.{sumBelow}
 use Rattle.text.specs.ListLaws.{sumBelow-ext}
-use Rattle.text.specs.TextLaws.{length-stretch}
+use Rattle.text.specs.TextLaws.{length-substring}
 use Rattle.format.specs.Layout.{setWord, fieldBytes, layoutAt, offsetAt, leafOffsetAt, headerLength}
 use Rattle.format.specs.WordLaws.{length-setWord}
 use Rattle.format.specs.LayoutLaws.{Readable, size-low}
@@ -71,7 +71,7 @@ module _ (t : List ℕ) where
 
     pub length-layout1-record : (j : ℕ) → j < recordCount t → length (layout1Record t j) ≡ layout1RecordSize t
     unfolding layout1Record
-    length-layout1-record j h = length-stretch t _ (layout1RecordSize t) (omega (arith, record-inside j h, k .size))
+    length-layout1-record j h = length-substring t _ (layout1RecordSize t) (omega (arith, record-inside j h, k .size))
 
     pub records-before : (n : ℕ) → n ≤ recordCount t → sumBelow n (λ j. length (layout1Record t j)) ≡ n * layout1RecordSize t
     records-before n h = sumBelow-ext n _ _ (λ j l. length-layout1-record j (omega arith)) ∙ sumBelow-same n (layout1RecordSize t)
@@ -82,7 +82,7 @@ module _ (t : List ℕ) where
 
     pub length-layout1-leaves : length (layout1LeafBytes t) ≡ at.leafCount t
     unfolding layout1LeafBytes
-    length-layout1-leaves = length-stretch t (at.leafOffset t) (at.leafCount t) (omega (arith, k .size))
+    length-layout1-leaves = length-substring t (at.leafOffset t) (at.leafCount t) (omega (arith, k .size))
 
     pub length-before-leaves : length (layout1Header t ++ layout1Records t) ≡ layout1Offset t (at.settings t .levels)
     length-before-leaves = rw (length-append (layout1Header t), length-layout1-header (k .long), length-layout1-records, offset-end)

@@ -6,7 +6,7 @@ use mathlib.Core.Path.{_≡_, refl, ap}
 use Prim.Native.Nat.{ℕ, zero, suc, _+_, _-_, _*_}
 use lib.ListN.{length, replicate}
 use lib.Dec.{eqb}
-use Rattle.text.specs.Text.{tabulate, concat, sumBelow, stretch}
+use Rattle.text.specs.Text.{tabulate, concat, sumBelow, substring}
 use Rattle.format.specs.Layout.{wordsBytes, Settings, maxCounted, maxLevels, blockLength, recordLength, headerLength, edgesOf}
 use Rattle.format.specs.Blocks.{startOf, lengthOf, startsAt, recordOf, recordIn, levelBytes, leafBytes, builtLayout, recordBytes, levelPairs, header, treeOf}
 
@@ -20,7 +20,7 @@ module _ (v : ℕ) (S : Settings) (T : List ℕ) where
   bytesOf l i =
       let starts = startsAt S T l in
       let b = blockLength S l in
-      wordsBytes (recordOf S T l starts i) ++ cond (eqb v 2) (edgesOf (S .leaf) (stretch T (startOf T b starts i) (lengthOf T b starts i))) []
+      wordsBytes (recordOf S T l starts i) ++ cond (eqb v 2) (edgesOf (S .leaf) (substring T (startOf T b starts i) (lengthOf T b starts i))) []
 
   unfoldable pub levelIn : ℕ → List ℕ
   levelIn l = concat (tabulate (length (startsAt S T l)) (bytesOf l))

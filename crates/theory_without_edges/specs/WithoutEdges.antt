@@ -4,7 +4,7 @@
 use mathlib.Core.List.{List, _++_}
 use Prim.Native.Nat.{ℕ, zero, suc, _+_, _*_, _<_}
 use lib.ListN.{getD, take}
-use Rattle.text.specs.Text.{tabulate, concat, sumBelow, stretch}
+use Rattle.text.specs.Text.{tabulate, concat, sumBelow, substring}
 use Rattle.format.specs.Layout.{setWord, fieldBytes, layoutAt, offsetAt, leafOffsetAt, headerLength}
 use Rattle.format.specs.Layout as at
 
@@ -42,7 +42,7 @@ module _ (t : List ℕ) where
 
   -- Record j without its edges.
   unfoldable pub layout1Record : ℕ → List ℕ
-  layout1Record j = stretch t (headerLength + j * at.recordSize t) layout1RecordSize
+  layout1Record j = substring t (headerLength + j * at.recordSize t) layout1RecordSize
 
   -- All records without their edges.
   unfoldable pub layout1Records : List ℕ
@@ -50,7 +50,7 @@ module _ (t : List ℕ) where
 
   -- The leaf bytes, unchanged.
   unfoldable pub layout1LeafBytes : List ℕ
-  layout1LeafBytes = stretch t (at.leafOffset t) (at.leafCount t)
+  layout1LeafBytes = substring t (at.leafOffset t) (at.leafCount t)
 
   -- The tree in layout 1.
   unfoldable pub withoutEdges : List ℕ

@@ -11,7 +11,7 @@ use denote.Ref.{RefT, now}
 use lib.ListN.{length, getD, take, drop}
 use lib.Seq.{take-append-seam}
 use lib.Dec.{leb}
-use Rattle.text.specs.Text.{stretch}
+use Rattle.text.specs.Text.{substring}
 use Rattle.format.specs.Answers.{replied, buildRefusal, buildSize, buildBuffer, byteAnswer, spanRefusal, spanBuffer}
 use Rattle.format.specs.Layout.{Settings, lengthOk, sizesOk, countedOk, given}
 use Rattle.format.specs.Blocks.{treeOf}
@@ -107,10 +107,10 @@ module _ (κs : Lfts 3) (text : RefT (List ℕ)) (leaf arity levels : ℕ) (coun
 
   -- Demand 2, span: it copies the bytes of the text.
   pub build-span : (p len : ℕ) (lent : List ℕ) → p + len ≤ at.textLength tree → len ≤ length lent
-      → (spanRefusal tree p len (length lent) ≡ 0) × (spanBuffer tree p len lent ≡ stretch T p len ++ drop len lent)
+      → (spanRefusal tree p len (length lent) ≡ 0) × (spanBuffer tree p len lent ≡ substring T p len ++ drop len lent)
   build-span p len lent h room = (
     edges.span-good tree build-accepted p len (length lent) h room,
-    edges.span-of-text tree build-accepted p len lent h room ∙ ap (λ (U : List ℕ). stretch U p len ++ drop len lent) build-text,
+    edges.span-of-text tree build-accepted p len lent h room ∙ ap (λ (U : List ℕ). substring U p len ++ drop len lent) build-text,
   )
 
 -- The contract determines the result and the buffer, so they cannot depend on the base or the modulus that a builder uses.

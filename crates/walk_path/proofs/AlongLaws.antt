@@ -21,12 +21,12 @@ use Rattle.walk_path.proofs.AboveLaws.{above-last, above-kept, above-po
 use Rattle.walk_path.proofs.WalkLaws.{from-past, from-off-lands}
 
 -- A step to the right, in blocks of c bytes.
-carry-div : (o d c : ℕ) → 0 < c → (o + d) / c ≡ o / c + (o % c + d) / c
+pub carry-div : (o d c : ℕ) → 0 < c → (o + d) / c ≡ o / c + (o % c + d) / c
 carry-div o d c pos =
     let e : o + d ≡ o % c + d + c * (o / c) = omega (arith, div-add-mod' o c, mul-comm c (o / c)) in
     ap (λ (x : ℕ). x / c) e ∙ add-mul-div-left (o % c + d) (o / c) pos ∙ omega arith
 
-carry-mod : (o d c : ℕ) → (o + d) % c ≡ (o % c + d) % c
+pub carry-mod : (o d c : ℕ) → (o + d) % c ≡ (o % c + d) % c
 carry-mod o d c =
     let e : o + d ≡ o % c + d + c * (o / c) = omega (arith, div-add-mod' o c, mul-comm c (o / c)) in
     ap (λ (x : ℕ). x % c) e ∙ add-mul-mod-self-left (o % c + d) c (o / c)

@@ -16,7 +16,7 @@ use Rattle.format.specs.SizeLaws.{maxRecord}
 use Rattle.format.specs.Layout as at
 use Rattle.format.specs.TreeReading.{Visit, keptBlock, targetBlock, targetPlace, Short, led, byEdges, inLeaf}
 use Rattle.format.specs.LayoutLaws.{Readable, size-high, full-pos}
-use Rattle.theory_edges.specs.SpanSteps as margins
+use Rattle.theory_edges.specs.SpanSteps as edges
 use Rattle.theory_paths.specs.PlacesLand.{target-first, target-second}
 use Rattle.layout.specs.declared.place.BlockNumber.{BlockNumber}
 use Rattle.layout.specs.declared.place.BlockPlace.{BlockPlace}
@@ -84,7 +84,7 @@ module _ (t : List ℕ) (size level b o entered : ℕ) (k : Crossing t size leve
   unfolding gathered
   over-at i e m more is m-is =
       let next : e + size ≡ at.edgesAt t level (i + 1) = omega (arith, edges-next i, k .on .size-is) in
-      rw (margins.edges-give t level i o more, next, is, k .on .b-is, leaf-word m m-is)
+      rw (edges.edges-give t level i o more, next, is, k .on .b-is, leaf-word m m-is)
 
   -- The number of blocks, of bytes in the last edge, and the place of the first of them are small.
   pub over-small : (m e : ℕ) → m ≡ wordAt t leafAt → e ≤ 2 ^ 32 * maxRecord + 2 ^ 32 + fieldBytes maxCounted

@@ -14,7 +14,7 @@ use Rattle.format.specs.Layout.{maxText, maxLeaf, maxLevels}
 use Rattle.format.specs.Layout as at
 use Rattle.format.specs.TreeReading.{Visit, visit, keptBlock, pointingBlock, targetBlock, targetPlace, Short, led, byEdges, inLeaf, shortFrom, shortOf}
 use Rattle.format.specs.LayoutLaws.{Readable, full-pos}
-use Rattle.theory_edges.specs.SpanSteps as margins
+use Rattle.theory_edges.specs.SpanSteps as edges
 use Rattle.theory_edges.specs.SpanPlaces as places
 use Rattle.theory_paths.specs.Shift.{target-small}
 use Rattle.layout.specs.declared.header.Header.{Header}
@@ -58,7 +58,7 @@ module _ (t : List ℕ) (size level b i o len entered : ℕ) (w : Walking t size
   over-asks past = record { on = w .on; place-in = w .place-in; near = omega (arith, w .short); few = omega (arith, w .few) }
 
   pub over-by : b < o + len → (r : Gathered) → r ≡ gathered entered (byEdges t level i o) → Whole r
-  over-by past r e = e ∙ ap (gathered entered) (sym (margins.over t (H - 1 - level) level i o len (omega (arith, w .on .b-is))))
+  over-by past r e = e ∙ ap (gathered entered) (sym (edges.over t (H - 1 - level) level i o len (omega (arith, w .on .b-is))))
 
   -- The span lies in the block.
   module _ (fits : o + len ≤ b) where
@@ -68,7 +68,7 @@ module _ (t : List ℕ) (size level b i o len entered : ℕ) (w : Walking t size
     pub last-by : level + 1 ≡ at.settings t .levels → (r : Gathered) → r ≡ gathered entered (inLeaf t level i o len) → Whole r
     last-by last r e =
         let z : H - 1 - level ≡ 0 = omega (arith, last) in
-        e ∙ rw (z, margins.last-is t level i o len fits-full)
+        e ∙ rw (z, edges.last-is t level i o len fits-full)
 
     module _ (more : level + 1 ≡ at.settings t .levels → ⊥) where
       below : ℕ
@@ -115,7 +115,7 @@ module _ (t : List ℕ) (size level b i o len entered : ℕ) (w : Walking t size
       kept-case kept = record {
         land-is = rw kept;
         few = omega arith;
-        walk-is = (visit level i o ∷ [], refl, margins.kept-step t level i o len fits-full below kept);
+        walk-is = (visit level i o ∷ [], refl, edges.kept-step t level i o len fits-full below kept);
       }
 
       target-case : keptBlock t level i ≡ false → pointingBlock t level i ≡ true → p + len ≤ at.fullLength t level → keptBlock t level j ≡ true → Inside j p 2
@@ -123,19 +123,19 @@ module _ (t : List ℕ) (size level b i o len entered : ℕ) (w : Walking t size
       target-case un pt inside kept = record {
         land-is = rw (un, pt, le-leb (p + len) (at.fullLength t level) inside, kept);
         few = omega arith;
-        walk-is = (visit level i o ∷ visit level j p ∷ [], refl, margins.points-step t level i o len fits-full below un pt kept inside);
+        walk-is = (visit level i o ∷ visit level j p ∷ [], refl, edges.points-step t level i o len fits-full below un pt kept inside);
       }
 
       off-case : keptBlock t level i ≡ false → pointingBlock t level i ≡ true → p + len ≤ at.fullLength t level → keptBlock t level j ≡ false → Off
       unfolding landing pointedTo
       off-case un pt inside kept = record {
         land-is = rw (un, pt, le-leb (p + len) (at.fullLength t level) inside, kept);
-        walk-is = margins.off-target t level i o len fits-full below un pt kept inside;
+        walk-is = edges.off-target t level i o len fits-full below un pt kept inside;
       }
 
       none-case : keptBlock t level i ≡ false → pointingBlock t level i ≡ false → Off
       unfolding landing
-      none-case un pt = record { land-is = rw (un, pt); walk-is = margins.off-step t level i o len fits-full below un pt }
+      none-case un pt = record { land-is = rw (un, pt); walk-is = edges.off-step t level i o len fits-full below un pt }
 
       between-case : keptBlock t level i ≡ false → pointingBlock t level i ≡ true → at.fullLength t level < p + len → Between j p
       unfolding landing pointedTo
@@ -143,7 +143,7 @@ module _ (t : List ℕ) (size level b i o len entered : ℕ) (w : Walking t size
         land-is = rw (un, pt, lt-leb (p + len) (at.fullLength t level) past);
         place-in = rw (w .on .b-is) (target-small t level i o pt (omega (arith, w .place-in, w .on .b-is)));
         past = omega (arith, w .on .b-is);
-        walk-is = margins.between-step t level i o len fits-full below un pt past;
+        walk-is = edges.between-step t level i o len fits-full below un pt past;
       }
 
       cases : Cases

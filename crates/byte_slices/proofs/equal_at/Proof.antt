@@ -1,12 +1,12 @@
 -- `equal_at` meets its contract: the subslices that it passes on are the two ranges of bytes.
 use native.Mathlib.Nat.{add-sub-cancel-left}
 use borrow.Author.Needs.{needs}
-use Rattle.text.specs.Text.{stretch}
+use Rattle.text.specs.Text.{substring}
 use Rattle.byte_slices.proofs.equal_at.Statement.{statement}
 use Rattle.byte_slices.proofs.equal_at.Tie as tie
 
 pub equal-at-spec : {M : Type 1} → statement M
-unfolding stretch
+unfolding substring
 equal-at-spec =
     tie.close
     (tie.spec

@@ -7,10 +7,10 @@ use Rattle.byte_slices.proofs.ByteSliceLaws as laws
 use Rattle.byte_slices.proofs.find_nth.Statement.{statement}
 use Rattle.byte_slices.proofs.find_nth.Tie as tie
 use Rattle.text.specs.CountLaws.{count-none, count-next-same, count-next-other}
-use Rattle.text.specs.Text.{stretch, countIn}
+use Rattle.text.specs.Text.{substring, countIn}
 
 abbrev Inv-loop : tie.InvT-loop
-Inv-loop t from n byte j left₀ i₀ left i = (i ≤ n) × (1 ≤ left) × (countIn byte (stretch t from i) + left ≡ j)
+Inv-loop t from n byte j left₀ i₀ left i = (i ≤ n) × (1 ≤ left) × (countIn byte (substring t from i) + left ≡ j)
 
 abbrev μ-loop : tie.MeasureT-loop
 μ-loop t from n byte j left₀ i₀ left i = n - i

@@ -45,6 +45,7 @@ use denote.Triple.Table.{entered, cited}
 use denote.Triple.Walked.{says, Stays, stay-none, stay-none-slice, walkOf, goes-none, goes-none-slice, Walks, ends-at, walked, walk-meets}
 use denote.Exit.{yes}
 use denote.Signature.{plain}
+use Rattle.query_key_match.proofs.MarkValues.{mark-value}
 use Rattle.query_key_match.specs.MatchAnswer.{Moved}
 use Rattle.query_key_match.specs.declared.Mark.{Mark}
 use Rattle.query_key_match.proofs.Mark as T
@@ -83,9 +84,6 @@ module _ {M : Type 1} (𝓤 : URA M) (H : Heap 𝓤) (A : Atoms 𝓤) (W : Given
   abbrev z : Val
   z = sliceVal (g .ptr) (length (g .now))
 
-  abbrev mach : ℕ → Val
-  mach m = vstruct (vcons (vint w32 m) vnil)
-
   abbrev both : Val → ℕ → Val
   both u m = vstruct (vcons u (vcons (vint w32 m) vnil))
 
@@ -113,7 +111,7 @@ module _ {M : Type 1} (𝓤 : URA M) (H : Heap 𝓤) (A : Atoms 𝓤) (W : Given
   abbrev Own₂ : Fml
   Own₂ = ShrSlice (named 1) κ′ u8 .own g (z ∷ [])
 
-  made : (r : ℕ) → r < 2 ^ 32 → Is (T.the-row) (on r) (mach r ∷ [])
+  made : (r : ℕ) → r < 2 ^ 32 → Is (T.the-row) (on r) (mark-value r ∷ [])
   made r low = LL.owes T.the-type T′.the-laws (on r) ((refl, low), tt)
 
   returned : (f : NextRowAnswer) (u : Val) (r : ℕ) → Is S.the-row f (u ∷ []) → r < 2 ^ 32 → Is U.the-row (record { answer = f; row = r }) (both u r ∷ [])
@@ -122,13 +120,13 @@ module _ {M : Type 1} (𝓤 : URA M) (H : Heap 𝓤) (A : Atoms 𝓤) (W : Given
       rw e (LL.owes U.the-type U′.the-laws (record { answer = f; row = r }) (rw e at is, ((refl, low), tt)))
 
   -- The mark lies in its local.
-  lies : (l : ℕ) → ent 𝓤 (sem 𝓤 H A (fat fullShare τ l 0 (mach n))) (sem 𝓤 H A (partAt T.the-row fullShare (on n) l 0))
+  lies : (l : ℕ) → ent 𝓤 (sem 𝓤 H A (fat fullShare τ l 0 (mark-value n))) (sem 𝓤 H A (partAt T.the-row fullShare (on n) l 0))
   unfolding partOf
   lies l =
-      qed W (‵ (fat fullShare τ l 0 (mach n)) ∷ []) ∵
-      use1 W (‵ (cellAt fullShare (T.the-row .mir) (mach n ∷ []) l 0)) (W .laws .at-raw fullShare τ l 0 (mach n)) $
-      owned ! T.the-row (Is T.the-row) (LL.makes T.the-type T′.the-plain 𝓤 H A) (on n) (mach n ∷ []) (made n fits) $ move ! (1 ∷ 0 ∷ []) $ fjoin ! $
-      fpack ! (List Val) (λ us. fsep (cellAt fullShare (T.the-row .mir) us l 0) (T.the-row .own (on n) us)) (mach n ∷ []) $ done !
+      qed W (‵ (fat fullShare τ l 0 (mark-value n)) ∷ []) ∵
+      use1 W (‵ (cellAt fullShare (T.the-row .mir) (mark-value n ∷ []) l 0)) (W .laws .at-raw fullShare τ l 0 (mark-value n)) $
+      owned ! T.the-row (Is T.the-row) (LL.makes T.the-type T′.the-plain 𝓤 H A) (on n) (mark-value n ∷ []) (made n fits) $ move ! (1 ∷ 0 ∷ []) $ fjoin ! $
+      fpack ! (List Val) (λ us. fsep (cellAt fullShare (T.the-row .mir) us l 0) (T.the-row .own (on n) us)) (mark-value n ∷ []) $ done !
 
   -- The call of `advance_mark`, with the mark in block l lent for α under δ.
   abbrev args : ℕ → GName → RefT Mark × (RefT (List ℕ) × (RefT (List ℕ) × Unit {0}))
@@ -209,8 +207,8 @@ module _ {M : Type 1} (𝓤 : URA M) (H : Heap 𝓤) (A : Atoms 𝓤) (W : Given
         (ref-back 𝓤 H A W T.the-row (α ∷ []) δ (ws .0) l₄ 0) $ await ! tt $ fpick ! (λ vs. fsplit ! $
         spelt ! (T.the-row) (Is (T.the-row)) (shows 𝓤 H A (T.the-row)) (LL.vals T.the-type T′.the-laws) (LL.tells T.the-type T′.the-laws) fullShare
         (ws .0) vs l₄ 0 $
-        move ! (1 ∷ []) $ peeks ! (T.the-row) (Is (T.the-row)) (shows 𝓤 H A (T.the-row)) (ws .0) (mach (ws .0 .row) ∷ []) (λ was. drop ! $
-        use1 W (‵ (fat fullShare τ l₄ 0 (mach (ws .0 .row)))) (W .laws .raw-at fullShare τ l₄ 0 (mach (ws .0 .row))) $
+        move ! (1 ∷ []) $ peeks ! (T.the-row) (Is (T.the-row)) (shows 𝓤 H A (T.the-row)) (ws .0) (mark-value (ws .0 .row) ∷ []) (λ was. drop ! $
+        use1 W (‵ (fat fullShare τ l₄ 0 (mark-value (ws .0 .row)))) (W .laws .raw-at fullShare τ l₄ 0 (mark-value (ws .0 .row))) $
         -- [_4; the answer; the tokens; no more; the slices'; _7 5; _6 7; _5 9; the end of _4 11; _3 12; _2 14; _1 16; _0 18]
         assigns ! (of-opd ! (load ! (from ! (fld ! refl (stop !))) (look-in ! 0 (sub ! 0 refl (whole !))))) (from ! (stop !))
         (init ! 7 refl (tt, record { fits = LL.owed T.the-type T′.the-laws (ws .0) _ was .0 .1 })) $

@@ -43,6 +43,7 @@ use denote.Triple.Table.{entered, cited}
 use denote.Triple.Walked.{says, Stays, stay-ref, stay-none-slice, walkOf, goes-ref, goes-none-slice, Walks, ends-at, walked, walk-meets}
 use denote.Exit.{yes}
 use denote.Signature.{plain}
+use Rattle.query_key_match.proofs.MarkValues.{mark-value}
 use Rattle.query_key_match.specs.MatchAnswer.{IsMatchAnswer}
 use Rattle.query_row_filter.specs.AllowedRows.{outcomeOf}
 use Rattle.query_key_match.specs.declared.Mark.{Mark}
@@ -85,9 +86,6 @@ module _ {M : Type 1} (𝓤 : URA M) (H : Heap 𝓤) (A : Atoms 𝓤) (W : Given
 
   abbrev z : Val
   z = sliceVal (g .ptr) (length (g .now))
-
-  abbrev mach : ℕ → Val
-  mach m = vstruct (vcons (vint w32 m) vnil)
 
   abbrev Arg : Type 0
   Arg = RefT Mark × (RefT (List ℕ) × (RefT (List ℕ) × Unit {0}))
@@ -152,7 +150,7 @@ module _ {M : Type 1} (𝓤 : URA M) (H : Heap 𝓤) (A : Atoms 𝓤) (W : Given
       → ent 𝓤 (ensured 𝓤 H A after.ended (after.clauses 𝓤 H A at-mem run) tt (f, (h .row, tt)) tt r) (fact 𝓤 (r ≡ outcomeOf (h .row) f .mark))
   said-after f r = exE 𝓤 _ (λ ws. snd∗ 𝓤 (sem 𝓤 H A (lasts after.ended tt (f, (h .row, tt)) ws)) (fact 𝓤 (r ≡ outcomeOf (h .row) f .mark)))
 
-  made : (r : ℕ) → r < 2 ^ 32 → Is (T.the-row) (moved r) (mach r ∷ [])
+  made : (r : ℕ) → r < 2 ^ 32 → Is (T.the-row) (moved r) (mark-value r ∷ [])
   made r fits = LL.owes T.the-type T′.the-laws (moved r) ((refl, fits), tt)
 
   exits : (f : NextRowAnswer) (u : Val) (r : ℕ)
@@ -180,7 +178,7 @@ module _ {M : Type 1} (𝓤 : URA M) (H : Heap 𝓤) (A : Atoms 𝓤) (W : Given
         move ! (15 ∷ []) $ fsplit ! $ fsplit3 ! $ drop ! $ move ! (17 ∷ []) $ split ! $ move ! (2 ∷ 3 ∷ 0 ∷ []) $
         opens ! tt (T.the-row) {h = h} b o (λ vs. spelt ! (T.the-row)
         (Is (T.the-row)) (shows 𝓤 H A (T.the-row)) (LL.vals T.the-type T′.the-laws) (LL.tells T.the-type T′.the-laws) fullShare h vs b o $
-        move ! (1 ∷ []) $ peeks ! (T.the-row) (Is (T.the-row)) (shows 𝓤 H A (T.the-row)) h (mach (h .row) ∷ []) (λ was. move ! (1 ∷ 0 ∷ []) $
+        move ! (1 ∷ []) $ peeks ! (T.the-row) (Is (T.the-row)) (shows 𝓤 H A (T.the-row)) h (mark-value (h .row) ∷ []) (λ was. move ! (1 ∷ 0 ∷ []) $
         -- [the cell; what a Mark owns; the open borrow; obs; auth; t's token; t's and row's; _6 7; _5 9; _4 11; _3 13; _2 15; _1 17; _0 19]
         assigns ! (of-opd ! (load ! (from ! (hop ! (look ! 17 refl) (fld ! refl (stop !)))) (look-in ! 0 (sub ! 0 refl (whole !)))))
         (from ! (stop !)) (init ! 11 refl (tt, record { fits = LL.owed T.the-type T′.the-laws h _ was .0 .1 })) $
@@ -213,7 +211,7 @@ module _ {M : Type 1} (𝓤 : URA M) (H : Heap 𝓤) (A : Atoms 𝓤) (W : Given
         (from ! (stop !)) (init ! 20 refl (EL.lawful S.the-type S′.the-laws 𝓤 H A W tt .typed f _ is .0)) $
         -- The borrow is closed at the new number.
         drop ! $ move ! (3 ∷ []) $ drop ! $ owned ! (T.the-row) (Is (T.the-row)) ((LL.makes T.the-type T′.the-plain) 𝓤 H A) (moved r) _ (made r (is′ .1)) $
-        move ! (3 ∷ 0 ∷ 4 ∷ 5 ∷ 6 ∷ []) $ closes ! tt (T.the-row) (moved r) (mach r ∷ []) b o $
+        move ! (3 ∷ 0 ∷ 4 ∷ 5 ∷ 6 ∷ []) $ closes ! tt (T.the-row) (moved r) (mark-value r ∷ []) b o $
         -- [obs; the borrow; the token; t's token; what t owns; _6 5; _5 7; _4 9; _3 11; _2 13; _1 15; _0 17]
         returns ! (look ! 17 refl)
         $ forget ! 5 refl $ forget ! 7 refl $ forget ! 9 refl $ forget ! 11 refl $ forget ! 13 refl $ forget ! 15 refl $ forget ! 17 refl $

@@ -77,11 +77,6 @@ module _ {t : ℕ} (m : kept-step-lts.After-child (kept-claims t) (kept-step-at 
   below : m .before .before .quotient .result ≡ S .args .on .b / at.settings (S .args .t .now .now) .arity
   below = m .before .before .quotient .ensures ∙ ap (λ (y : ℕ). S .args .on .b / y) (x .arity-is)
 
--- After the look for a kept block.
-module _ {t : ℕ} (m : pointing-step-lts.After-to-kept (pointing-claims t) (pointing-step-at t) pointing-step.Post) where
-  abbrev from : pointing-step-lts.Start (pointing-claims t) (pointing-step-at t) pointing-step.Post
-  from = m .before .before
-
 pub +kept-step+pointing-step-spec : {M : Type 1} → statement M
 +kept-step+pointing-step-spec =
     close μ-kept-step μ-pointing-step
@@ -145,19 +140,19 @@ pub +kept-step+pointing-step-spec : {M : Type 1} → statement M
     (λ c.
     let m = c .before .before in
     sym laws.broken-word
-    ∙ laws.landed-off _ _ _ _ _ _ _ (from m .pre .1 .0) (from m .pre .1 .1) _ (m .to-kept .ensures)
+    ∙ laws.landed-off _ _ _ _ _ _ _ (m .before .before .pre .1 .0) (m .before .before .pre .1 .1) _ (m .to-kept .ensures)
     (c .enum-told .given .1))
     (λ c κs.
     let m = c .before .before .before in (
-      omega (arith, from m .pre .0),
+      omega (arith, m .before .before .pre .0),
       (
-        laws.landed-kept _ _ _ _ _ _ _ (from m .pre .1 .0) (from m .pre .1 .1) _ (m .to-kept .ensures) _ _ _
+        laws.landed-kept _ _ _ _ _ _ _ (m .before .before .pre .1 .0) (m .before .before .pre .1 .1) _ (m .to-kept .ensures) _ _ _
             (c .before .there .given .1),
-        from m .pre .1 .1,
+        m .before .before .pre .1 .1,
       ),
     ))
     (λ c.
     let m = c .before .before .before .before in
-    laws.landed-by _ _ _ _ _ _ _ (from m .pre .1 .0) (from m .pre .1 .1)
+    laws.landed-by _ _ _ _ _ _ _ (m .before .before .pre .1 .0) (m .before .before .pre .1 .1)
     _ (m .to-kept .ensures) _ _ _ (c .before .before .there .given .1) _
     (c .kept-step .ensures)))

@@ -11,15 +11,15 @@ put-leaf-spec =
     (λ c. search needs)
     (λ c. search needs)
     (λ c κs. let w = c .before .before .before in let v = w .before .before .before .before .before in
-    (laws.leaf-fits _ _ _ _ _ _ (v .pre .0) (v .pre .1) _ (w .stretch-of .ensures), w .stretch-of .ensures .fits))
+    (laws.leaf-fits _ _ _ _ _ _ (v .pre .0) (v .pre .1) _ (w .substring-of .ensures), w .substring-of .ensures .fits))
     (λ c. search needs)
     (λ c. let w = c .before .before .before .before .before .before .before .before .before .before .before in (
       laws.len-width _ _ _ _ _ _ (w .pre .0)
-          (w .pre .1) _ (c .before .before .before .before .before .before .stretch-of .ensures),
+          (w .pre .1) _ (c .before .before .before .before .before .before .substring-of .ensures),
       (
         laws.leaf-grown _ _ _ _ _ _ (w .pre .0) (w .pre .1) _
-            (c .before .before .before .before .before .before .stretch-of .ensures) _ (c .before .before .copy .ensures),
+            (c .before .before .before .before .before .before .substring-of .ensures) _ (c .before .before .copy .ensures),
         laws.leaf-within _ _ _ _ _ _
-            (w .pre .0) (w .pre .1) _ (c .before .before .before .before .before .before .stretch-of .ensures) _ (c .before .before .copy .ensures),
+            (w .pre .0) (w .pre .1) _ (c .before .before .before .before .before .before .substring-of .ensures) _ (c .before .before .copy .ensures),
       ),
     )))

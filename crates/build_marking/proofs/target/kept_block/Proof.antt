@@ -9,4 +9,4 @@ kept-block-spec =
     (λ c κs. c .before .before .before .pre .0)
     (λ c κs. c .before .before .before .before .before .pre .0 .level-is .above-low)
     (λ c. let w = c .before .before .before .before .before .before in
-    laws.kept-is _ _ _ _ _ (w .pre .0) _ (c .before .before .stretch-of .ensures) _ (c .parent .ensures) _ (w .pre .1 .0) (w .pre .1 .1)))
+    laws.kept-is _ _ _ _ _ (w .pre .0) _ (c .before .before .substring-of .ensures) _ (c .parent .ensures) _ (w .pre .1 .0) (w .pre .1 .1)))

@@ -24,4 +24,4 @@ pointing-block-spec =
     (w .pre .1 .0) _ (w .pre .1 .1) _ (c .before .before .before .before .holder .ensures) _ (c .before .before .before .start2 .ensures))
     (λ c. let w = c .before .before .before .before .before .before .before .before .before .before in laws.pointing-is _ _ _ _ _ (w .pre .0)
     (w .pre .1 .0) _ (w .pre .1 .1) _ (c .before .before .before .before .holder .ensures) _ (c .before .before .before .start2 .ensures)
-    _ (c .before .before .before .before .before .before .stretch-of .ensures) _ (c .before .before .parent .ensures)))
+    _ (c .before .before .before .before .before .before .substring-of .ensures) _ (c .before .before .parent .ensures)))

@@ -27,7 +27,7 @@ put-children-of-spec =
     (λ c κs. let w = c .before .before .before .before .before .before .before .before .before .before in laws.children-on _ _ _ _ _ _ (w .pre .0) (w .pre .1))
     (λ c κs. let w = c .before .before .before .before in let v = w .before .before .before .before .before .before .before in
     laws.pieces-asks _ _ _ _ _ _ (v .pre .0) (v .pre .1) _ (w .before .before .before .place .ensures .0)
-    _ (w .before .read .ensures) (w .if1 .left) _ (c .before .before .read2 .ensures) _ (c .stretch-of .ensures))
+    _ (w .before .read .ensures) (w .if1 .left) _ (c .before .before .read2 .ensures) _ (c .substring-of .ensures))
     (λ c κs. let w = c .before .before .before .before .before .before in
     let v = w .before .before .before .before .before .before .before in let f = record-few _ _ _ (v .pre .0 .next-is) in (
       f .counted-few,
@@ -41,12 +41,12 @@ put-children-of-spec =
     (λ c κs. let w = c .before .before .before .before .before .before .before .before in
     let v = w .before .before .before .before .before .before .before in
     laws.starts-ask _ _ _ _ _ _ (v .pre .0) (v .pre .1) _ (w .before .before .before .place .ensures .0) _ (w .before .read .ensures)
-    (w .if1 .left) _ (c .before .before .before .before .before .before .read2 .ensures) _ (c .before .before .before .before .stretch-of .ensures)
+    (w .if1 .left) _ (c .before .before .before .before .before .before .read2 .ensures) _ (c .before .before .before .before .substring-of .ensures)
     _ (c .before .before .before .pieces .ensures) _ (c .before .place2 .ensures .0) (c .before .place2 .ensures .1) _ (c .record-size .ensures .0))
     (λ c. search needs)
     (λ c. let w = c .before .before .before .before .before .before .before .before .before in
     let v = w .before .before .before .before .before .before .before .before .before in let p = c .before .before .before .before in
     laws.children-written _ _ _ _ _ _
     (v .pre .0) (v .pre .1) _ (w .before .before .before .before .before .place .ensures .0) _ (w .before .before .before .read .ensures)
-    (w .before .before .if1 .left) _ (w .read2 .ensures) _ (p .before .before .before .stretch-of .ensures) _ (p .before .before .pieces .ensures)
+    (w .before .before .if1 .left) _ (w .read2 .ensures) _ (p .before .before .before .substring-of .ensures) _ (p .before .before .pieces .ensures)
     _ (p .place2 .ensures .0) (p .place2 .ensures .1) _ (c .before .before .before .record-size .ensures .0) _ (c .before .before .put-starts .ensures)))

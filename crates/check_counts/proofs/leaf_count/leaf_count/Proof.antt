@@ -6,10 +6,10 @@ use native.Mathlib.Omega.{arith}
 use Rattle.check_counts.proofs.leaf_count.leaf_count.Statement.{statement}
 use Rattle.check_counts.proofs.leaf_count.leaf_count.Tie as tie
 use Rattle.text.specs.CountLaws.{count-none, count-next-same, count-next-other}
-use Rattle.text.specs.Text.{stretch, countIn}
+use Rattle.text.specs.Text.{substring, countIn}
 
 abbrev Inv-loop : tie.InvT-loop
-Inv-loop t from n byte times₀ i₀ times i = (i ≤ n) × (times ≡ countIn byte (stretch t from i)) × (times ≤ i)
+Inv-loop t from n byte times₀ i₀ times i = (i ≤ n) × (times ≡ countIn byte (substring t from i)) × (times ≤ i)
 
 abbrev μ-loop : tie.MeasureT-loop
 μ-loop t from n byte times₀ i₀ times i = n - i

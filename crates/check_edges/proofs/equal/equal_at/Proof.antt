@@ -3,13 +3,13 @@ use Prim.Native.Nat.{_+_, _-_, _≤_}
 use mathlib.Core.Path.{_≡_, _∙_}
 use native.Mathlib.Omega.{arith}
 use borrow.Author.Needs.{needs}
-use Rattle.text.specs.Text.{sameList, stretch}
+use Rattle.text.specs.Text.{sameList, substring}
 use Rattle.check_edges.proofs.EightLaws as laws
 use Rattle.check_edges.proofs.equal.equal_at.Statement.{statement}
 use Rattle.check_edges.proofs.equal.equal_at.Tie as tie
 
 abbrev Inv-loop : tie.InvT-loop
-Inv-loop t p q n i₀ i = (i ≤ n) × (sameList (stretch t (p + i) (n - i)) (stretch t (q + i) (n - i)) ≡ sameList (stretch t p n) (stretch t q n))
+Inv-loop t p q n i₀ i = (i ≤ n) × (sameList (substring t (p + i) (n - i)) (substring t (q + i) (n - i)) ≡ sameList (substring t p n) (substring t q n))
 
 abbrev μ-loop : tie.MeasureT-loop
 μ-loop t p q n i₀ i = n - i

@@ -1,11 +1,12 @@
 use borrow.Author.Needs.{needs}
 use mathlib.Core.List.{List}
+use mathlib.Core.Bool.{true}
 use mathlib.Core.Path.{_≡_, sym, ap, _∙_}
 use Prim.Native.Nat.{ℕ, _≤_}
 use Rattle.format.specs.Layout.{wordAt, textLengthAt, leafOffsetAt, leafCountAt, maxText}
 use Rattle.format.specs.Layout as at
 use Rattle.layout.specs.declared.header.Header.{Header}
-use Rattle.layout.specs.Header.{HasSettings, fieldsOf}
+use Rattle.layout.specs.Header.{HasSettings, fieldsOf, spareCounted, spareLevels}
 use Rattle.layout.proofs.HeaderLaws as laws
 use Rattle.layout.proofs.AnswerTests.{failed, held}
 use Rattle.layout.proofs.header.rest_right.Statement.{statement}
@@ -61,27 +62,37 @@ tables-meet-requires c κs =
     let s = size-is _ _ (p .1) in
     (p .0 .long, p .0 .bounds .levels-high, s, laws.size-high _ _ (p .0) _ s)
 
+-- After the block count of level 0: what has passed so far.
+module _ (u : tie.Else3) where
+  abbrev w : tie.Else2
+  w = u .before .before .before
+
+  abbrev v : tie.Else1
+  v = w .before .before .before
+
+  abbrev start : tie.Start
+  start = v .before .before .before .before
+
+  spare-counted : spareCounted (start .args .t .now) (start .args .h .settings .counted) ≡ true
+  spare-counted = held (v .before .spare-counted-zero .ensures) (v .if1 .left)
+
+  spare-levels : spareLevels (start .args .t .now) (start .args .h .settings .levels) ≡ true
+  spare-levels = held (w .before .spare-levels-zero .ensures) (w .if2 .left)
+
 returns-4 : tie.Need-returns-4
 returns-4 c =
     let u = c .before .before .before in
-    let w = u .before .before .before in
-    let v = w .before .before .before in
-    let p = v .before .before .before .before .pre in
-    laws.rest-tables _ _ (p .0) (held (v .before .spare-counted-zero .ensures) (v .if1 .left))
-    (held (w .before .spare-levels-zero .ensures) (w .if2 .left)) _ _ _ (u .before .before .read .ensures)
-    (n-is _ _ (p .1)) (b-is _ _ (p .1)) (u .if3 .left ∙ u .before .pieces .ensures) (failed (c .before .tables-meet .ensures) (c .if4 .taken))
+    let p = start u .pre in
+    laws.rest-tables _ _ (p .0) (spare-counted u) (spare-levels u) _ _ _ (u .before .before .read .ensures) (n-is _ _ (p .1)) (b-is _ _ (p .1))
+    (u .if3 .left ∙ u .before .pieces .ensures) (failed (c .before .tables-meet .ensures) (c .if4 .taken))
 
 returns-5 : tie.Need-returns-5
 returns-5 c =
     let d = c .before .before in
     let u = d .before .before .before in
-    let w = u .before .before .before in
-    let v = w .before .before .before in
-    let p = v .before .before .before .before .pre in
-    laws.rest-length _ _ (p .0) (held (v .before .spare-counted-zero .ensures) (v .if1 .left))
-    (held (w .before .spare-levels-zero .ensures) (w .if2 .left)) _ _ _ (u .before .before .read .ensures)
-    (n-is _ _ (p .1)) (b-is _ _ (p .1)) (u .if3 .left ∙ u .before .pieces .ensures) (held (d .before .tables-meet .ensures) (d .if4 .left))
-    _ _ (offset-is _ _ (p .1)) (count-is _ _ (p .1))
+    let p = start u .pre in
+    laws.rest-length _ _ (p .0) (spare-counted u) (spare-levels u) _ _ _ (u .before .before .read .ensures) (n-is _ _ (p .1)) (b-is _ _ (p .1))
+    (u .if3 .left ∙ u .before .pieces .ensures) (held (d .before .tables-meet .ensures) (d .if4 .left)) _ _ (offset-is _ _ (p .1)) (count-is _ _ (p .1))
 
 pub rest-right-spec : {M : Type 1} → statement M
 rest-right-spec =

@@ -1,7 +1,6 @@
 use mathlib.Core.Path.{refl}
 use native.Mathlib.Omega.{arith}
 use borrow.Author.Needs.{needs}
-use Rattle.walk_steps.proofs.NextLaws.{on-top}
 use Rattle.query_access.proofs.LeafRunLaws as laws
 use Rattle.query_access.proofs.read_by_header.leaf_run.Statement.{statement}
 use Rattle.query_access.proofs.read_by_header.leaf_run.Tie as tie
@@ -12,11 +11,7 @@ leaf-run-spec =
     (tie.spec
     (λ c κs. tt)
     (λ c. omega (arith, c .before .before .before .before .pre .1))
-    (λ c κs. let pre = c .before .before .before .before .pre in (
-      rw (c .before .before .top-level .ensures) (on-top _ _ (pre .0)),
-      omega (arith, pre .0 .length-is, pre .1),
-      omega (arith, pre .0 .length-is, pre .0 .facts .bounds .text-high),
-    ))
+    (λ c κs. let pre = c .before .before .before .before .pre in laws.walk-ready _ _ (pre .0) _ (pre .1) _ (c .before .before .top-level .ensures))
     (λ c κs. let pre = c .before .before .before .before .before .pre in (pre .0, pre .1, c .walk .ensures))
     (λ c. search needs)
     (λ c. search needs)

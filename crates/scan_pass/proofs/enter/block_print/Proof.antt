@@ -1,7 +1,7 @@
 use native.Mathlib.Omega.{arith}
 use mathlib.Core.Path.{ap₂, _∙_}
 use Prim.Native.Nat.{ℕ}
-use Rattle.text.specs.Text.{stretch}
+use Rattle.text.specs.Text.{substring}
 use Rattle.scan_rolling_hash.specs.Prints.{print}
 use Rattle.scan_hash_table.specs.Entries.{bytesAt}
 use Rattle.scan_pass.proofs.enter.block_print.Statement.{statement}
@@ -16,5 +16,5 @@ block-print-spec =
     (λ c κs. (c .before .before .before .pre .0, c .before .before .before .pre .1))
     (λ c κs. c .bytes-of .ensures .fits)
     (λ c. let z = c .before .before .before .before .before in
-    c .fingerprint-at .ensures ∙ ap₂ (λ (s n : ℕ). print (z .args .it .seed) (stretch (z .args .text .now) s n))
+    c .fingerprint-at .ensures ∙ ap₂ (λ (s n : ℕ). print (z .args .it .seed) (substring (z .args .text .now) s n))
     (c .before .bytes-of .ensures .start-is) (c .before .bytes-of .ensures .length-is)))

@@ -3,7 +3,7 @@ use mathlib.Core.Path.{_≡_, refl, _∙_}
 use Prim.Native.Nat.{_-_, _≤_}
 use native.Mathlib.Omega.{arith}
 use borrow.Author.Needs.{needs}
-use Rattle.text.specs.Text.{stretch, leftmost}
+use Rattle.text.specs.Text.{substring, leftmost}
 use Rattle.search.specs.FingerValues.{finger}
 use Rattle.search.proofs.Modulo.{below}
 use Rattle.search.proofs.FingerprintLaws.{finger-roll, finger-below}
@@ -13,7 +13,7 @@ use Rattle.search.proofs.scan.scan.Tie as tie
 
 abbrev Inv-loop : tie.InvT-loop
 Inv-loop text at n by top wanted h₀ p₀ h p =
-    (p ≤ at .0) × (h ≡ finger (by .base) (by .modulus) (stretch text p n)) × (ahead text (at .0) n p ≡ leftmost text (at .0) n)
+    (p ≤ at .0) × (h ≡ finger (by .base) (by .modulus) (substring text p n)) × (ahead text (at .0) n p ≡ leftmost text (at .0) n)
 
 abbrev μ-loop : tie.MeasureT-loop
 μ-loop text at n by top wanted h₀ p₀ h p = at .0 - p

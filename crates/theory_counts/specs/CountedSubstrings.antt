@@ -6,9 +6,9 @@ use Prim.Native.Nat.{ℕ, _+_, _-_, _≤_, _<_}
 use native.Mathlib.Omega.{arith}
 use lib.ListN.{length}
 use Rattle.text.specs.ListLaws.{sumBelow-part}
-use Rattle.text.specs.Text.{stretch, countIn}
-use Rattle.text.specs.TextLaws.{stretch-ext}
-use Rattle.text.specs.CountLaws.{count-add, count-none, count-stretch-le}
+use Rattle.text.specs.Text.{substring, countIn}
+use Rattle.text.specs.TextLaws.{substring-ext}
+use Rattle.text.specs.CountLaws.{count-add, count-none, count-substring-le}
 use Rattle.format.specs.LayoutLaws.{Readable}
 use Rattle.format.specs.Layout as at
 use Rattle.format.specs.TreeReading.{widthAt, textOf}
@@ -31,7 +31,7 @@ module _ (t : List ℕ) where
 
   pub tally-le : (c p x : ℕ) → tally t c p x ≤ x
   unfolding tally
-  tally-le c p x = count-stretch-le (byteOf t c) (textOf t) p x
+  tally-le c p x = count-substring-le (byteOf t c) (textOf t) p x
 
   module _ (k : Readable t) (d : Linked t) where
     pub fitting : Fitting (textOf t) t
@@ -59,8 +59,8 @@ module _ (t : List ℕ) where
     last-leaves : (i x c : ℕ) → i < N t (H t - 1) → x ≤ len t (H t - 1) i → inLeafBytes t (H t - 1) i x c ≡ tally t c (s t (H t - 1) i) x
     unfolding inLeafBytes tally at.leafByte
     last-leaves i x c hi hx =
-        let same : stretch (textOf t) (s t (H t - 1) i) x ≡ stretch t (at.leafOffset t + at.link t (H t - 1) i) x =
-        stretch-ext (textOf t) t (s t (H t - 1) i) (at.leafOffset t + at.link t (H t - 1) i) x
+        let same : substring (textOf t) (s t (H t - 1) i) x ≡ substring t (at.leafOffset t + at.link t (H t - 1) i) x =
+        substring-ext (textOf t) t (s t (H t - 1) i) (at.leafOffset t + at.link t (H t - 1) i) x
         (block-end (H t - 1) i x (omega (arith, k .bounds .levels-low)) hi hx) (omega (arith, leaf-end i hi, k .size))
         (λ o ho. (let e : at.leafOffset t + at.link t (H t - 1) i + o ≡ at.leafOffset t + (at.link t (H t - 1) i + o) = omega arith in
         rw e (fitting .leaves i o hi (omega arith)))) in
@@ -81,6 +81,6 @@ module _ (t : List ℕ) where
     unfolding tally
     points-tally l i x c hi un hx hl =
         let p = d .points l i hl hi un in
-        ap (countIn (byteOf t c)) (stretch-ext (textOf t) (textOf t) (s t l i) (s t l (at.link t l i) + at.gap t l i) x
+        ap (countIn (byteOf t c)) (substring-ext (textOf t) (textOf t) (s t l i) (s t l (at.link t l i) + at.gap t l i) x
         (block-end l i x hl hi hx) (omega (arith, p .ends, start-below t k d l i hl hi, text-length t))
         (λ o ho. fitting .points l i o hl hi (pointing-kind t l i p) (omega arith)))
