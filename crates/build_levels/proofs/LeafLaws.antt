@@ -16,7 +16,7 @@ use Rattle.theory_built.specs.Shape.{leaf-place, tree-length}
 use Rattle.theory_built.specs.Built.{tree-small}
 use Rattle.byte_slices.specs.ByteSlices.{bytesWritten}
 use Rattle.build_records.specs.declared.level_written.Level.{Level}
-use Rattle.build_records.specs.declared.level_written.Stretch.{Stretch}
+use Rattle.build_records.specs.declared.level_written.Substring.{Substring}
 use Rattle.build_records.specs.WritesOnlyTree.{WritesOnlyTree, AgreesOn}
 use Rattle.build_levels.specs.LeafBytesWritten.{Leafing}
 use Rattle.build_records.specs.State.{On, SubstringIs}
@@ -49,7 +49,7 @@ module _ (S : Settings) (T out : List ℕ) (level : Level) (to i : ℕ) (w : Lea
     leaf-on = on-written S T out level i (w .level-is) (omega (arith, table-inside S T taken l l-in, w .room))
         (within-part D out headerLength to headerLength (offset S T (suc l)) (w .body) (omega arith) end) il
 
-    module _ (own : Stretch) (own-is : SubstringIs S T l i own) where
+    module _ (own : Substring) (own-is : SubstringIs S T l i own) where
       abbrev s : ℕ
       s = own .start .0
 

@@ -27,7 +27,7 @@ fn put_leaf(
         (now (out .exit)) ⌝ }
     ensures { λ r. ⌜ AgreesOn (treeOf (recordSettingsOf (level .settings) (now (counted .entry))) (now (text .entry))) (now (out .exit)) to (to + r) ⌝ }
 {
-    let own = level_written::stretch_of(text, counted, out, level, i);
+    let own = level_written::substring_of(text, counted, out, level, i);
     byte_slices::copy(
         out,
         to as usize,

@@ -12,10 +12,10 @@ use Rattle.search.specs.declared.Occurrence.{Occurrence}
 use Rattle.search.specs.declared.Occurrence.the-variants.{At, Outside}
 use Rattle.search.specs.Occurrences.{leftmostAnswer}
 use Rattle.theory_built.specs.BuiltTargets.{placeOf, placeOf-is}
-use Rattle.build_records.specs.declared.level_written.Stretch.{Stretch}
+use Rattle.build_records.specs.declared.level_written.Substring.{Substring}
 use Rattle.build_records.specs.State.{SubstringIs}
 
-module _ (S : Settings) (T : List ℕ) (l i : ℕ) (own : Stretch) (own-is : SubstringIs S T l i own) (o : Occurrence)
+module _ (S : Settings) (T : List ℕ) (l i : ℕ) (own : Substring) (own-is : SubstringIs S T l i own) (o : Occurrence)
     (is : o ≡ leftmostAnswer T (own .start .0) (own .length)) where
   place-right : leftmost T (own .start .0) (own .length) ≡ placeOf S T l i
   place-right = rw (own-is .start-is, own-is .length-is) (sym (placeOf-is S T l i))

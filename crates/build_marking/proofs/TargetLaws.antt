@@ -17,7 +17,7 @@ use Rattle.theory_built.specs.Structure.{size, count, start, keptAt, widthOf, l
 use Rattle.theory_built.specs.BuiltRecords.{parentOf, kindOf, linkOf, gapOf, skipOf}
 use Rattle.theory_built.specs.BuiltTargets.{placeOf, targetOf, PointsTo, points-to}
 use Rattle.build_records.specs.declared.level_written.Level.{Level}
-use Rattle.build_records.specs.declared.level_written.Stretch.{Stretch}
+use Rattle.build_records.specs.declared.level_written.Substring.{Substring}
 use Rattle.build_records.specs.declared.record_written.Block.{Block}
 use Rattle.build_records.specs.RecordPlaces.{recordPlace}
 use Rattle.build_records.specs.State.{LevelIs, recordSettingsOf, On, SubstringIs, BlockIs}
@@ -27,7 +27,7 @@ use Rattle.build_records.proofs.StateLaws.{record-few}
 use Rattle.build_records.proofs.Widths.{points-above}
 
 -- The values of a record, from the block's own bytes, its parent and the five numbers that its kind decides.
-abbrev block-with : Stretch → ℕ → ℕ → ℕ → ℕ → ℕ → Block
+abbrev block-with : Substring → ℕ → ℕ → ℕ → ℕ → ℕ → Block
 block-with own up kind link from gap = record {
   start = own .start;
   length = own .length;
@@ -75,7 +75,7 @@ module _ (S : Settings) (T out : List ℕ) (level : Level) (i : ℕ) (w : On S T
   parent-by (suc n) s above = rw (ne-eqb (suc n) 0 (λ e. omega arith), above n refl)
 
   -- The block as the code reads it.
-  module _ (own : Stretch) (own-is : SubstringIs S T l i own) (up : ℕ) (up-is : up ≡ parentAnswer (level .number) (level .above) (own .start .0)) where
+  module _ (own : Substring) (own-is : SubstringIs S T l i own) (up : ℕ) (up-is : up ≡ parentAnswer (level .number) (level .above) (own .start .0)) where
     up-right : up ≡ parentOf S T l (start S T l i)
     up-right = up-is ∙ parent-by l (own .start .0) (lev .above-is) ∙ ap (parentOf S T l) (own-is .start-is)
 
@@ -149,7 +149,7 @@ module _ (S : Settings) (T out : List ℕ) (level : Level) (i : ℕ) (w : On S T
         pub from-le : from ≤ p
         from-le = omega (arith, from-is, b .from)
 
-        pub pointing-is : (own : Stretch) → SubstringIs S T l i own → (up : ℕ) → up ≡ parentAnswer (level .number) (level .above) (own .start .0)
+        pub pointing-is : (own : Substring) → SubstringIs S T l i own → (up : ℕ) → up ≡ parentAnswer (level .number) (level .above) (own .start .0)
             → BlockIs S T l i (block-with own up 1 r from (p - from))
         unfolding kindOf linkOf gapOf skipOf
         pointing-is own own-is up up-is = record {

@@ -26,7 +26,7 @@ pub fn first_place(
     requires { ⌜ On (recordSettingsOf (level .settings) (now counted)) (now text) (now out) level (i .0) ⌝ }
     ensures { λ r. ⌜ r .0 ≡ placeOf (recordSettingsOf (level .settings) (now (counted .entry))) (now (text .entry)) (level .number) (i .0) ⌝ }
 {
-    let own = level_written::stretch_of(text, counted, out, level, i);
+    let own = level_written::substring_of(text, counted, out, level, i);
     match search::leftmost(text, own.start, own.length, fingerprint()) {
         Occurrence::At(found) => found,
         Occurrence::Outside => own.start,

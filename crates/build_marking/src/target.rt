@@ -83,7 +83,7 @@ pub fn kept_block(
     requires { ⌜ link .0 ≡ sumBelow (i .0) (widthOf (recordSettingsOf (level .settings) (now counted)) (now text) (level .number)) ⌝ }
     ensures { λ r. ⌜ BlockIs (recordSettingsOf (level .settings) (now (counted .entry))) (now (text .entry)) (level .number) (i .0) r ⌝ }
 {
-    let own = level_written::stretch_of(text, counted, out, level, i);
+    let own = level_written::substring_of(text, counted, out, level, i);
     let start = own.start;
     Block {
         start,
@@ -110,7 +110,7 @@ pub fn pointing_block(
     requires { ⌜ place .0 ≡ placeOf (recordSettingsOf (level .settings) (now counted)) (now text) (level .number) (i .0) ⌝ }
     ensures { λ r. ⌜ BlockIs (recordSettingsOf (level .settings) (now (counted .entry))) (now (text .entry)) (level .number) (i .0) r ⌝ }
 {
-    let own = level_written::stretch_of(text, counted, out, level, i);
+    let own = level_written::substring_of(text, counted, out, level, i);
     let start = own.start;
     let target = holder(counted, out, level, place);
     let from = level_written::start(counted, out, level, target);

@@ -21,7 +21,7 @@ use Rattle.theory_built.specs.Pairs.{offset}
 use Rattle.theory_built.specs.BuiltRecords.{kindOf, linkOf}
 use Rattle.theory_built.specs.SizeBounds.{kind-le, link-le}
 use Rattle.build_records.specs.declared.level_written.Level.{Level}
-use Rattle.build_records.specs.declared.level_written.Stretch.{Stretch}
+use Rattle.build_records.specs.declared.level_written.Substring.{Substring}
 use Rattle.build_records.specs.WritesOnlyTree.{WritesOnlyTree, AgreesOn}
 use Rattle.build_records.specs.RecordPlaces.{recordPlace}
 use Rattle.build_records.specs.WrittenStarts.{startsWritten, StartsAsk}
@@ -113,7 +113,7 @@ module _ (S : Settings) (T out : List ℕ) (level next : Level) (i : ℕ) (w : B
           pub link-few : link ≤ maxText
           link-few = omega (arith, link-right, widths-le S T (lev .taken) l i (lev .number-in) (omega (arith, i-in)), limits .text-high)
 
-          module _ (own : Stretch) (own-is : SubstringIs S T l i own) where
+          module _ (own : Substring) (own-is : SubstringIs S T l i own) where
             size-right : next .size ≡ size S T (suc l)
             size-right = w .next-is .size-is ∙ ap (blockLength S) (w .follows)
 

@@ -12,7 +12,7 @@ use Rattle.theory_built.specs.Structure.{count, start, bytesIn, widthOf}
 use Rattle.theory_built.specs.Pairs.{offset}
 use Rattle.theory_built.specs.BuiltRecords.{parentOf, kindOf, linkOf, gapOf, skipOf}
 use Rattle.build_records.specs.declared.level_written.Level.{Level}
-use Rattle.build_records.specs.declared.level_written.Stretch.{Stretch}
+use Rattle.build_records.specs.declared.level_written.Substring.{Substring}
 use Rattle.build_records.specs.declared.record_written.Block.{Block}
 use Rattle.build_records.specs.WritesOnlyTree.{AgreesOn}
 
@@ -44,7 +44,7 @@ module _ (S : Settings) (T : List ℕ) where
     pub starts : (x : ℕ) → x < count S T l → AgreesOn (treeOf S T) out (placeAt l x) (placeAt l x + 4)
 
   -- The bytes of block i of level l, as the code reads them.
-  pub record SubstringIs (l i : ℕ) (r : Stretch) : Type 0 where
+  pub record SubstringIs (l i : ℕ) (r : Substring) : Type 0 where
     pub start-is : r .start .0 ≡ start S T l i
     pub length-is : r .length ≡ bytesIn S T l i
     pub fits : r .start .0 + r .length ≤ length T

@@ -47,7 +47,7 @@ fn put_children_of(
         return;
     }
     let first = BlockNumber(word::read(out, at + record::LINK_AT));
-    let own = level_written::stretch_of(text, counted, out, level, i);
+    let own = level_written::substring_of(text, counted, out, level, i);
     let children = settings::pieces(own.length, next.size);
     put_starts(
         out,

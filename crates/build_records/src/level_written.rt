@@ -29,7 +29,7 @@ pub struct Level {
 }
 
 // The bytes of a block: their place and their number.
-pub struct Stretch {
+pub struct Substring {
     pub start: TextPlace,
     pub length: u32,
 }
@@ -62,12 +62,18 @@ pub fn start(counted: &[u8], out: &[u8], level: Level, block: BlockNumber) -> Te
 }
 
 // The bytes of a block of a level whose starts have been written.
-pub fn stretch_of(text: &[u8], counted: &[u8], out: &[u8], level: Level, i: BlockNumber) -> Stretch
+pub fn substring_of(
+    text: &[u8],
+    counted: &[u8],
+    out: &[u8],
+    level: Level,
+    i: BlockNumber,
+) -> Substring
     requires { ⌜ On (recordSettingsOf (level .settings) (now counted)) (now text) (now out) level (i .0) ⌝ }
     ensures { λ r. ⌜ SubstringIs (recordSettingsOf (level .settings) (now (counted .entry))) (now (text .entry)) (level .number) (i .0) r ⌝ }
 {
     let start = start(counted, out, level, i);
-    Stretch {
+    Substring {
         start,
         length: cut::length_from(text.len() as u32, start, level.size),
     }

@@ -2,8 +2,8 @@ use borrow.Author.Needs.{needs}
 use native.Mathlib.Omega.{arith}
 use Rattle.build_records.proofs.RecordsRead.{start-fits, substring-is}
 use Rattle.build_records.proofs.StateLaws.{record-few}
-use Rattle.build_records.proofs.level_written.stretch_of.Statement.{statement}
-use Rattle.build_records.proofs.level_written.stretch_of.Tie as tie
+use Rattle.build_records.proofs.level_written.substring_of.Statement.{statement}
+use Rattle.build_records.proofs.level_written.substring_of.Tie as tie
 
 pub substring-of-spec : {M : Type 1} → statement M
 substring-of-spec =
