@@ -24,8 +24,7 @@ returns c =
 again : tie.Need-loop-again Inv-loop μ-loop
 again c =
     let l = c .before .before .before in
-    let f = c .before .find .ensures in
-    (
+    let f = c .before .find .ensures in (
       omega arith,
       omega arith,
       omega (arith, l .loop .inv .2, laws.count-past _ _ _ _ (omega arith) _ _ (l .loop .inv .0) f (omega arith)),
