@@ -29,15 +29,15 @@ use Rattle.query_access.specs.declared.read_by_header.LeafRunAnswer.the-
 use Rattle.query_access.specs.declared.read_by_header.TreeRange.{TreeRange}
 use Rattle.query_access.specs.declared.read_by_header.RunRangeAnswer.{RunRangeAnswer}
 use Rattle.query_access.specs.declared.read_by_header.RunRangeAnswer.the-variants as run
-use Rattle.query_access.specs.declared.leaf_end.LeafEnd.{LeafEnd}
-use Rattle.query_access.specs.declared.leaf_end.LeafEndAnswer.{LeafEndAnswer}
-use Rattle.query_access.specs.declared.leaf_end.LeafEndAnswer.the-variants as end
+use Rattle.walk_ranges.specs.declared.leaf_end.LeafEnd.{LeafEnd}
+use Rattle.walk_ranges.specs.declared.leaf_end.LeafEndAnswer.{LeafEndAnswer}
+use Rattle.walk_ranges.specs.declared.leaf_end.LeafEndAnswer.the-variants as end
 use Rattle.query_access.specs.ReadAnswers.{byteReply, IsRunAnswer}
-use Rattle.query_access.specs.LeafEnds.{LeafEndAt, LeafEndOf, Joined}
+use Rattle.walk_ranges.specs.LeafEnds.{LeafEndAt, LeafEndOf, Joined}
 use Rattle.query_access.specs.ReadByRuns.{ReadsOn, LeafRunAt, LeafRunOf, LeafRangeAt, ReadsFrom, LeafRangeOf, IsRangeAnswer, placesWritten, RunCopied}
 use Rattle.query_access.proofs.ByteLaws as bytes
 use Rattle.query_access.proofs.RunLaws.{run-answers, run-from, run-size, run-some}
-use Rattle.query_access.proofs.LeafEndLaws.{end-is, end-left, end-entered, left-min, joined-answers}
+use Rattle.walk_ranges.proofs.LeafEndLaws.{end-is, end-left, end-entered, left-min, joined-answers}
 
 -- The walk of a place of the text can start.
 pub walk-ready : (t : List ℕ) (h : Header) → HeaderOf t h → (p : ℕ) → p < h .«text_length» → (top : TopLevel)

@@ -1,6 +1,5 @@
 // Byte, run and span: any bytes may be given as a tree, and each call checks questions 5 to 7 first.
 pub mod descent;
-pub mod leaf_end;
 pub mod read_by_header;
 
 use crate::read_by_header::RunRangeAnswer;

@@ -10,7 +10,7 @@ use Rattle.layout.proofs.ShapeLaws.{shapes}
 use Rattle.layout.proofs.fields.shape_of.Reads as shape-of-reads
 use Rattle.query_access.proofs.SegmentLaws as segments
 use Rattle.query_access.proofs.descent.copy_leaves.Reads as copy-leaves-reads
-use Rattle.query_access.proofs.descent.next_segment.Reads as next-segment-reads
+use Rattle.walk_ranges.proofs.segments.next_segment.Reads as next-segment-reads
 use Rattle.query_access.proofs.descent.copy_segment.Reads as copy-segment
 use Rattle.query_access.proofs.descent.copy_segment.Kinds as copy-segment-kinds
 use Rattle.query_access.proofs.descent.+copy_segment.Lts-copy_segment as copy-segment-lts
