@@ -6,7 +6,6 @@ use layout::place::BlockPlace;
 use layout::place::TextPlace;
 use walk_steps::BlockAt;
 use walk_steps::BlockKind;
-use walk_steps::position::LevelAt;
 ghost use mathlib.Core.Path.{_≡_};
 ghost use Prim.Native.Nat.{_+_, _-_, _*_, _≤_, _<_};
 ghost use Rattle.format.specs.Layout as at;
@@ -85,20 +84,23 @@ pub fn unpacked(word: u64) -> WalkAnswer
 fn to_kept(
     t: &[u8],
     size: u32,
-    on: LevelAt,
+    level: u32,
+    b: u32,
     block: BlockNumber,
     place: BlockPlace,
-    trail: WalkState,
+    entered: u32,
+    left: u32,
 ) -> Landing
-    requires { ⌜ (MayPoint (now t) size (on .level) (on .b) (block .0) (place .0) (trail .entered)) × (on .level + 1 < at.settings (now t) .levels) ⌝ }
-    ensures { λ r. ⌜ r ≡ landingAt (now (t .entry)) trail (on .level) (block .0) (place .0) ⌝ }
+    requires { ⌜ (MayPoint (now t) size level b (block .0) (place .0) entered) × (level + 1 < at.settings (now t) .levels) ⌝ }
+    ensures { λ r. ⌜ r ≡ landingAt (now (t .entry)) (record { entered = entered; left = left }) level (block .0) (place .0) ⌝ }
 {
-    let here = walk_steps::classify_block(t, size, on.level, on.b, block, place);
+    let trail = WalkState { entered, left };
+    let here = walk_steps::classify_block(t, size, level, b, block, place);
     match here {
         BlockKind::Kept(_, _) => Landing::At(block, place, trail),
         BlockKind::Points(_, _) => {
-            let further = trail.enter(on.b, place);
-            let there = walk_steps::resolve_target(t, size, on.level, on.b, block, place);
+            let further = trail.enter(b, place);
+            let there = walk_steps::resolve_target(t, size, level, b, block, place);
             let BlockAt::At(i, p) = there else {
                 return Landing::Off;
             };
@@ -109,36 +111,35 @@ fn to_kept(
 }
 
 // From a kept block above the last level to the child that contains the place. The walk ends on the last level, where no block points.
+// Both steps take single words as arguments: a struct of two words would be packed and unpacked at each level.
 fn kept_step(
     t: &&[u8],
     size: u32,
-    on: LevelAt,
+    level: u32,
+    b: u32,
     block: BlockNumber,
     place: BlockPlace,
-    trail: WalkState,
+    entered: u32,
+    left: u32,
 ) -> u64
-    requires { ⌜ (KeptAt (now (now t)) size (on .level) (on .b) (block .0) (place .0) (trail .entered))
-        × (on .level + 1 < at.settings (now (now t)) .levels) ⌝ }
-    ensures { λ r. ⌜ walkedIn r ≡ walked (now (now (t .entry))) trail
-        (aboveFrom (now (now (t .entry))) (at.settings (now (now (t .entry))) .levels - 1 - on .level) (on .level) (block .0) (place .0)) ⌝ }
+    requires { ⌜ (KeptAt (now (now t)) size level b (block .0) (place .0) entered) × (level + 1 < at.settings (now (now t)) .levels) ⌝ }
+    ensures { λ r. ⌜ walkedIn r ≡ walked (now (now (t .entry))) (record { entered = entered; left = left })
+        (aboveFrom (now (now (t .entry))) (at.settings (now (now (t .entry))) .levels - 1 - level) level (block .0) (place .0)) ⌝ }
 {
     let tree = *t;
     let shape = fields::shape_of(tree);
-    let below = walk_steps::quotient(on.b, shape.arity);
-    let further = trail.enter(on.b, place);
-    let child = walk_steps::child(tree, size, on.level, below, block, place);
+    let below = walk_steps::quotient(b, shape.arity);
+    let trail = WalkState { entered, left };
+    let further = trail.enter(b, place);
+    let child = walk_steps::child(tree, size, level, below, block, place);
     let BlockAt::At(i, p) = child else {
         return BROKEN;
     };
-    let down = on.level + 1;
+    let down = level + 1;
     if down + 1 == shape.levels {
         return packed(i, p, further);
     }
-    let under = LevelAt {
-        level: down,
-        b: below,
-    };
-    pointing_step(t, size, under, i, p, further)
+    pointing_step(t, size, down, below, i, p, further.entered, further.left)
 }
 
 // From a block above the last level, at which a pointer may still be followed. The one call of the step for a kept block lets the compiler join
@@ -146,22 +147,23 @@ fn kept_step(
 fn pointing_step(
     t: &&[u8],
     size: u32,
-    on: LevelAt,
+    level: u32,
+    b: u32,
     block: BlockNumber,
     place: BlockPlace,
-    trail: WalkState,
+    entered: u32,
+    left: u32,
 ) -> u64
-    requires { ⌜ (MayPoint (now (now t)) size (on .level) (on .b) (block .0) (place .0) (trail .entered))
-        × (on .level + 1 < at.settings (now (now t)) .levels) ⌝ }
-    ensures { λ r. ⌜ walkedIn r ≡ walked (now (now (t .entry))) trail
-        (aboveFrom (now (now (t .entry))) (at.settings (now (now (t .entry))) .levels - 1 - on .level) (on .level) (block .0) (place .0)) ⌝ }
+    requires { ⌜ (MayPoint (now (now t)) size level b (block .0) (place .0) entered) × (level + 1 < at.settings (now (now t)) .levels) ⌝ }
+    ensures { λ r. ⌜ walkedIn r ≡ walked (now (now (t .entry))) (record { entered = entered; left = left })
+        (aboveFrom (now (now (t .entry))) (at.settings (now (now (t .entry))) .levels - 1 - level) level (block .0) (place .0)) ⌝ }
 {
     let tree = *t;
-    let there = to_kept(tree, size, on, block, place, trail);
+    let there = to_kept(tree, size, level, b, block, place, entered, left);
     let Landing::At(i, p, further) = there else {
         return BROKEN;
     };
-    kept_step(t, size, on, i, p, further)
+    kept_step(t, size, level, b, i, p, further.entered, further.left)
 }
 
 // The size of a record, and the block length of level 0.
@@ -175,14 +177,12 @@ pub fn walk(t: &&[u8], top: TopLevel, p: TextPlace, left: u32) -> u64
     requires { ⌜ (OnLevel (now (now t)) (top .size) 0 (top .b)) × (p .0 < at.textLength (now (now t))) × (left ≤ maxText) ⌝ }
     ensures { λ r. ⌜ walkedIn r ≡ walked (now (now (t .entry))) (record { entered = 0; left = left }) (aboveOf (now (now (t .entry))) (p .0)) ⌝ }
 {
-    let trail = WalkState { entered: 0, left };
     let spot = walk_steps::top_spot(p, top.b);
     let block = spot.block;
     let place = spot.place;
     let shape = fields::shape_of(*t);
     if shape.levels == 1 {
-        return packed(block, place, trail);
+        return packed(block, place, WalkState { entered: 0, left });
     }
-    let on = LevelAt { level: 0, b: top.b };
-    pointing_step(t, top.size, on, block, place, trail)
+    pointing_step(t, top.size, 0, top.b, block, place, 0, left)
 }

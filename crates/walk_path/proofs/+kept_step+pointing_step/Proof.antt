@@ -25,10 +25,10 @@ use Rattle.walk_path.proofs.+kept_step+pointing_step.{statement}
 use Rattle.walk_path.proofs.+kept_step+pointing_step.Tie.{close}
 
 abbrev μ-kept-step : Measures 2 kept-step-kinds.ps ℕ
-μ-kept-step κs a = 2 * (at.settings (a .0 .now .now) .levels - 1 - a .1 .1 .0 .level)
+μ-kept-step κs a = 2 * (at.settings (a .0 .now .now) .levels - 1 - a .1 .1 .0)
 
 abbrev μ-pointing-step : Measures 2 pointing-step-kinds.ps ℕ
-μ-pointing-step κs a = 2 * (at.settings (a .0 .now .now) .levels - 1 - a .1 .1 .0 .level) + 1
+μ-pointing-step κs a = 2 * (at.settings (a .0 .now .now) .levels - 1 - a .1 .1 .0) + 1
 
 abbrev kept-step-at : ℕ → In 2 kept-step-kinds.ps
 kept-step-at t = at-measure kept-step-kinds.ps μ-kept-step kept-step.Pre t
@@ -71,11 +71,11 @@ module _ {t : ℕ} (m : kept-step-lts.After-child (kept-claims t) (kept-step-at 
   x : Shapes (S .args .t .now .now) (m .before .before .before .shape-of .result)
   x = shapes _ _ (m .before .before .before .shape-of .ensures)
 
-  above : S .args .on .level + 1 ≡ levels (S .args .t .now .now) → ⊥
+  above : S .args .level + 1 ≡ levels (S .args .t .now .now) → ⊥
   above last = omega (arith, S .pre .1 .1)
 
-  below : m .before .before .quotient .result ≡ S .args .on .b / at.settings (S .args .t .now .now) .arity
-  below = m .before .before .quotient .ensures ∙ ap (λ (y : ℕ). S .args .on .b / y) (x .arity-is)
+  below : m .before .before .quotient .result ≡ S .args .b / at.settings (S .args .t .now .now) .arity
+  below = m .before .before .quotient .ensures ∙ ap (λ (y : ℕ). S .args .b / y) (x .arity-is)
 
 pub +kept-step+pointing-step-spec : {M : Type 1} → statement M
 +kept-step+pointing-step-spec =
@@ -91,7 +91,7 @@ pub +kept-step+pointing-step-spec : {M : Type 1} → statement M
     let S = s .before .before in
     let x = shapes _ _ (s .shape-of .ensures) in
     laws.asks-child _ _ _ _ _ _ _ (S .pre .1 .0) (λ last. omega (arith, S .pre .1 .1))
-    _ (c .before .quotient .ensures ∙ ap (λ (y : ℕ). S .args .on .b / y) (x .arity-is)))
+    _ (c .before .quotient .ensures ∙ ap (λ (y : ℕ). S .args .b / y) (x .arity-is)))
     (λ c. search needs)
     (λ c. search needs)
     (λ c.
@@ -99,38 +99,38 @@ pub +kept-step+pointing-step-spec : {M : Type 1} → statement M
     sym laws.broken-word ∙ laws.child-none _ _ _ _ _ _ _ (S m .pre .1 .0)
     (above m) _ (below m)
     _ (m .before .enter .ensures) _ (m .child .ensures) (c .enum-told .given .1))
-    (λ c. let S = c .before .before .before .before .before .before .before .before .before in
+    (λ c. let S = c .before .before .before .before .before .before .before .before in
     record { fits = omega (arith, S .pre .1 .1, S .pre .1 .0 .on .facts .bounds .levels-high) })
-    (λ c. let S = c .before .before .before .before .before .before .before .before .before in
+    (λ c. let S = c .before .before .before .before .before .before .before .before in
     record { fits = omega (arith, S .pre .1 .1, S .pre .1 .0 .on .facts .bounds .levels-high) })
     (λ c κs.
-    let m = c .before .before .before .before .before .before in
+    let m = c .before .before .before .before .before in
     let may = laws.child-may _ _ _ _ _ _ _ (S m .pre .1 .0) (above m)
     _ (below m)
-    _ (m .before .enter .ensures) _ (m .child .ensures) _ _ (c .before .before .before .before .child2 .given .1) in
+    _ (m .before .enter .ensures) _ (m .child .ensures) _ _ (c .before .before .before .child2 .given .1) in
     let f = laws.last-fits _ _ _ _ _ _ (m .before .enter .result) may (c .if1 .taken ∙ x m .levels-is)
     (rw (x m .offset-is) at (m .before .before .before .shape-of .ok .1 .1 .1 .1 .1 .0 .1)) in
     (f .0, f .1, f .2, laws.left-fits _ _ _ _ _ _ _ (S m .pre .1 .0) _ (m .before .enter .ensures)))
     (λ c.
-    let m = c .before .before .before .before .before .before .before in
-    let may = laws.child-may _ _ _ _ _ _ _ (S m .pre .1 .0) (above m)
-    _ (below m)
-    _ (m .before .enter .ensures) _ (m .child .ensures) _ _ (c .before .before .before .before .before .child2 .given .1) in
-    laws.child-by _ _ _ _ _ _ _ (S m .pre .1 .0) (above m) _ (below m) _ (m .before .enter .ensures) _ (m .child .ensures)
-    _ _ _ (c .before .before .before .before .before .child2 .given .1)
-    (laws.last-walked _ _ _ _ _ _ (m .before .enter .result) may (c .before .if1 .taken ∙ x m .levels-is) _ (c .packed .ensures)))
-    (λ c κs.
     let m = c .before .before .before .before .before .before in
     let may = laws.child-may _ _ _ _ _ _ _ (S m .pre .1 .0) (above m)
     _ (below m)
-    _ (m .before .enter .ensures) _ (m .child .ensures) _ _ (c .before .before .before .before .child2 .given .1) in (
+    _ (m .before .enter .ensures) _ (m .child .ensures) _ _ (c .before .before .before .before .child2 .given .1) in
+    laws.child-by _ _ _ _ _ _ _ (S m .pre .1 .0) (above m) _ (below m) _ (m .before .enter .ensures) _ (m .child .ensures)
+    _ _ _ (c .before .before .before .before .child2 .given .1)
+    (laws.last-walked _ _ _ _ _ _ (m .before .enter .result) may (c .before .if1 .taken ∙ x m .levels-is) _ (c .packed .ensures)))
+    (λ c κs.
+    let m = c .before .before .before .before .before in
+    let may = laws.child-may _ _ _ _ _ _ _ (S m .pre .1 .0) (above m)
+    _ (below m)
+    _ (m .before .enter .ensures) _ (m .child .ensures) _ _ (c .before .before .before .child2 .given .1) in (
       omega (arith, S m .pre .0, S m .pre .1 .1),
       (may, omega (arith, may .on .level-in, c .if1 .left, x m .levels-is)),
     ))
     (λ c.
-    let m = c .before .before .before .before .before .before .before in
+    let m = c .before .before .before .before .before .before in
     laws.child-by _ _ _ _ _ _ _ (S m .pre .1 .0) (above m) _ (below m) _ (m .before .enter .ensures) _ (m .child .ensures)
-    _ _ _ (c .before .before .before .before .before .child2 .given .1) (c .pointing-step .ensures)))
+    _ _ _ (c .before .before .before .before .child2 .given .1) (c .pointing-step .ensures)))
     (λ t. pointing-step-lts.spec (pointing-claims t)
     (pointing-step-at t)
     pointing-step.Post
