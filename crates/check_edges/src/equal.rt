@@ -1,4 +1,4 @@
-// Compares edges eight bytes at a time. The builders use `byte_slices::equal_at`, whose short loop is inlined into their own.
+// Compares edges eight and sixteen bytes at a time. The builders use `byte_slices::equal_at`, whose short loop is inlined into their own.
 ghost use mathlib.Core.Path.{_≡_};
 ghost use Prim.Native.Nat.{_+_, _≤_, _<_};
 ghost use lib.ListN.{length};
@@ -26,17 +26,54 @@ fn eight(t: &[u8], at: usize) -> u64
         + 72057594037927936 * wide(t[at + 7])
 }
 
-// Whether the n bytes at p and at q are equal; stops at the first eight that differ.
+// Whether the eight bytes at p and at q are equal.
+fn eight_equal(t: &[u8], p: usize, q: usize) -> bool
+    requires { ⌜ (p + 8 ≤ length (now t)) × (q + 8 ≤ length (now t)) ⌝ }
+    ensures { λ r. ⌜ r ≡ sameList (substring (now (t .entry)) p 8) (substring (now (t .entry)) q 8) ⌝ }
+{
+    eight(t, p) == eight(t, q)
+}
+
+// Whether the sixteen bytes at p and at q are equal.
+fn sixteen_equal(t: &[u8], p: usize, q: usize) -> bool
+    requires { ⌜ (p + 16 ≤ length (now t)) × (q + 16 ≤ length (now t)) ⌝ }
+    ensures { λ r. ⌜ r ≡ sameList (substring (now (t .entry)) p 16) (substring (now (t .entry)) q 16) ⌝ }
+{
+    if !eight_equal(t, p, q) {
+        return false;
+    }
+    eight_equal(t, p + 8, q + 8)
+}
+
+// Whether the n bytes at p and at q are equal, for n below 16: from 8 bytes on the first eight and the last eight, which may overlap.
+fn short_equal(t: &[u8], p: usize, q: usize, n: usize) -> bool
+    requires { ⌜ (n < 16) × (p + n ≤ length (now t)) × (q + n ≤ length (now t)) ⌝ }
+    ensures { λ r. ⌜ r ≡ sameList (substring (now (t .entry)) p n) (substring (now (t .entry)) q n) ⌝ }
+{
+    if n < 8 {
+        return byte_slices::equal_at(t, p, q, n);
+    }
+    if !eight_equal(t, p, q) {
+        return false;
+    }
+    eight_equal(t, p + (n - 8), q + (n - 8))
+}
+
+// Whether the n bytes at p and at q are equal; stops at the first sixteen that differ. The last sixteen may overlap those before.
 pub fn equal_at(t: &[u8], p: usize, q: usize, n: usize) -> bool
     requires { ⌜ (p + n ≤ length (now t)) × (q + n ≤ length (now t)) ⌝ }
     ensures { λ r. ⌜ r ≡ sameList (substring (now (t .entry)) p n) (substring (now (t .entry)) q n) ⌝ }
 {
+    if n < 16 {
+        return short_equal(t, p, q, n);
+    }
+    let last = n - 16;
     let mut i: usize = 0;
-    while 8 <= n - i {
-        if eight(t, p + i) != eight(t, q + i) {
+    while i < last {
+        if !sixteen_equal(t, p + i, q + i) {
             return false;
         }
-        i += 8;
+        i += 16;
     }
-    byte_slices::equal_at(t, p + i, q + i, n - i)
+    sixteen_equal(t, p + last, q + last)
 }
