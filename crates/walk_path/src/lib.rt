@@ -7,7 +7,7 @@ use layout::place::TextPlace;
 use walk_steps::BlockAt;
 use walk_steps::BlockKind;
 ghost use mathlib.Core.Path.{_≡_};
-ghost use Prim.Native.Nat.{_+_, _-_, _*_, _≤_, _<_};
+ghost use Prim.Native.Nat.{_+_, _-_, _*_, _/_, _≤_, _<_};
 ghost use Rattle.format.specs.Layout as at;
 ghost use Rattle.walk_steps.specs.Steps.{OnLevel};
 ghost use Rattle.format.specs.Layout.{maxText, maxLevels};
@@ -110,25 +110,26 @@ fn to_kept(
     }
 }
 
-// From a kept block above the last level to the child that contains the place. The walk ends on the last level, where no block points.
+// From a kept block above the last level to the child that contains the place; `below` is the block length of the children. The walk ends on the last level, where no block points.
 // Both steps take single words as arguments: a struct of two words would be packed and unpacked at each level.
 fn kept_step(
     t: &&[u8],
     size: u32,
     level: u32,
     b: u32,
+    below: u32,
     block: BlockNumber,
     place: BlockPlace,
     entered: u32,
     left: u32,
 ) -> u64
-    requires { ⌜ (KeptAt (now (now t)) size level b (block .0) (place .0) entered) × (level + 1 < at.settings (now (now t)) .levels) ⌝ }
+    requires { ⌜ (KeptAt (now (now t)) size level b (block .0) (place .0) entered) × (level + 1 < at.settings (now (now t)) .levels)
+        × (below ≡ b / at.settings (now (now t)) .arity) ⌝ }
     ensures { λ r. ⌜ walkedIn r ≡ walked (now (now (t .entry))) (record { entered = entered; left = left })
         (aboveFrom (now (now (t .entry))) (at.settings (now (now (t .entry))) .levels - 1 - level) level (block .0) (place .0)) ⌝ }
 {
     let tree = *t;
     let shape = fields::shape_of(tree);
-    let below = walk_steps::quotient(b, shape.arity);
     let trail = WalkState { entered, left };
     let further = trail.enter(b, place);
     let child = walk_steps::child(tree, size, level, below, block, place);
@@ -143,7 +144,7 @@ fn kept_step(
 }
 
 // From a block above the last level, at which a pointer may still be followed. The one call of the step for a kept block lets the compiler join
-// the two steps.
+// the two steps; since the arity is read before any branch, it is read and tested once for all levels.
 fn pointing_step(
     t: &&[u8],
     size: u32,
@@ -159,11 +160,23 @@ fn pointing_step(
         (aboveFrom (now (now (t .entry))) (at.settings (now (now (t .entry))) .levels - 1 - level) level (block .0) (place .0)) ⌝ }
 {
     let tree = *t;
+    let shape = fields::shape_of(tree);
+    let below = walk_steps::quotient(b, shape.arity);
     let there = to_kept(tree, size, level, b, block, place, entered, left);
     let Landing::At(i, p, further) = there else {
         return BROKEN;
     };
-    kept_step(t, size, level, b, i, p, further.entered, further.left)
+    kept_step(
+        t,
+        size,
+        level,
+        b,
+        below,
+        i,
+        p,
+        further.entered,
+        further.left,
+    )
 }
 
 // The size of a record, and the block length of level 0.
