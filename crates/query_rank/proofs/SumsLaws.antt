@@ -21,7 +21,7 @@ use Rattle.layout.specs.declared.place.BlockNumber.{BlockNumber}
 use Rattle.layout.specs.declared.place.BlockPlace.{BlockPlace}
 use Rattle.layout.specs.Record.{FieldIn, field-in}
 use Rattle.walk_steps.specs.declared.BlockKind.{BlockKind}
-use Rattle.walk_steps.specs.declared.BlockKind.the-variants.{Points, Off}
+use Rattle.walk_steps.specs.declared.BlockKind.the-variants.{Kept, Points, Off}
 use Rattle.walk_steps.specs.declared.position.BlockPosition.{BlockPosition}
 use Rattle.walk_steps.specs.declared.BlockAt.{BlockAt}
 use Rattle.walk_steps.specs.declared.BlockAt.the-variants as arrived
@@ -33,9 +33,11 @@ use Rattle.walk_steps.proofs.StepLaws.{kept-in}
 use Rattle.walk_path.proofs.WalkLaws as walk
 use Rattle.walk_path.proofs.WalkLaws.{from-off, from-past, from-no-leaf}
 use Rattle.theory_counts.specs.Ranks.{goes-head, added-target, taken-target}
+use Rattle.query_rank.specs.declared.sums.Landing.{Landing}
+use Rattle.query_rank.specs.declared.sums.Landing.the-variants as landing
 use Rattle.query_rank.specs.declared.sums.Sum.{Sum}
 use Rattle.query_rank.specs.declared.sums.Summed.the-variants.{At}
-use Rattle.query_rank.specs.Sums.{settled, answerIn, rank-onward, addedRest, summed, startSum, wholeSum, Carried, Across}
+use Rattle.query_rank.specs.Sums.{settled, answerIn, rank-onward, addedRest, summed, startSum, wholeSum, Carried, Across, settledFrom, LandedSum}
 
 -- A field of a block of a level can be read.
 pub field-on : (t : List ℕ) (size level b i c f : ℕ)
@@ -153,9 +155,12 @@ rank-packed-word s few small low =
     let b : w / 281474976710656 ≡ s .entered = omega arith in
     rw (ne-eqb w 18446744073709551615 (λ e. omega arith), a, b, le-leb (s .minus) (s .plus) low)
 
-pub settled-none : (t : List ℕ) (byte c : ℕ) (s : Sum) (r : Option Path) → r ≡ none → answerIn 18446744073709551615 ≡ settled (summed t byte c s r)
+refused-none : (t : List ℕ) (byte c : ℕ) (s : Sum) (r : Option Path) → r ≡ none → refused 14 ≡ settled (summed t byte c s r)
 unfolding summed settled
-settled-none t byte c s r e = sym rank-broken-word ∙ rw e
+refused-none t byte c s r e = rw e
+
+pub settled-none : (t : List ℕ) (byte c : ℕ) (s : Sum) (r : Option Path) → r ≡ none → answerIn 18446744073709551615 ≡ settled (summed t byte c s r)
+settled-none t byte c s r e = sym rank-broken-word ∙ refused-none t byte c s r e
 
 -- On the last level, as the code reads it.
 
@@ -183,7 +188,7 @@ unfolding rank-onward
 entered-on s on plus minus e = ap (λ (y : Sum). y .entered) e
 
 pub by-last : (t : List ℕ) (size byte c level b i o : ℕ) (s : Sum) (r : Answer) → KeptAt t size level b i o (s .entered) → level + 1 ≡ at.settings t .levels
-    → r ≡ settled (summed t byte c s (pathFrom t 0 level i o)) → r ≡ settled (summed t byte c s (pathFrom t (at.settings t .levels - 1 - level) level i o))
+    → r ≡ settled (summed t byte c s (pathFrom t 0 level i o)) → r ≡ settledFrom t level byte c i o s
 by-last t size byte c level b i o s r k last e =
     let z : at.settings t .levels - 1 - level ≡ 0 = omega arith in
     rw z e
@@ -204,7 +209,7 @@ module _ (t : List ℕ) (size level b i o : ℕ) (s : Sum) (k : KeptAt t size le
       rw (z, lower .b-is) (from-kept t n level i o (k .kept))
 
   pub by-off : (byte c : ℕ)
-      → x ≡ arrived.Off → answerIn 18446744073709551615 ≡ settled (summed t byte c s (pathFrom t (at.settings t .levels - 1 - level) level i o))
+      → x ≡ arrived.Off → answerIn 18446744073709551615 ≡ settledFrom t level byte c i o s
   by-off byte c e =
       let j = at.link t level i + o / below in
       settled-none t byte c s _ (way-child ∙ rw (from-past t n (level + 1) j (o % below) (child-off t (level + 1) j (o % below) x x-is e)))
@@ -228,7 +233,7 @@ module _ (t : List ℕ) (size level b i o : ℕ) (s : Sum) (k : KeptAt t size le
           )
 
       pub by-child : (byte : ℕ) (r : Answer) → r ≡ settled (summed t byte c on (pathFrom t n (level + 1) (j .0) (p .0)))
-          → r ≡ settled (summed t byte c s (pathFrom t (at.settings t .levels - 1 - level) level i o))
+          → r ≡ settledFrom t level byte c i o s
       by-child byte r f =
           let z = child-at t (level + 1) (at.link t level i + o / below) (o % below) x x-is j p e in
           let way : pathFrom t (at.settings t .levels - 1 - level) level i o ≡ entered (visit level i o ∷ []) (pathFrom t n (level + 1) (j .0) (p .0)) =
@@ -245,10 +250,16 @@ link-low t level i o = go (lt-or-ge (at.gap t level i + o) (at.fullLength t leve
 
 -- From a block at which a pointer may be followed.
 module _ (t : List ℕ) (size level b i o : ℕ) (s : Sum) (k : MayPoint t size level b i o (s .entered)) (x : BlockKind) (x-is : x ≡ nextAt t level i o) where
-  pub by-none : (byte c : ℕ) → x ≡ Off → answerIn 18446744073709551615 ≡ settled (summed t byte c s (pathFrom t (at.settings t .levels - 1 - level) level i o))
+  pub by-none : (byte c : ℕ) → x ≡ Off → LandedSum t size level b byte c i o s landing.Off
+  unfolding LandedSum
   by-none byte c e =
       let z = next-off t level i o x x-is e in
-      settled-none t byte c s _ (from-off t (at.settings t .levels - 1 - level) level i o (z .0) (z .1))
+      refused-none t byte c s _ (from-off t (at.settings t .levels - 1 - level) level i o (z .0) (z .1))
+
+  pub by-itself : (byte c : ℕ) (j : BlockNumber) (p : BlockPlace)
+      → x ≡ Kept j p → Carried t c s → LandedSum t size level b byte c i o s (landing.At (record { 0 = i }) (record { 0 = o }) s)
+  unfolding LandedSum
+  by-itself byte c j p e w = (walk.may-keep t size level b i o (s .entered) k x x-is j p e, w, refl)
 
   module _ (j : BlockNumber) (p : BlockPlace) (e : x ≡ Points j p) (y : BlockAt) (y-is : y ≡ landAt t level i o) where
     points : pointingBlock t level i ≡ true
@@ -260,9 +271,9 @@ module _ (t : List ℕ) (size level b i o : ℕ) (s : Sum) (k : MayPoint t size 
     abbrev trail : WalkState
     trail = record { entered = s .entered; left = 0 }
 
-    pub by-no-land : (byte c : ℕ)
-        → y ≡ arrived.Off → answerIn 18446744073709551615 ≡ settled (summed t byte c s (pathFrom t (at.settings t .levels - 1 - level) level i o))
-    by-no-land byte c f = settled-none t byte c s _ (walk.land-breaks t size level b i o trail k x x-is j p e y y-is f)
+    pub by-no-land : (byte c : ℕ) → y ≡ arrived.Off → LandedSum t size level b byte c i o s landing.Off
+    unfolding LandedSum
+    by-no-land byte c f = refused-none t byte c s _ (walk.land-breaks t size level b i o trail k x x-is j p e y y-is f)
 
     module _ (m : BlockNumber) (q : BlockPlace) (f : y ≡ arrived.At m q) where
       landed : KeptAt t size level b (m .0) (q .0) (s .entered + 1)
@@ -279,19 +290,34 @@ module _ (t : List ℕ) (size level b i o : ℕ) (s : Sum) (k : MayPoint t size 
 
       module _ (byte c : ℕ) (on : Sum)
           (on-is : on ≡ rank-onward s (cond (eqb (m .0) (at.link t level i)) 0 (at.inside t level (at.link t level i) c)) (at.skip t level i c)) where
-        pub to-target : KeptAt t size level b (m .0) (q .0) (on .entered)
-        to-target = rw (entered-on s on (cond (eqb (m .0) (at.link t level i)) 0 (at.inside t level (at.link t level i) c)) (at.skip t level i c) on-is) landed
-
-        pub by-target : (r : Answer) → r ≡ settled (summed t byte c on (pathFrom t (at.settings t .levels - 1 - level) level (m .0) (q .0)))
-            → r ≡ settled (summed t byte c s (pathFrom t (at.settings t .levels - 1 - level) level i o))
-        by-target r g =
+        same-count : settledFrom t level byte c (m .0) (q .0) on ≡ settledFrom t level byte c i o s
+        same-count =
             let z = land-at t level i o y y-is m q f in
             let n = at.settings t .levels - 1 - (level + 1) in
             let a : at.settings t .levels - 1 - level ≡ suc n = omega (arith, z .0) in
             let way : pathFrom t (at.settings t .levels - 1 - level)
             level i o ≡ entered (visit level i o ∷ []) (pathFrom t (at.settings t .levels - 1 - level) level (m .0) (q .0)) =
             rw (a, z .2, z .3) (from-pointing t n level i o apart points (z .1)) in
-            rw way (rw on-is at g ∙ ap settled (sum-target t byte c s (at.settings t .levels - 1 - level) level i o (m .0) (q .0)))
+            rw (way, on-is) (ap settled (sum-target t byte c s (at.settings t .levels - 1 - level) level i o (m .0) (q .0)))
+
+        pub by-target : Carried t c on → LandedSum t size level b byte c i o s (landing.At m q on)
+        unfolding LandedSum
+        by-target w = (
+          rw (entered-on s on (cond (eqb (m .0) (at.link t level i)) 0 (at.inside t level (at.link t level i) c)) (at.skip t level i c) on-is) landed,
+          w,
+          same-count,
+        )
+
+-- From where the count goes on.
+module _ (t : List ℕ) (size level b byte c i o : ℕ) (s : Sum) (y : Landing) (y-is : LandedSum t size level b byte c i o s y) where
+  pub landed-none : y ≡ landing.Off → answerIn 18446744073709551615 ≡ settledFrom t level byte c i o s
+  unfolding LandedSum
+  landed-none e = sym rank-broken-word ∙ rw e at y-is
+
+  pub landed-on : (j : BlockNumber) (p : BlockPlace) (on : Sum) → y ≡ landing.At j p on → (KeptAt t size level b (j .0) (p .0) (on .entered))
+      × (Carried t c on) × (settledFrom t level byte c (j .0) (p .0) on ≡ settledFrom t level byte c i o s)
+  unfolding LandedSum
+  landed-on j p on e = rw e at y-is
 
 -- The whole path.
 
