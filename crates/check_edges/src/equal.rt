@@ -34,20 +34,9 @@ fn eight_equal(t: &[u8], p: usize, q: usize) -> bool
     eight(t, p) == eight(t, q)
 }
 
-// Whether the sixteen bytes at p and at q are equal.
-fn sixteen_equal(t: &[u8], p: usize, q: usize) -> bool
-    requires { ⌜ (p + 16 ≤ length (now t)) × (q + 16 ≤ length (now t)) ⌝ }
-    ensures { λ r. ⌜ r ≡ sameList (substring (now (t .entry)) p 16) (substring (now (t .entry)) q 16) ⌝ }
-{
-    if !eight_equal(t, p, q) {
-        return false;
-    }
-    eight_equal(t, p + 8, q + 8)
-}
-
-// Whether the n bytes at p and at q are equal, for n below 16: from 8 bytes on the first eight and the last eight, which may overlap.
+// Whether the n bytes at p and at q are equal, for n up to 16: from 8 bytes on the first eight and the last eight, which may overlap.
 fn short_equal(t: &[u8], p: usize, q: usize, n: usize) -> bool
-    requires { ⌜ (n < 16) × (p + n ≤ length (now t)) × (q + n ≤ length (now t)) ⌝ }
+    requires { ⌜ (n ≤ 16) × (p + n ≤ length (now t)) × (q + n ≤ length (now t)) ⌝ }
     ensures { λ r. ⌜ r ≡ sameList (substring (now (t .entry)) p n) (substring (now (t .entry)) q n) ⌝ }
 {
     if n < 8 {
@@ -59,21 +48,35 @@ fn short_equal(t: &[u8], p: usize, q: usize, n: usize) -> bool
     eight_equal(t, p + (n - 8), q + (n - 8))
 }
 
-// Whether the n bytes at p and at q are equal; stops at the first sixteen that differ. The last sixteen may overlap those before.
+// The same for n up to 32: from 17 bytes on the first sixteen and the last sixteen.
+fn medium_equal(t: &[u8], p: usize, q: usize, n: usize) -> bool
+    requires { ⌜ (n ≤ 32) × (p + n ≤ length (now t)) × (q + n ≤ length (now t)) ⌝ }
+    ensures { λ r. ⌜ r ≡ sameList (substring (now (t .entry)) p n) (substring (now (t .entry)) q n) ⌝ }
+{
+    if n <= 16 {
+        return short_equal(t, p, q, n);
+    }
+    if !short_equal(t, p, q, 16) {
+        return false;
+    }
+    short_equal(t, p + (n - 16), q + (n - 16), 16)
+}
+
+// Whether the n bytes at p and at q are equal; stops at the first 32 that differ. The last 32 may overlap those before.
 pub fn equal_at(t: &[u8], p: usize, q: usize, n: usize) -> bool
     requires { ⌜ (p + n ≤ length (now t)) × (q + n ≤ length (now t)) ⌝ }
     ensures { λ r. ⌜ r ≡ sameList (substring (now (t .entry)) p n) (substring (now (t .entry)) q n) ⌝ }
 {
-    if n < 16 {
-        return short_equal(t, p, q, n);
+    if n <= 32 {
+        return medium_equal(t, p, q, n);
     }
-    let last = n - 16;
+    let last = n - 32;
     let mut i: usize = 0;
     while i < last {
-        if !sixteen_equal(t, p + i, q + i) {
+        if !medium_equal(t, p + i, q + i, 32) {
             return false;
         }
-        i += 16;
+        i += 32;
     }
-    sixteen_equal(t, p + last, q + last)
+    medium_equal(t, p + last, q + last, 32)
 }

@@ -22,22 +22,23 @@ equal-at-spec =
     (tie.spec Inv-loop μ-loop
     (λ c κs. search needs)
     (λ c. search needs)
+    (λ c. search needs)
     (λ c. (omega arith, laws.none-differ _ _ _))
     (λ c. search needs)
     (λ c. search needs)
     (λ c κs. search needs)
     (λ c. let start = c .before .before .before .before .before .before in
-    laws.part-differs _ _ _ _ _ _ _ _ refl refl (start .pre .0) (start .pre .1) (omega arith) (failed (c .before .sixteen-equal .ensures) (c .if2 .taken)))
+    laws.part-differs _ _ _ _ _ _ _ _ refl refl (start .pre .0) (start .pre .1) (omega arith) (failed (c .before .medium-equal2 .ensures) (c .if2 .taken)))
     (λ c. search needs)
     (λ c. search needs)
     (λ c. let l = c .before .before .before in let start = l .before .before .before in (
       omega arith,
       sym (laws.rest-decides _ _ _ _ _ _ _ _ refl refl (omega (arith, start .pre .0)) (omega (arith, start .pre .1)) _ (omega arith) refl (l .loop .inv .1))
-          ∙ held (c .before .sixteen-equal .ensures) (c .if2 .left),
+          ∙ held (c .before .medium-equal2 .ensures) (c .if2 .left),
     ))
     (λ c. search needs)
     (λ c. search needs)
     (λ c κs. search needs)
     (λ c. let start = c .before .before .before .before .before in
-    c .sixteen-equal2 .ensures
+    c .medium-equal3 .ensures
     ∙ laws.rest-decides _ _ _ _ _ _ _ _ refl refl (start .pre .0) (start .pre .1) _ (omega arith) (omega arith) (c .before .before .loop .inv .1)))
