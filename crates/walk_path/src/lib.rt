@@ -176,7 +176,7 @@ pub fn walk(t: &&[u8], top: TopLevel, p: TextPlace, left: u32) -> u64
     ensures { λ r. ⌜ walkedIn r ≡ walked (now (now (t .entry))) (record { entered = 0; left = left }) (aboveOf (now (now (t .entry))) (p .0)) ⌝ }
 {
     let trail = WalkState { entered: 0, left };
-    let spot = walk_steps::top_spot(p, top.b);
+    let spot = walk_steps::top_position(p, top.b);
     let block = spot.block;
     let place = spot.place;
     let shape = fields::shape_of(*t);
