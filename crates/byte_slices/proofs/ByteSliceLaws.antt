@@ -13,11 +13,11 @@ use Rattle.text.specs.TextLaws.{length-substring, getD-substring}
 use Rattle.byte_slices.specs.ByteSlices.{HasBytes, bytesWritten}
 
 module _ (t : List ℕ) (from n byte j : ℕ) where
-  pub stands-here : (r : ℕ) → r < n → getD t (from + r) 0 ≡ byte → countIn byte (substring t from r) + 1 ≡ j → HasBytes t from n byte j r
-  stands-here r h e c = record { high = omega arith; here = λ x. (e, c); fewer = λ x. absurd (let z : ⊥ = omega arith in z) }
+  pub has-here : (r : ℕ) → r < n → getD t (from + r) 0 ≡ byte → countIn byte (substring t from r) + 1 ≡ j → HasBytes t from n byte j r
+  has-here r h e c = record { high = omega arith; here = λ x. (e, c); fewer = λ x. absurd (let z : ⊥ = omega arith in z) }
 
-  pub stands-not : (r : ℕ) → r ≤ n → n ≤ r → countIn byte (substring t from r) < j → HasBytes t from n byte j r
-  stands-not r h g c =
+  pub has-not : (r : ℕ) → r ≤ n → n ≤ r → countIn byte (substring t from r) < j → HasBytes t from n byte j r
+  has-not r h g c =
       let e : r ≡ n = omega arith in
       record { high = h; here = λ x. absurd (let z : ⊥ = omega arith in z); fewer = λ x. rw e at c }
 

@@ -23,7 +23,7 @@ find-nth-spec =
     (λ c. search needs)
     (λ c. search needs)
     (λ c. search needs)
-    (λ c. laws.stands-here _ _ _ _ _ _ (omega arith) (c .before .if1 .taken) (omega (arith, c .if2 .taken)))
+    (λ c. laws.has-here _ _ _ _ _ _ (omega arith) (c .before .if1 .taken) (omega (arith, c .if2 .taken)))
     (λ c. search needs)
     (λ c. search needs)
     (λ c. search needs)
@@ -48,4 +48,4 @@ find-nth-spec =
       ),
     ))
     (c .if1 .came))
-    (λ c. laws.stands-not _ _ _ _ _ _ (omega arith) (omega arith) (omega arith)))
+    (λ c. laws.has-not _ _ _ _ _ _ (omega arith) (omega arith) (omega arith)))

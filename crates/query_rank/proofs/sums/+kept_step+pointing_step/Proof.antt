@@ -162,7 +162,7 @@ pub +kept-step+pointing-step-spec : {M : Type 1} → statement M
     (λ c.
     let l = c .before .before in
     let m = l .before .before .before in
-    laws.by-no-land _ _ _ _ _ _ _ (from m .pre .1 .0) _ (m .classify-block .ensures)
+    laws.by-no-target _ _ _ _ _ _ _ (from m .pre .1 .0) _ (m .classify-block .ensures)
     _ _ (l .before .enum-told2 .given .1) _ (l .resolve-target .ensures) _ _ (c .enum-told3 .given .1))
     (λ c κs.
     let l = c .before .before .before .before in
