@@ -11,7 +11,7 @@ use Rattle.format.specs.TreeReading.{targetBlock, lastLevel}
 use Rattle.format.specs.LayoutLaws.{Readable, full-pos}
 use Rattle.theory_paths.specs.Links.{Linked, Pointing}
 use Rattle.theory_paths.specs.BlockStarts.{start-below, len-pos, child, target-full}
-use Rattle.theory_paths.specs.PlacesLand.{target}
+use Rattle.theory_paths.specs.PlacesResolved.{target}
 use Rattle.theory_counts.specs.CountsLocal.{upLength, beforeLocal, inLeafBytes, lastChild, handBlock, handPlace, upTo, keptInside, keptLocal, pointingSkip}
 use Rattle.theory_counts.specs.CountsLocal.{pointingInside, pointingLocal, blockLocal}
 use Rattle.theory_counts.specs.SiblingCounts.{neighbour}

@@ -14,7 +14,7 @@ use Rattle.format.specs.Layout as at
 use Rattle.format.specs.LayoutLaws.{Readable, full-pos, full-small, full-last}
 use Rattle.theory_paths.specs.Links.{Linked, Pointing}
 use Rattle.theory_paths.specs.BlockStarts.{len-small, Child, child}
-use Rattle.theory_paths.specs.PlacesLand.{target-first, target-second}
+use Rattle.theory_paths.specs.PlacesResolved.{target-first, target-second}
 use Rattle.layout.specs.declared.place.BlockNumber.{BlockNumber}
 use Rattle.layout.specs.declared.place.BlockPlace.{BlockPlace}
 use Rattle.walk_steps.specs.declared.position.BlockPosition.{BlockPosition}

@@ -16,11 +16,11 @@ use Rattle.format.specs.LayoutLaws.{ask-test}
 use Rattle.theory_paths.specs.OneText.{text-length}
 use Rattle.layout.specs.declared.header.Header.{Header}
 use Rattle.layout.specs.declared.header.HeaderAnswer.{HeaderAnswer}
-use Rattle.layout.specs.declared.header.HeaderAnswer.the-variants as read
+use Rattle.layout.specs.declared.header.HeaderAnswer.the-variants as header
 use Rattle.layout.specs.Header.{headerAnswer}
 use Rattle.layout.specs.HeaderFields.{HeaderOf, header-refused}
 use Rattle.query_places.specs.declared.PlacesWordsAnswer.{PlacesWordsAnswer}
-use Rattle.query_places.specs.declared.PlacesWordsAnswer.the-variants as room
+use Rattle.query_places.specs.declared.PlacesWordsAnswer.the-variants as places-words
 use Rattle.query_places.specs.Places.{maxPattern, occursAt, placesOf, wordsFor, placesWordsAnswer, placesWordsReply, IsPlacesWordsAnswer}
 use Rattle.query_places.specs.TableFilled.{soFar}
 use Rattle.query_places.proofs.PatternSeekLaws.{below-few, so-far-end}
@@ -47,7 +47,7 @@ module _ (t : List ℕ) (len : ℕ) where
   unfolding placesWordsAnswer
   answered h k r e = record { answers = rw (k .passes) (e .0 ∙ ap (λ (n : ℕ). wordsFor n len) (k .length-is)); numbered = e .1 }
 
-  pub unread : (x : HeaderAnswer) → x ≡ headerAnswer t → (q : ℕ) → x ≡ read.Refused q → IsPlacesWordsAnswer t len (room.Refused q)
+  pub unread : (x : HeaderAnswer) → x ≡ headerAnswer t → (q : ℕ) → x ≡ header.Refused q → IsPlacesWordsAnswer t len (places-words.Refused q)
   unfolding placesWordsAnswer
   unread x x-is q e =
       let z = header-refused t x x-is q e in

@@ -15,7 +15,7 @@ use Rattle.format.specs.Layout as at
 use Rattle.format.specs.Layout.{skipField, maxLevels}
 use Rattle.format.specs.TreeReading.{Path, Visit, visit, entered, keptBlock, pointingBlock, targetBlock, pathFrom, pathOf}
 use Rattle.format.specs.Answers.{addedAfter, added, takenAfter, taken, lastPlace, leavesReached, Answer, refused}
-use Rattle.theory_paths.specs.PlacesLand.{from-last, from-kept, from-pointing, target-first, target-second}
+use Rattle.theory_paths.specs.PlacesResolved.{from-last, from-kept, from-pointing, target-first, target-second}
 use Rattle.theory_paths.specs.Visits.{goes}
 use Rattle.layout.specs.declared.place.BlockNumber.{BlockNumber}
 use Rattle.layout.specs.declared.place.BlockPlace.{BlockPlace}
@@ -24,11 +24,11 @@ use Rattle.walk_steps.specs.declared.BlockKind.{BlockKind}
 use Rattle.walk_steps.specs.declared.BlockKind.the-variants.{Kept, Points, Off}
 use Rattle.walk_steps.specs.declared.position.BlockPosition.{BlockPosition}
 use Rattle.walk_steps.specs.declared.BlockAt.{BlockAt}
-use Rattle.walk_steps.specs.declared.BlockAt.the-variants as arrived
-use Rattle.walk_steps.specs.Steps.{OnLevel, nextAt, childAt, landAt}
+use Rattle.walk_steps.specs.declared.BlockAt.the-variants as block-at
+use Rattle.walk_steps.specs.Steps.{OnLevel, blockKindAt, childAt, resolvedTarget}
 use Rattle.walk_path.specs.Walk.{KeptAt, MayPoint, onward as trailed}
 use Rattle.walk_path.specs.declared.WalkState.{WalkState}
-use Rattle.walk_steps.proofs.NextLaws.{next-points, next-off, child-at, child-off, land-at}
+use Rattle.walk_steps.proofs.NextLaws.{next-points, next-off, child-at, child-off, resolved-at}
 use Rattle.walk_steps.proofs.StepLaws.{kept-in}
 use Rattle.walk_path.proofs.WalkLaws as walk
 use Rattle.walk_path.proofs.WalkLaws.{from-off, from-past, from-no-leaf}
@@ -209,12 +209,12 @@ module _ (t : List ℕ) (size level b i o : ℕ) (s : Sum) (k : KeptAt t size le
       rw (z, lower .b-is) (from-kept t n level i o (k .kept))
 
   pub by-off : (byte c : ℕ)
-      → x ≡ arrived.Off → answerIn 18446744073709551615 ≡ settledFrom t level byte c i o s
+      → x ≡ block-at.Off → answerIn 18446744073709551615 ≡ settledFrom t level byte c i o s
   by-off byte c e =
       let j = at.link t level i + o / below in
       settled-none t byte c s _ (way-child ∙ rw (from-past t n (level + 1) j (o % below) (child-off t (level + 1) j (o % below) x x-is e)))
 
-  module _ (c : ℕ) (j : BlockNumber) (p : BlockPlace) (e : x ≡ arrived.At j p) where
+  module _ (c : ℕ) (j : BlockNumber) (p : BlockPlace) (e : x ≡ block-at.At j p) where
     -- The precondition of reading its count before.
     pub down-asks : Carried t c s
         → (OnLevel t size (level + 1) (at.fullLength t (level + 1))) × (j .0 < at.levelCount t (level + 1)) × (s .entered ≤ 2 * maxLevels) × (Carried t c s)
@@ -226,9 +226,9 @@ module _ (t : List ℕ) (size level b i o : ℕ) (s : Sum) (k : KeptAt t size le
       pub to-child : Carried t c on → (MayPoint t size (level + 1) below (j .0) (p .0) (on .entered)) × (Carried t c on)
       unfolding trailed
       to-child w =
-          let trail : WalkState = record { entered = s .entered; left = 0 } in (
+          let state : WalkState = record { entered = s .entered; left = 0 } in (
             rw (entered-on s on (at.before t (level + 1) (j .0) c) 0 on-is)
-                (walk.child-may t size level b i o trail k more below b-is (trailed trail (b - o)) refl x x-is j p e),
+                (walk.child-may t size level b i o state k more below b-is (trailed state (b - o)) refl x x-is j p e),
             w,
           )
 
@@ -249,7 +249,7 @@ link-low t level i o = go (lt-or-ge (at.gap t level i + o) (at.fullLength t leve
     go (inr a) = omega (arith, target-second t level i o a .0)
 
 -- From a block at which a pointer may be followed.
-module _ (t : List ℕ) (size level b i o : ℕ) (s : Sum) (k : MayPoint t size level b i o (s .entered)) (x : BlockKind) (x-is : x ≡ nextAt t level i o) where
+module _ (t : List ℕ) (size level b i o : ℕ) (s : Sum) (k : MayPoint t size level b i o (s .entered)) (x : BlockKind) (x-is : x ≡ blockKindAt t level i o) where
   pub by-none : (byte c : ℕ) → x ≡ Off → LandedSum t size level b byte c i o s landing.Off
   unfolding LandedSum
   by-none byte c e =
@@ -261,38 +261,38 @@ module _ (t : List ℕ) (size level b i o : ℕ) (s : Sum) (k : MayPoint t size 
   unfolding LandedSum
   by-itself byte c j p e w = (walk.may-keep t size level b i o (s .entered) k x x-is j p e, w, refl)
 
-  module _ (j : BlockNumber) (p : BlockPlace) (e : x ≡ Points j p) (y : BlockAt) (y-is : y ≡ landAt t level i o) where
+  module _ (j : BlockNumber) (p : BlockPlace) (e : x ≡ Points j p) (y : BlockAt) (y-is : y ≡ resolvedTarget t level i o) where
     points : pointingBlock t level i ≡ true
     points = next-points t level i o x x-is j p e .1
 
     apart : keptBlock t level i ≡ false
     apart = next-points t level i o x x-is j p e .0
 
-    abbrev trail : WalkState
-    trail = record { entered = s .entered; left = 0 }
+    abbrev state : WalkState
+    state = record { entered = s .entered; left = 0 }
 
-    pub by-no-land : (byte c : ℕ) → y ≡ arrived.Off → LandedSum t size level b byte c i o s landing.Off
+    pub by-no-target : (byte c : ℕ) → y ≡ block-at.Off → LandedSum t size level b byte c i o s landing.Off
     unfolding LandedSum
-    by-no-land byte c f = refused-none t byte c s _ (walk.land-breaks t size level b i o trail k x x-is j p e y y-is f)
+    by-no-target byte c f = refused-none t byte c s _ (walk.land-breaks t size level b i o state k x x-is j p e y y-is f)
 
-    module _ (m : BlockNumber) (q : BlockPlace) (f : y ≡ arrived.At m q) where
-      landed : KeptAt t size level b (m .0) (q .0) (s .entered + 1)
+    module _ (m : BlockNumber) (q : BlockPlace) (f : y ≡ block-at.At m q) where
+      target-kept : KeptAt t size level b (m .0) (q .0) (s .entered + 1)
       unfolding trailed
-      landed = walk.land-to t size level b i o trail k x x-is j p e y y-is (trailed trail (b - o)) refl m q f
+      target-kept = walk.land-to t size level b i o state k x x-is j p e y y-is (trailed state (b - o)) refl m q f
 
       pub target-across : Across t size level i (m .0)
       target-across = record {
         on = rw (← k .on .b-is) (k .on);
         block-in = k .block-in;
-        target-in = kept-in t level (m .0) (landed .kept);
-        link-low = rw (land-at t level i o y y-is m q f .2) (link-low t level i o);
+        target-in = kept-in t level (m .0) (target-kept .kept);
+        link-low = rw (resolved-at t level i o y y-is m q f .2) (link-low t level i o);
       }
 
       module _ (byte c : ℕ) (on : Sum)
           (on-is : on ≡ rank-onward s (cond (eqb (m .0) (at.link t level i)) 0 (at.inside t level (at.link t level i) c)) (at.skip t level i c)) where
         same-count : settledFrom t level byte c (m .0) (q .0) on ≡ settledFrom t level byte c i o s
         same-count =
-            let z = land-at t level i o y y-is m q f in
+            let z = resolved-at t level i o y y-is m q f in
             let n = at.settings t .levels - 1 - (level + 1) in
             let a : at.settings t .levels - 1 - level ≡ suc n = omega (arith, z .0) in
             let way : pathFrom t (at.settings t .levels - 1 - level)
@@ -303,7 +303,7 @@ module _ (t : List ℕ) (size level b i o : ℕ) (s : Sum) (k : MayPoint t size 
         pub by-target : Carried t c on → LandedSum t size level b byte c i o s (landing.At m q on)
         unfolding LandedSum
         by-target w = (
-          rw (entered-on s on (cond (eqb (m .0) (at.link t level i)) 0 (at.inside t level (at.link t level i) c)) (at.skip t level i c) on-is) landed,
+          rw (entered-on s on (cond (eqb (m .0) (at.link t level i)) 0 (at.inside t level (at.link t level i) c)) (at.skip t level i c) on-is) target-kept,
           w,
           same-count,
         )

@@ -64,17 +64,24 @@ impl Sum {
 pub const BROKEN: u64 = 18446744073709551615;
 
 // Adds the leaf bytes of a kept block of the last level, up to a place.
-fn leaf(t: &[u8], size: u32, wanted: CountedByte, on: LevelAt, spot: BlockPosition, sum: Sum) -> u64
-    requires { ⌜ (KeptAt (now t) size (on .level) (on .b) (spot .block .0) (spot .place .0) (sum .entered)) × (Carried (now t) (wanted .number) sum) ⌝ }
+fn leaf(
+    t: &[u8],
+    size: u32,
+    wanted: CountedByte,
+    on: LevelAt,
+    position: BlockPosition,
+    sum: Sum,
+) -> u64
+    requires { ⌜ (KeptAt (now t) size (on .level) (on .b) (position .block .0) (position .place .0) (sum .entered)) × (Carried (now t) (wanted .number) sum) ⌝ }
     ensures { λ r. ⌜ answerIn r ≡ settled (summed (now (t .entry)) (wanted .byte) (wanted .number) sum
-        (pathFrom (now (t .entry)) 0 (on .level) (spot .block .0) (spot .place .0))) ⌝ }
+        (pathFrom (now (t .entry)) 0 (on .level) (position .block .0) (position .place .0))) ⌝ }
 {
-    let link = record::link(t, size, on.level, spot.block);
-    let number = link.0 as u64 + spot.place.0 as u64;
+    let link = record::link(t, size, on.level, position.block);
+    let number = link.0 as u64 + position.place.0 as u64;
     let shape = fields::shape_of(t);
     if number < shape.leaf_count as u64 {
         let from = shape.leaf_offset as usize + link.0 as usize;
-        let here = byte_slices::count_in(t, from, spot.place.0 + 1, wanted.byte);
+        let here = byte_slices::count_in(t, from, position.place.0 + 1, wanted.byte);
         let all = sum.enter(here, 0);
         return all.packed();
     }
@@ -88,17 +95,18 @@ struct Pointer {
 }
 
 // From a pointing block to its target: subtracts the block's skip, and adds the count inside of the first target if the second is entered.
-fn across(t: &[u8], size: u32, wanted: CountedByte, level: u32, hop: Pointer, sum: Sum) -> Sum
-    requires { ⌜ (Across (now t) size level (hop .block .0) (hop .target .0)) × (sum .entered ≤ 2 * maxLevels) × (Carried (now t) (wanted .number) sum) ⌝ }
+fn across(t: &[u8], size: u32, wanted: CountedByte, level: u32, pointer: Pointer, sum: Sum) -> Sum
+    requires { ⌜ (Across (now t) size level (pointer .block .0) (pointer .target .0)) × (sum .entered ≤ 2 * maxLevels)
+        × (Carried (now t) (wanted .number) sum) ⌝ }
     ensures { λ r. ⌜ r ≡ rank-onward sum
-        (cond (eqb (hop .target .0) (at.link (now (t .entry)) level (hop .block .0))) 0
-        (at.inside (now (t .entry)) level (at.link (now (t .entry)) level (hop .block .0)) (wanted .number)))
-        (at.skip (now (t .entry)) level (hop .block .0) (wanted .number)) ⌝ }
+        (cond (eqb (pointer .target .0) (at.link (now (t .entry)) level (pointer .block .0))) 0
+        (at.inside (now (t .entry)) level (at.link (now (t .entry)) level (pointer .block .0)) (wanted .number)))
+        (at.skip (now (t .entry)) level (pointer .block .0) (wanted .number)) ⌝ }
     ensures { λ r. ⌜ Carried (now (t .entry)) (wanted .number) r ⌝ }
 {
-    let link = record::link(t, size, level, hop.block);
-    let skip = record::skip(t, size, level, hop.block, wanted.number);
-    if hop.target.0 == link.0 {
+    let link = record::link(t, size, level, pointer.block);
+    let skip = record::skip(t, size, level, pointer.block, wanted.number);
+    if pointer.target.0 == link.0 {
         return sum.enter(0, skip);
     }
     let inside = record::inside(t, size, level, BlockNumber(link.0), wanted.number);
@@ -128,14 +136,14 @@ fn to_kept(
     size: u32,
     wanted: CountedByte,
     on: LevelAt,
-    spot: BlockPosition,
+    position: BlockPosition,
     sum: Sum,
 ) -> Landing
-    requires { ⌜ (MayPoint (now t) size (on .level) (on .b) (spot .block .0) (spot .place .0) (sum .entered)) × (Carried (now t) (wanted .number) sum) ⌝ }
-    ensures { λ r. ⌜ LandedSum (now (t .entry)) size (on .level) (on .b) (wanted .byte) (wanted .number) (spot .block .0) (spot .place .0) sum r ⌝ }
+    requires { ⌜ (MayPoint (now t) size (on .level) (on .b) (position .block .0) (position .place .0) (sum .entered)) × (Carried (now t) (wanted .number) sum) ⌝ }
+    ensures { λ r. ⌜ LandedSum (now (t .entry)) size (on .level) (on .b) (wanted .byte) (wanted .number) (position .block .0) (position .place .0) sum r ⌝ }
 {
-    let block = spot.block;
-    let place = spot.place;
+    let block = position.block;
+    let place = position.place;
     let here = walk_steps::classify_block(t, size, on.level, on.b, block, place);
     match here {
         BlockKind::Kept(_, _) => Landing::At(block, place, sum),
@@ -144,8 +152,8 @@ fn to_kept(
             let BlockAt::At(i, p) = there else {
                 return Landing::Off;
             };
-            let hop = Pointer { block, target: i };
-            Landing::At(i, p, across(t, size, wanted, on.level, hop, sum))
+            let pointer = Pointer { block, target: i };
+            Landing::At(i, p, across(t, size, wanted, on.level, pointer, sum))
         }
         BlockKind::Off => Landing::Off,
     }
@@ -178,8 +186,8 @@ fn kept_step(
     let under = level + 1;
     if under == shape.levels {
         let on = LevelAt { level, b };
-        let spot = BlockPosition { block, place };
-        return leaf(tree, size, wanted, on, spot, sum);
+        let position = BlockPosition { block, place };
+        return leaf(tree, size, wanted, on, position, sum);
     }
     let below = walk_steps::quotient(b, shape.arity);
     let child = walk_steps::child(tree, size, level, below, block, place);
@@ -224,8 +232,8 @@ fn pointing_step(
         minus,
     };
     let on = LevelAt { level, b };
-    let spot = BlockPosition { block, place };
-    let there = to_kept(tree, size, wanted, on, spot, sum);
+    let position = BlockPosition { block, place };
+    let there = to_kept(tree, size, wanted, on, position, sum);
     let Landing::At(i, p, further) = there else {
         return BROKEN;
     };
@@ -261,16 +269,16 @@ pub fn walk(t: &[u8], h: Header, wanted: CountedByte, place: TextPlace) -> u64
     requires { ⌜ (HeaderOf (now t) h) × (place .0 < h .«text_length») × (wanted .number < at.countedCount (now t)) ⌝ }
     ensures { λ r. ⌜ answerIn r ≡ settled (wholeSum (now (t .entry)) (wanted .byte) (wanted .number) (pathOf (now (t .entry)) (place .0))) ⌝ }
 {
-    let spot = walk_steps::top_spot(place, h.top_length);
-    let sum = start(t, h, wanted, spot.block);
+    let position = walk_steps::top_position(place, h.top_length);
+    let sum = start(t, h, wanted, position.block);
     pointing_step(
         &t,
         h.record_size,
         wanted,
         0,
         h.top_length,
-        spot.block,
-        spot.place,
+        position.block,
+        position.place,
         sum.entered,
         sum.plus,
         sum.minus,

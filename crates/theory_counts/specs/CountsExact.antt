@@ -15,7 +15,7 @@ use Rattle.format.specs.Layout as at
 use Rattle.format.specs.TreeReading.{targetBlock, targetPlace, lastLevel, textOf, countsTrue}
 use Rattle.theory_paths.specs.Links.{H, N, b, s, len, Linked}
 use Rattle.theory_paths.specs.BlockStarts.{child, len-pos, target-full}
-use Rattle.theory_paths.specs.PlacesLand.{target}
+use Rattle.theory_paths.specs.PlacesResolved.{target}
 use Rattle.theory_counts.specs.CountsLocal.{upLength, handBlock, handPlace, handPlus, upTo, beforeLocal, lastChild, keptInside, keptLocal}
 use Rattle.theory_counts.specs.CountsLocal.{pointingSkip, pointingInside, pointingLocal, blockLocal, levelLocal, countsLocal}
 use Rattle.theory_counts.specs.LevelTrue.{tally, parentPlace, Block, Level, counts-facts, counts-make}

@@ -13,7 +13,7 @@ use Rattle.format.specs.Layout as at
 use Rattle.format.specs.TreeReading.{targetBlock, targetPlace}
 use Rattle.theory_paths.specs.Links.{H, N, b, s, len, Pointing, Linked}
 use Rattle.theory_paths.specs.BlockStarts.{target-full}
-use Rattle.theory_paths.specs.PlacesLand.{target, target-first, target-second}
+use Rattle.theory_paths.specs.PlacesResolved.{target, target-first, target-second}
 use Rattle.theory_counts.specs.CountsLocal.{handBlock, handPlace, handPlus, handMinus}
 use Rattle.theory_counts.specs.LevelTrue.{tally, Block, Level}
 use Rattle.theory_counts.specs.CountedSubstrings.{tally-parts, points-tally}

@@ -21,7 +21,7 @@ use Rattle.format.specs.Answers.{pathLength}
 use Rattle.format.specs.Answers.{indexOf, addedAfter, added, takenAfter, taken, lastPlace, leavesReached, countOf, isCounted, numberOfByte, countAnswer}
 use Rattle.theory_paths.specs.Links.{H, N, b, s, len, Linked}
 use Rattle.theory_paths.specs.BlockStarts.{child, len-reach}
-use Rattle.theory_paths.specs.PlacesLand.{kept-block, target, target-first, target-second}
+use Rattle.theory_paths.specs.PlacesResolved.{kept-block, target, target-first, target-second}
 use Rattle.theory_paths.specs.Visits.{Goes, goes}
 use Rattle.theory_paths.specs.PathWalk.{path-holds}
 use Rattle.theory_counts.specs.CountsLocal.{byteOf, inLeafBytes}

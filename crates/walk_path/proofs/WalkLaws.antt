@@ -13,7 +13,7 @@ use Rattle.text.specs.ListLaws.{lt-or-ge, bool-cases, and-left, and-right}
 use Rattle.format.specs.Layout.{maxText, maxLevels}
 use Rattle.format.specs.Layout as at
 use Rattle.format.specs.LayoutLaws.{byte-inside, size-low, full-last}
-use Rattle.format.specs.TreeReading.{visit, keptBlock, pointingBlock, targetBlock, targetPlace, lands, pathFrom}
+use Rattle.format.specs.TreeReading.{visit, keptBlock, pointingBlock, targetBlock, targetPlace, resolves, pathFrom}
 use Rattle.format.specs.Answers.{leftOver}
 use Rattle.theory_paths.specs.Shift.{target-small}
 use Rattle.layout.specs.declared.place.BlockNumber.{BlockNumber}
@@ -26,8 +26,8 @@ use Rattle.walk_steps.specs.declared.BlockAt.the-variants as arrived
 use Rattle.walk_path.specs.declared.WalkState.{WalkState}
 use Rattle.walk_path.specs.declared.WalkAnswer.{WalkAnswer}
 use Rattle.walk_path.specs.declared.WalkAnswer.the-variants.{At, Broken}
-use Rattle.walk_steps.specs.Steps.{OnLevel, Pointing, nextAt, childAt, landAt}
-use Rattle.walk_steps.proofs.NextLaws.{next-kept, next-points, next-off, level-below, child-at, child-off, land-at, land-off}
+use Rattle.walk_steps.specs.Steps.{OnLevel, Pointing, blockKindAt, childAt, resolvedTarget}
+use Rattle.walk_steps.proofs.NextLaws.{next-kept, next-points, next-off, level-below, child-at, child-off, resolved-at, resolved-off}
 use Rattle.walk_steps.proofs.StepLaws.{b-pos, b-small, first-there, kept-in}
 use Rattle.walk_path.specs.declared.Landing.{Landing}
 use Rattle.walk_path.specs.declared.Landing.the-variants as landed
@@ -55,7 +55,7 @@ walked-enter t trail l i o (some a) =
 
 module _ (t : List ℕ) where
   pub from-off : (n l i o : ℕ) → keptBlock t l i ≡ false → pointingBlock t l i ≡ false → pathFrom t n l i o ≡ none
-  unfolding pathFrom lands
+  unfolding pathFrom resolves
   from-off zero l i o k p = rw k
   from-off (suc n) l i o k p = rw (k, p)
 
@@ -69,7 +69,7 @@ module _ (t : List ℕ) where
 
   pub from-no-target : (n l i o : ℕ)
       → keptBlock t l i ≡ false → keptBlock t l (targetBlock t l i o) ≡ false → pointingBlock t l i ≡ true → pathFrom t (suc n) l i o ≡ none
-  unfolding pathFrom lands
+  unfolding pathFrom resolves
   from-no-target n l i o k z p = rw (k, p, z)
 
   pub from-off-lands : (n l i o : ℕ)
@@ -182,7 +182,7 @@ module _ (t : List ℕ) (size level b i o entered : ℕ) (k : MayPoint t size le
   pub may-enter : entered ≤ 2 * maxLevels
   may-enter = omega (arith, k .few, k .on .level-in, k .on .facts .bounds .levels-high)
 
-  module _ (x : BlockKind) (x-is : x ≡ nextAt t level i o) (j : BlockNumber) (p : BlockPlace) where
+  module _ (x : BlockKind) (x-is : x ≡ blockKindAt t level i o) (j : BlockNumber) (p : BlockPlace) where
     pub may-keep : x ≡ Kept j p → KeptAt t size level b i o entered
     may-keep e = record {
       on = k .on;
@@ -200,7 +200,7 @@ same-landing : (j : BlockNumber) (p : BlockPlace) (on : WalkState) (i o : ℕ) (
 same-landing j p on i o trail e f g = rw (← e, ← f, g)
 
 module _ (t : List ℕ) (size level b i o : ℕ) (trail : WalkState) (k : MayPoint t size level b i o (trail .entered)) (x : BlockKind)
-    (x-is : x ≡ nextAt t level i o) where
+    (x-is : x ≡ blockKindAt t level i o) where
   pub landing-off : x ≡ Off → landed.Off ≡ landingAt t trail level i o
   unfolding landingAt
   landing-off e =
@@ -219,7 +219,7 @@ module _ (t : List ℕ) (size level b i o : ℕ) (trail : WalkState) (k : MayPoi
     apart : keptBlock t level i ≡ false
     apart = next-points t level i o x x-is j p e .0
 
-    module _ (y : BlockAt) (y-is : y ≡ landAt t level i o) where
+    module _ (y : BlockAt) (y-is : y ≡ resolvedTarget t level i o) where
       -- On the last level no block points; nor does a target.
       pub land-breaks : y ≡ arrived.Off → pathFrom t (at.settings t .levels - 1 - level) level i o ≡ none
       land-breaks f = go (lt-or-ge (level + 1) (at.settings t .levels))
@@ -227,7 +227,7 @@ module _ (t : List ℕ) (size level b i o : ℕ) (trail : WalkState) (k : MayPoi
           go : (level + 1 < at.settings t .levels) ⊎ (at.settings t .levels ≤ level + 1) → pathFrom t (at.settings t .levels - 1 - level) level i o ≡ none
           go (inl more) =
               let s : at.settings t .levels - 1 - level ≡ suc (at.settings t .levels - 1 - (level + 1)) = omega arith in
-              let z : keptBlock t level (targetBlock t level i o) ≡ false = rw (lt-ltb _ _ more) at (land-off t level i o y y-is f) in
+              let z : keptBlock t level (targetBlock t level i o) ≡ false = rw (lt-ltb _ _ more) at (resolved-off t level i o y y-is f) in
               rw (s, from-no-target t (at.settings t .levels - 1 - (level + 1)) level i o apart z points)
           go (inr last) =
               let s : at.settings t .levels - 1 - level ≡ 0 = omega (arith, k .on .level-in) in
@@ -236,14 +236,14 @@ module _ (t : List ℕ) (size level b i o : ℕ) (trail : WalkState) (k : MayPoi
       pub landing-none : level + 1 < at.settings t .levels → y ≡ arrived.Off → landed.Off ≡ landingAt t trail level i o
       unfolding landingAt
       landing-none more f =
-          let z : keptBlock t level (targetBlock t level i o) ≡ false = rw (lt-ltb _ _ more) at (land-off t level i o y y-is f) in
+          let z : keptBlock t level (targetBlock t level i o) ≡ false = rw (lt-ltb _ _ more) at (resolved-off t level i o y y-is f) in
           rw (apart, points, z)
 
       module _ (on : WalkState) (on-is : on ≡ onward trail (b - o)) (m : BlockNumber) (q : BlockPlace) (f : y ≡ arrived.At m q) where
         pub land-to : KeptAt t size level b (m .0) (q .0) (on .entered)
         unfolding onward
         land-to =
-            let z = land-at t level i o y y-is m q f in
+            let z = resolved-at t level i o y y-is m q f in
             let small = target-small t level i o points (rw (k .on .b-is) at (k .place-in)) in
             let n : on .entered ≡ trail .entered + 1 = ap (λ (w : WalkState). w .entered) on-is in record {
               on = k .on;
@@ -255,7 +255,7 @@ module _ (t : List ℕ) (size level b i o : ℕ) (trail : WalkState) (k : MayPoi
         pub landing-target : landed.At m q on ≡ landingAt t trail level i o
         unfolding landingAt
         landing-target =
-            let z = land-at t level i o y y-is m q f in
+            let z = resolved-at t level i o y y-is m q f in
             rw (apart, points, z .1) (same-landing m q on _ _ _ (z .2) (z .3) (on-is ∙ ap (λ (y : ℕ). onward trail (y - o)) (k .on .b-is)))
 
 -- Where the walk goes on: in the block itself, or in its target.

@@ -190,9 +190,9 @@ pub fn walk(t: &&[u8], top: TopLevel, p: TextPlace, left: u32) -> u64
     requires { ⌜ (OnLevel (now (now t)) (top .size) 0 (top .b)) × (p .0 < at.textLength (now (now t))) × (left ≤ maxText) ⌝ }
     ensures { λ r. ⌜ walkedIn r ≡ walked (now (now (t .entry))) (record { entered = 0; left = left }) (aboveOf (now (now (t .entry))) (p .0)) ⌝ }
 {
-    let spot = walk_steps::top_spot(p, top.b);
-    let block = spot.block;
-    let place = spot.place;
+    let position = walk_steps::top_position(p, top.b);
+    let block = position.block;
+    let place = position.place;
     let shape = fields::shape_of(*t);
     if shape.levels == 1 {
         return packed(block, place, WalkState { entered: 0, left });

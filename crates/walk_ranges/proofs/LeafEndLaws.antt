@@ -19,8 +19,8 @@ use Rattle.format.specs.TreeReading.{Path, Visit, visit, entered, keptBlock, pa
 use Rattle.format.specs.Answers.{Answer, refused, byteAnswer, byteOf, leftOver}
 use Rattle.theory_paths.specs.PlaceBytes.{byte-path}
 use Rattle.theory_paths.specs.Visits.{goes, goes-short}
-use Rattle.theory_paths.specs.PlacesLand.{from-last}
-use Rattle.theory_paths.specs.Shift.{further, length-further, left-most, left-within}
+use Rattle.theory_paths.specs.PlacesResolved.{from-last}
+use Rattle.theory_paths.specs.Shift.{further, length-further, left-most, left-in-blocks}
 use Rattle.theory_paths.specs.Reads.{byte-of-path}
 use Rattle.walk_steps.proofs.StepLaws.{kept-in}
 use Rattle.layout.specs.declared.header.Header.{Header}
@@ -309,7 +309,7 @@ module _ (t : List ℕ) (p : ℕ) (h : Header) (k : HeaderOf t h) (r : LeafEnd) 
         ≡ some (record { visits = further d (e .above .visits) ++ (visit (lastLevel t) joined-block joined-place ∷ []); leaf = r .leaf + d })
     joined-path =
         let full = full-last t (k .facts) in
-        let w = left-within t (e .above .visits) (at.textLength t - p) d (omega (arith, e .left-is)) in
+        let w = left-in-blocks t (e .above .visits) (at.textLength t - p) d (omega (arith, e .left-is)) in
         let i = same-block (e .above .block) (r .block .0) (e .above .place) (r .place .0) d _ _ (e .block-is) (e .place-is) full in
         let o = same-place (e .above .place) (r .place .0) d _ _ (e .place-is) full in
         let kept = j .kept d less in

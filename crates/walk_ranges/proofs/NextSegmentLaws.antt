@@ -17,7 +17,7 @@ use Rattle.format.specs.Layout as at
 use Rattle.format.specs.LayoutLaws.{Readable, full-step, full-pos, full-small}
 use Rattle.format.specs.TreeReading.{Path, Visit, visit, entered, provided, keptBlock, pointingBlock, targetBlock, targetPlace, pathFrom}
 use Rattle.theory_paths.specs.Links.{b, H}
-use Rattle.theory_paths.specs.PlacesLand.{from-kept, from-pointing, target-first, target-second}
+use Rattle.theory_paths.specs.PlacesResolved.{from-kept, from-pointing, target-first, target-second}
 use Rattle.walk_path.proofs.WalkLaws.{from-off, from-no-target, from-last-points}
 use Rattle.walk_path.proofs.AlongLaws.{carry-div, carry-mod}
 use Rattle.walk_steps.specs.Steps.{OnLevel, Pointing}

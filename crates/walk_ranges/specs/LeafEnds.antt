@@ -11,7 +11,7 @@ use Rattle.format.specs.Answers.{refused, byteAnswer, leftOver}
 use Rattle.walk_path.specs.Above.{Above, aboveOf}
 use Rattle.walk_ranges.specs.declared.leaf_end.LeafEnd.{LeafEnd}
 use Rattle.walk_ranges.specs.declared.leaf_end.LeafEndAnswer.{LeafEndAnswer}
-use Rattle.walk_ranges.specs.declared.leaf_end.LeafEndAnswer.the-variants as found
+use Rattle.walk_ranges.specs.declared.leaf_end.LeafEndAnswer.the-variants as leaf-end
 
 module _ (t : List ℕ) where
   abbrev pub lastLevel : ℕ
@@ -36,8 +36,8 @@ module _ (t : List ℕ) where
 
   -- The answer of `end_of`.
   abbrev pub LeafEndOf : ℕ → LeafEndAnswer → Type 0
-  LeafEndOf p (found.At r) = LeafEndAt p r
-  LeafEndOf p found.Broken = byteAnswer t p ≡ refused 14
+  LeafEndOf p (leaf-end.At r) = LeafEndAt p r
+  LeafEndOf p leaf-end.Broken = byteAnswer t p ≡ refused 14
 
   -- The n places from r on are in kept blocks that follow each other, and so are their leaf bytes.
   pub record Joined (r : LeafEnd) (n : ℕ) : Type 0 where

@@ -1,6 +1,6 @@
 use Prim.Native.Nat.{_≤_, _-_}
 use native.Mathlib.Omega.{arith}
-use Rattle.build_records.proofs.Growth.{grown-none, grown-then}
+use Rattle.build_records.proofs.WritesOnlyTreeLaws.{only-tree-refl, only-tree-trans}
 use Rattle.build_levels.proofs.LeafLaws as laws
 use Rattle.build_levels.proofs.leaf.put_leaves.Statement.{statement}
 use Rattle.build_levels.proofs.leaf.put_leaves.Tie as tie
@@ -23,7 +23,7 @@ put-leaves-spec =
     (tie.spec Inv-loop μ-loop
     (λ c. let a = c .before .before .before .args in (
       omega arith,
-      (grown-none (treeOf (recordSettingsOf (a .level .settings) (a .counted .now)) (a .text .now)) (a .out .now), c .before .before .before .pre),
+      (only-tree-refl (treeOf (recordSettingsOf (a .level .settings) (a .counted .now)) (a .text .now)) (a .out .now), c .before .before .before .pre),
     ))
     (λ c κs. (c .before .before .before .loop .inv .1 .1, c .before .if1 .taken))
     (λ c. let w = c .before .before in let v = w .before .before in let a = v .before .before .before .before .before .before .args in
@@ -38,7 +38,7 @@ put-leaves-spec =
     let a = v .before .before .before .before .before .before .args in let S = recordSettingsOf (a .level .settings) (a .counted .now) in (
       omega (arith, v .if1 .taken),
       (
-        grown-then (treeOf S (a .text .now)) _ _ _ (v .before .before .loop .inv .1 .0) (w .put-leaf .ensures .1 .0),
+        only-tree-trans (treeOf S (a .text .now)) _ _ _ (v .before .before .loop .inv .1 .0) (w .put-leaf .ensures .1 .0),
         laws.leafing-more S (a .text .now) _ (a .level) _ _ (v .before .before .loop .inv .1 .1)
             (v .if1 .taken) _ _ (w .put-leaf .ensures .0) (w .put-leaf .ensures .1 .0) (w .put-leaf .ensures .1 .1),
       ),

@@ -22,7 +22,7 @@ to-kept-spec =
     (λ c. search needs)
     (λ c. let l = c .before .before in
     let m = l .before .before .before in
-    laws.by-no-land _ _ _ _ _ _ _ (from m .pre .0) _ (m .classify-block .ensures) _ _ (l .before .enum-told2 .given .1)
+    laws.by-no-target _ _ _ _ _ _ _ (from m .pre .0) _ (m .classify-block .ensures) _ _ (l .before .enum-told2 .given .1)
     _ (l .resolve-target .ensures) _ _ (c .enum-told3 .given .1))
     (λ c κs. let l = c .before .before .before in
     let m = l .before .before .before in (

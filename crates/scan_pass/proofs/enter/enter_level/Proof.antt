@@ -24,10 +24,10 @@ enter-level-spec =
     (λ c κs. let z = c .before .before .before .before .before .before .before .before .before .before in
     (z .pre .0 .placed, omega (arith, z .pre .1 .items-are)))
     (λ c. let w = c .before .before .before .before in let z = w .before .before .before .before .before .before .before in
-    laws.going-first _ _ _ (z .pre .1) (z .pre .0 .placed) _ _ _ (z .pre .0) (w .clear .ensures) (c .block-print .ensures))
-    (λ c. omega (arith, c .loop .inv .within, c .loop .inv .entrants .laid .placed .items-few))
-    (λ c. omega (arith, c .loop .inv .within, c .loop .inv .entrants .laid .placed .items-few))
-    (λ c. omega (arith, c .before .before .loop .inv .within, c .before .before .loop .inv .entrants .laid .placed .items-few))
+    laws.going-first _ _ _ (z .pre .1) (z .pre .0 .placed) _ _ _ (z .pre .0) (w .clear .ensures) (c .block-fingerprint .ensures))
+    (λ c. omega (arith, c .loop .inv .within, c .loop .inv .items-entered .laid .placed .items-few))
+    (λ c. omega (arith, c .loop .inv .within, c .loop .inv .items-entered .laid .placed .items-few))
+    (λ c. omega (arith, c .before .before .loop .inv .within, c .before .before .loop .inv .items-entered .laid .placed .items-few))
     (λ c κs. let w = c .before .before .before .before .before .before .before in
     let z = w .before .before .before .before .before .before .before in (
       z .pre .0 .placed,
@@ -35,11 +35,11 @@ enter-level-spec =
     ))
     (λ c κs. let w = c .before .before in let v = w .before .before in
     let z = v .before .before .before .before .before .before .before .before .before .before .before .before in let g = v .loop .inv in (
-      (g .entrants, z .pre .1, laws.next-block _ _ _ (z .pre .1) (z .pre .0 .placed) _ _ _ _ _ g (w .if1 .taken)),
+      (g .items-entered, z .pre .1, laws.next-block _ _ _ (z .pre .1) (z .pre .0 .placed) _ _ _ _ _ g (w .if1 .taken)),
       (
-        g .print-is,
-        laws.next-print
-            _ _ _ (z .pre .1) (z .pre .0 .placed) _ _ _ _ _ g (w .if1 .taken) _ (c .before .block-print2 .ensures),
+        g .fingerprint-is,
+        laws.next-fingerprint
+            _ _ _ (z .pre .1) (z .pre .0 .placed) _ _ _ _ _ g (w .if1 .taken) _ (c .before .block-fingerprint2 .ensures),
         v .before .before .power .ensures,
       ),
     ))
@@ -48,15 +48,15 @@ enter-level-spec =
     (λ c κs. let w = c .before .before .before .before .before .before .before .before .before .before in
     w .before .before .before .before .before .before .before .before .before .before .pre .0 .placed .size-few)
     (λ c. let w = c .before .before .before .before .before .before .before .before .before in
-    omega (arith, w .loop .inv .within, w .loop .inv .entrants .laid .placed .items-few))
+    omega (arith, w .loop .inv .within, w .loop .inv .items-entered .laid .placed .items-few))
     (λ c. omega (arith, c .before .before .before .before .before .before .before .before .before .loop .inv .within))
     (λ c. let w = c .before .before .before .before in let v = w .before .before in let z =
     v .before .before .before .before .before .before .before .before .before .before .before .before .before .before .before in laws.going-next _
     _ _ (z .pre .1) (z .pre .0 .placed) _ _ _ _ _ (v .before .before .before .loop .inv) (v .before .if1 .taken) _ _ _ _ _ (w .enter-both .kept .0)
-    (w .enter-both .ensures .0) (w .enter-both .ensures .1) (v .block-print2 .ensures) (c .before .with-length .ensures) (c .with-length2 .ensures))
-    (λ c. omega (arith, c .before .before .before .loop .inv .within, c .before .before .before .loop .inv .entrants .laid .placed .items-few))
-    (λ c κs. let g = c .before .before .before .loop .inv in (laws.turn _ _ _ _ _ (g .entrants) (g .within), g .print-is))
-    (λ c. let w = c .before .before .before .before .before .before in omega (arith, w .loop .inv .within, w .loop .inv .entrants .laid .placed .items-few))
+    (w .enter-both .ensures .0) (w .enter-both .ensures .1) (v .block-fingerprint2 .ensures) (c .before .with-length .ensures) (c .with-length2 .ensures))
+    (λ c. omega (arith, c .before .before .before .loop .inv .within, c .before .before .before .loop .inv .items-entered .laid .placed .items-few))
+    (λ c κs. let g = c .before .before .before .loop .inv in (laws.turn _ _ _ _ _ (g .items-entered) (g .within), g .fingerprint-is))
+    (λ c. let v = c .before .before .before .before .before .before .loop .inv in omega (arith, v .within, v .items-entered .laid .placed .items-few))
     (λ c κs. let w = c .before .before .before .before .before .before in let v = w .before .before .before .before .before .before in
     (v .before .before .before .before .before .before .pre .0 .placed, w .loop .inv .within))
     (λ c κs. let w = c .before .before .before .before .before .before .before .before .before in
@@ -67,6 +67,6 @@ enter-level-spec =
     let z = v .before .before .before .before .before .before .before .before .before .before .before .before in (
       laws.all-entered _ _ _ (z .pre .1)
           (z .pre .0 .placed) _ _ _ _ _ (v .loop .inv) (w .if1 .left) _ (c .before .before .before .before .enter .ensures),
-      laws.all-noted _ _ _
+      laws.all-lengths _ _ _
           (z .pre .1) (z .pre .0 .placed) _ _ _ _ _ (v .loop .inv) (w .if1 .left) _ _ (c .before .bytes-of .ensures .length-is) (c .with-length3 .ensures),
     )))

@@ -3,7 +3,7 @@ use native.Mathlib.Omega.{arith}
 use mathlib.Core.Path.{refl, _∙_}
 use Prim.Native.Nat.{_-_}
 use lib.ListN.{length}
-use Rattle.scan_pass.specs.Passes.{CutStanding}
+use Rattle.scan_pass.specs.Passes.{CutWindowsAt}
 use Rattle.scan_pass.proofs.PassLaws as laws
 use Rattle.scan_pass.proofs.pass.pass.Statement.{statement}
 use Rattle.scan_pass.proofs.pass.pass.Tie as tie
@@ -11,7 +11,7 @@ use Rattle.scan_pass.proofs.pass.pass.Tie as tie
 abbrev Inv-loop : tie.InvT-loop
 Inv-loop words₀ text out it a₀ b₀ cut₀ p₀ words a b cut p =
     laws.Passing text out it (a₀ .len) (b₀ .len) (cut₀ .last .len) (cut₀ .ending .len) words₀ words p a b (cut .last) (cut .ending)
-    × CutStanding (it .seed) text (cut₀ .last .len) (cut₀ .ending .len) p cut
+    × CutWindowsAt (it .seed) text (cut₀ .last .len) (cut₀ .ending .len) p cut
 
 abbrev μ-loop : tie.MeasureT-loop
 μ-loop words₀ text out it a₀ b₀ cut₀ p₀ words a b cut p = length text - p

@@ -111,14 +111,14 @@ pub +gather-packed-spec : {M : Type 1} → statement M
       arith,
       laws.entered-few _ _ _ _ 0 _ _ _ (S e .pre .1),
       laws.down-few _ _ _ _ _ _ _ _ (S e .pre .1) (f e .if1 .left) (more e) _ ((z .settle .ensures)) _ _ _ _
-          (c .before .land .given .1),
+          (c .before .step .given .1),
     ))
     (λ c κs.
     let z = c .before .before .before in let e = z .before .before in (
       omega (arith, S e .pre .0, S e .pre .1 .on .level-in, e .if2 .left, x e .levels-is),
       (laws.down-asks _ _ _ _ _ _ _ _ (S e .pre .1) (f e .if1 .left) (more e) _
           ((z .settle .ensures))
-          _ _ _ _ (c .before .land .given .1) _
+          _ _ _ _ (c .before .step .given .1) _
           (laws.c-is _ _ _ _ 0 _ _ _ (S e .pre .1) (f e .if1 .left) (more e) _ _ (z .before .quotient .ensures) (x e .arity-is))),
     ))
     (λ c. search needs)
@@ -129,16 +129,16 @@ pub +gather-packed-spec : {M : Type 1} → statement M
     let z = c .before .before .before in let e = z .before .before in
     (laws.between-asks _ _ _ _ _ _ _ _ (S e .pre .1) (f e .if1 .left) (more e) _
     ((z .settle .ensures))
-    _ _ (c .before .land2 .given .1)))
+    _ _ (c .before .step2 .given .1)))
     (λ c. search needs)
     (λ c.
     let z = c .before .before .before .before in let e = z .before .before in
     laws.down-by _ _ _ _ _ _ _ _ (S e .pre .1) (f e .if1 .left) (more e) _ ((z .settle .ensures))
-    _ _ _ _ (c .before .before .land .given .1) _ ((c .gather-packed .ensures)))
+    _ _ _ _ (c .before .before .step .given .1) _ ((c .gather-packed .ensures)))
     (λ c.
     let z = c .before .before .before .before in let e = z .before .before in
     laws.between-by _ _ _ _ _ _ _ _ (S e .pre .1) (f e .if1 .left) (more e) _ ((z .settle .ensures))
-    _ _ (c .before .before .land2 .given .1) _ ((c .over2 .ensures)))
+    _ _ (c .before .before .step2 .given .1) _ ((c .over2 .ensures)))
     (λ c.
     let z = c .before .before in let e = z .before .before in
     unpacked-none _ _ refl ∙ laws.off-by _ _ _ _ _ _ _ _ (S e .pre .1) (f e .if1 .left) (more e) _ ((z .settle .ensures)) (c .enum-told .given .1)))

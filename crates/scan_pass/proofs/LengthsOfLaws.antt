@@ -11,34 +11,35 @@ use Rattle.text.specs.ListLaws.{lt-or-ge}
 use Rattle.scan_hash_table.specs.declared.Items.{Items}
 use Rattle.scan_hash_table.specs.Entries.{Placed, lengthAt}
 use Rattle.scan_pass.specs.declared.Lengths.{Lengths}
-use Rattle.scan_pass.specs.Passes.{Present, Ordered, Among, Has, LengthNoted, Covers, EnteredItems, notedBy}
+use Rattle.scan_pass.specs.Passes.{Present, Ordered, Among, Has, LengthsOf, Covers, EnteredItems, withLength}
 use Rattle.scan_pass.proofs.ItemLengths.{length-low, length-high, length-most, short-is-last, cut-is-last}
 
--- What `notedBy` comes to.
+-- What `withLength` comes to.
 module _ (l : Lengths) (size n : ℕ) where
-  pub noted-none : n ≡ 0 → l ≡ notedBy l size n
-  noted-none e = rw (eq-eqb n 0 e)
+  pub lengths-none : n ≡ 0 → l ≡ withLength l size n
+  lengths-none e = rw (eq-eqb n 0 e)
 
   module _ (some : n ≡ 0 → ⊥) where
-    pub noted-short : n < size → record { block = l .block; pair = l .pair; last = n; ending = l .ending } ≡ notedBy l size n
-    noted-short a = rw (ne-eqb n 0 some, lt-ltb n size a)
+    pub lengths-short : n < size → record { block = l .block; pair = l .pair; last = n; ending = l .ending } ≡ withLength l size n
+    lengths-short a = rw (ne-eqb n 0 some, lt-ltb n size a)
 
-    pub noted-full : size ≤ n → n ≡ size → record { block = n; pair = l .pair; last = l .last; ending = l .ending } ≡ notedBy l size n
-    noted-full a e = rw (ne-eqb n 0 some, le-ltb n size a, eq-eqb n size e)
+    pub lengths-full : size ≤ n → n ≡ size → record { block = n; pair = l .pair; last = l .last; ending = l .ending } ≡ withLength l size n
+    lengths-full a e = rw (ne-eqb n 0 some, le-ltb n size a, eq-eqb n size e)
 
-    pub noted-both : size ≤ n → (n ≡ size → ⊥) → n ≡ size + size → record { block = l .block; pair = n; last = l .last; ending = l .ending } ≡ notedBy l size n
-    noted-both a d e = rw (ne-eqb n 0 some, le-ltb n size a, ne-eqb n size d, eq-eqb n (size + size) e)
+    pub lengths-both : size ≤ n → (n ≡ size → ⊥) → n ≡ size + size
+        → record { block = l .block; pair = n; last = l .last; ending = l .ending } ≡ withLength l size n
+    lengths-both a d e = rw (ne-eqb n 0 some, le-ltb n size a, ne-eqb n size d, eq-eqb n (size + size) e)
 
-    pub noted-cut : size ≤ n → (n ≡ size → ⊥)
-        → (n ≡ size + size → ⊥) → record { block = l .block; pair = l .pair; last = l .last; ending = n } ≡ notedBy l size n
-    noted-cut a d e = rw (ne-eqb n 0 some, le-ltb n size a, ne-eqb n size d, ne-eqb n (size + size) e)
+    pub lengths-cut : size ≤ n → (n ≡ size → ⊥)
+        → (n ≡ size + size → ⊥) → record { block = l .block; pair = l .pair; last = l .last; ending = n } ≡ withLength l size n
+    lengths-cut a d e = rw (ne-eqb n 0 some, le-ltb n size a, ne-eqb n size d, ne-eqb n (size + size) e)
 
 module _ (T out : List ℕ) (it : Items) (o : Ordered T out it) (h : Placed T out it) where
   abbrev no-lengths : Lengths
   no-lengths = record { block = 0; pair = 0; last = 0; ending = 0 }
 
-  pub noted-first : LengthNoted T out it 0 no-lengths
-  noted-first = record {
+  pub lengths-first : LengthsOf T out it 0 no-lengths
+  lengths-first = record {
     covers = λ x l p. absurd (let z : ⊥ = omega arith in z);
     block-is = inl refl;
     pair-is = inl refl;
@@ -49,7 +50,7 @@ module _ (T out : List ℕ) (it : Items) (o : Ordered T out it) (h : Placed T ou
   has-more : (k n : ℕ) → Has T out it k n → Has T out it (k + 1) n
   has-more k n (x, l, p, e) = (x, omega arith, p, e)
 
-  module _ (k : ℕ) (l : Lengths) (s : LengthNoted T out it k l) where
+  module _ (k : ℕ) (l : Lengths) (s : LengthsOf T out it k l) where
     block-more : (l .block ≡ 0)
         ⊎ ((l .block ≡ it .size) × Has T out it k (l .block)) → (l .block ≡ 0) ⊎ ((l .block ≡ it .size) × Has T out it (k + 1) (l .block))
     block-more (inl e) = inl e
@@ -70,8 +71,8 @@ module _ (T out : List ℕ) (it : Items) (o : Ordered T out it) (h : Placed T ou
     ending-more (inr (e, f, g)) = inr (e, f, has-more k (l .ending) g)
 
     -- Item k is not there.
-    pub noted-past : (Present T out it k → ⊥) → LengthNoted T out it (k + 1) l
-    noted-past un = record {
+    pub lengths-past : (Present T out it k → ⊥) → LengthsOf T out it (k + 1) l
+    lengths-past un = record {
       covers = λ x xl p. go x p (lt-or-ge x k) (omega arith);
       block-is = block-more (s .block-is);
       pair-is = pair-more (s .pair-is);
@@ -101,7 +102,7 @@ module _ (T out : List ℕ) (it : Items) (o : Ordered T out it) (h : Placed T ou
           go (inr a) = let e : k ≡ x = omega arith in
               subst (λ (y : ℕ). Among (it .size) new (lengthAt T out it y)) e (subst (Among (it .size) new) (sym n-is) mine)
 
-      with-short : n < it .size → LengthNoted T out it (k + 1) (record { block = l .block; pair = l .pair; last = n; ending = l .ending })
+      with-short : n < it .size → LengthsOf T out it (k + 1) (record { block = l .block; pair = l .pair; last = n; ending = l .ending })
       with-short a = record {
         covers = covering (record { block = l .block; pair = l .pair; last = n; ending = l .ending })
             (record {
@@ -123,7 +124,7 @@ module _ (T out : List ℕ) (it : Items) (o : Ordered T out it) (h : Placed T ou
         ending-is = ending-more (s .ending-is);
       }
 
-      with-full : n ≡ it .size → LengthNoted T out it (k + 1) (record { block = n; pair = l .pair; last = l .last; ending = l .ending })
+      with-full : n ≡ it .size → LengthsOf T out it (k + 1) (record { block = n; pair = l .pair; last = l .last; ending = l .ending })
       with-full a = record {
         covers = covering (record { block = n; pair = l .pair; last = l .last; ending = l .ending })
             (record {
@@ -139,7 +140,7 @@ module _ (T out : List ℕ) (it : Items) (o : Ordered T out it) (h : Placed T ou
         ending-is = ending-more (s .ending-is);
       }
 
-      with-both : n ≡ it .size + it .size → LengthNoted T out it (k + 1) (record { block = l .block; pair = n; last = l .last; ending = l .ending })
+      with-both : n ≡ it .size + it .size → LengthsOf T out it (k + 1) (record { block = l .block; pair = n; last = l .last; ending = l .ending })
       with-both a = record {
         covers = covering (record { block = l .block; pair = n; last = l .last; ending = l .ending })
             (record {
@@ -155,7 +156,7 @@ module _ (T out : List ℕ) (it : Items) (o : Ordered T out it) (h : Placed T ou
         ending-is = ending-more (s .ending-is);
       }
 
-      with-cut : it .size < n → n < it .size + it .size → LengthNoted T out it (k + 1) (record { block = l .block; pair = l .pair; last = l .last; ending = n })
+      with-cut : it .size < n → n < it .size + it .size → LengthsOf T out it (k + 1) (record { block = l .block; pair = l .pair; last = l .last; ending = n })
       with-cut a b = record {
         covers = covering (record { block = l .block; pair = l .pair; last = l .last; ending = n })
             (record {
@@ -177,18 +178,18 @@ module _ (T out : List ℕ) (it : Items) (o : Ordered T out it) (h : Placed T ou
         ending-is = inr (a, b, own);
       }
 
-      pub noted-more : LengthNoted T out it (k + 1) (notedBy l (it .size) n)
-      noted-more = go (lt-or-ge n (it .size)) (ℕ-discrete n (it .size)) (ℕ-discrete n (it .size + it .size))
+      pub lengths-more : LengthsOf T out it (k + 1) (withLength l (it .size) n)
+      lengths-more = go (lt-or-ge n (it .size)) (ℕ-discrete n (it .size)) (ℕ-discrete n (it .size + it .size))
         where
-          go : (n < it .size) ⊎ (it .size ≤ n) → Dec (n ≡ it .size) → Dec (n ≡ it .size + it .size) → LengthNoted T out it (k + 1) (notedBy l (it .size) n)
-          go (inl a) d e = subst (LengthNoted T out it (k + 1)) (noted-short l (it .size) n some a) (with-short a)
-          go (inr a) (yes d) e = subst (LengthNoted T out it (k + 1)) (noted-full l (it .size) n some a d) (with-full d)
-          go (inr a) (no d) (yes e) = subst (LengthNoted T out it (k + 1)) (noted-both l (it .size) n some a d e) (with-both e)
-          go (inr a) (no d) (no e) = subst (LengthNoted T out it (k + 1)) (noted-cut l (it .size) n some a d e)
+          go : (n < it .size) ⊎ (it .size ≤ n) → Dec (n ≡ it .size) → Dec (n ≡ it .size + it .size) → LengthsOf T out it (k + 1) (withLength l (it .size) n)
+          go (inl a) d e = subst (LengthsOf T out it (k + 1)) (lengths-short l (it .size) n some a) (with-short a)
+          go (inr a) (yes d) e = subst (LengthsOf T out it (k + 1)) (lengths-full l (it .size) n some a d) (with-full d)
+          go (inr a) (no d) (yes e) = subst (LengthsOf T out it (k + 1)) (lengths-both l (it .size) n some a d e) (with-both e)
+          go (inr a) (no d) (no e) = subst (LengthsOf T out it (k + 1)) (lengths-cut l (it .size) n some a d e)
               (with-cut (let z : it .size < n = omega (arith, d) in z) (let z : n < it .size + it .size = omega (arith, e, length-most T out it o h k) in z))
 
   -- Every item in a chain has one of the lengths.
-  module _ (W : List ℕ) (l : Lengths) (e : EnteredItems T out it W (it .items)) (s : LengthNoted T out it (it .items) l) where
+  module _ (W : List ℕ) (l : Lengths) (e : EnteredItems T out it W (it .items)) (s : LengthsOf T out it (it .items) l) where
     among : (n : ℕ) → n ≤ it .size + it .size → Among (it .size) l n → (n ≡ l .block) ⊎ ((n ≡ l .pair) ⊎ ((n ≡ l .last) ⊎ (n ≡ l .ending)))
     among n most m = go (lt-or-ge n (it .size)) (ℕ-discrete n (it .size)) (ℕ-discrete n (it .size + it .size))
       where

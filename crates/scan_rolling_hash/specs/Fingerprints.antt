@@ -7,5 +7,5 @@ use Rattle.search.specs.FingerValues.{search-digits}
 abbrev pub baseOf : ℕ → ℕ
 baseOf seed = seed % 1073741824
 
-unfoldable pub print : ℕ → List ℕ → ℕ
-print seed s = search-digits (baseOf seed) 0 s * baseOf seed % 2147483647
+unfoldable pub fingerprint : ℕ → List ℕ → ℕ
+fingerprint seed s = search-digits (baseOf seed) 0 s * baseOf seed % 2147483647

@@ -10,7 +10,7 @@ use native.Mathlib.Decide.{ℕ-discrete}
 use Rattle.text.specs.ListLaws.{lt-or-ge, below-suc}
 use Rattle.format.specs.Layout.{wordAt, wordBytes, setWord}
 use Rattle.format.specs.WordLaws.{putThree, length-setWord, getD-setWord-other, setWord-eq}
-use Rattle.theory_built.specs.BuiltBytes.{BytesAt, stands-word, written-word}
+use Rattle.theory_built.specs.BuiltBytes.{BytesAt, bytes-word, written-word}
 use Rattle.byte_slices.specs.ByteSlices.{bytesWritten}
 use Rattle.build_records.specs.WritesOnlyTree.{WritesOnlyTree, AgreesOn}
 
@@ -19,21 +19,21 @@ within-word D t i v w s r l = w .right (i + r) (omega arith) (omega arith) ∙ s
 
 -- A word of the tree, read from a buffer that has it.
 pub read-right : (D t : List ℕ) (i v : ℕ) → AgreesOn D t i (i + 4) → BytesAt D i v → v < 4294967296 → wordAt t i ≡ v
-read-right D t i v w s small = stands-word t i v (within-word D t i v w s) small
+read-right D t i v w s small = bytes-word t i v (within-word D t i v w s) small
 
 module _ (D : List ℕ) where
-  pub grown-none : (t : List ℕ) → WritesOnlyTree D t t
-  grown-none t = record { same-length = refl; keeps = λ k e. e; past = λ k l. refl }
+  pub only-tree-refl : (t : List ℕ) → WritesOnlyTree D t t
+  only-tree-refl t = record { same-length = refl; keeps = λ k e. e; past = λ k l. refl }
 
-  pub grown-then : (a b c : List ℕ) → WritesOnlyTree D a b → WritesOnlyTree D b c → WritesOnlyTree D a c
-  grown-then a b c g h = record {
+  pub only-tree-trans : (a b c : List ℕ) → WritesOnlyTree D a b → WritesOnlyTree D b c → WritesOnlyTree D a c
+  only-tree-trans a b c g h = record {
     same-length = h .same-length ∙ g .same-length;
     keeps = λ k e. h .keeps k (g .keeps k e);
     past = λ k l. h .past k l ∙ g .past k l;
   }
 
-  pub within-grown : (t u : List ℕ) (a w : ℕ) → WritesOnlyTree D t u → AgreesOn D t a w → AgreesOn D u a w
-  within-grown t u a w g h = record { right = λ k l m. g .keeps k (h .right k l m) }
+  pub agrees-only-tree : (t u : List ℕ) (a w : ℕ) → WritesOnlyTree D t u → AgreesOn D t a w → AgreesOn D u a w
+  agrees-only-tree t u a w g h = record { right = λ k l m. g .keeps k (h .right k l m) }
 
   pub within-join : (t : List ℕ) (a m w : ℕ) → AgreesOn D t a m → AgreesOn D t m w → AgreesOn D t a w
   within-join t a m w g h = record { right = λ k l n. go k l n (lt-or-ge k m) }
@@ -66,8 +66,8 @@ module _ (D : List ℕ) where
         go (inr z) (inl y) = word-right k z y
         go (inr z) (inr y) = getD-setWord-other t i v k (λ a b. omega arith) ∙ e
 
-    pub word-grown : i + 4 ≤ length D → WritesOnlyTree D t (setWord t i v)
-    word-grown inside = record {
+    pub word-only-tree : i + 4 ≤ length D → WritesOnlyTree D t (setWord t i v)
+    word-only-tree inside = record {
       same-length = length-setWord t i v;
       keeps = word-keeps;
       past = λ k l. getD-setWord-other t i v k (λ a b. omega arith);
@@ -83,24 +83,24 @@ module _ (D : List ℕ) where
 
     g1 : WritesOnlyTree D t t1
     unfolding t1
-    g1 = word-grown t i a (omega arith) s (omega arith)
+    g1 = word-only-tree t i a (omega arith) s (omega arith)
 
     fits1 : i + 12 ≤ length t1
     fits1 = omega (arith, g1 .same-length)
 
     g2 : WritesOnlyTree D t1 t2
     unfolding t2
-    g2 = word-grown t1 (i + 4) b (omega (arith, fits1)) s′ (omega arith)
+    g2 = word-only-tree t1 (i + 4) b (omega (arith, fits1)) s′ (omega arith)
 
     fits2 : i + 12 ≤ length t2
     fits2 = omega (arith, fits1, g2 .same-length)
 
     g3 : WritesOnlyTree D t2 (putThree t i a b c)
     unfolding t1 t2
-    g3 = word-grown t2 (i + 8) c (omega (arith, fits2)) s″ (omega arith)
+    g3 = word-only-tree t2 (i + 8) c (omega (arith, fits2)) s″ (omega arith)
 
-    pub three-grown : WritesOnlyTree D t (putThree t i a b c)
-    three-grown = grown-then t t1 (putThree t i a b c) g1 (grown-then t1 t2 (putThree t i a b c) g2 g3)
+    pub three-only-tree : WritesOnlyTree D t (putThree t i a b c)
+    three-only-tree = only-tree-trans t t1 (putThree t i a b c) g1 (only-tree-trans t1 t2 (putThree t i a b c) g2 g3)
 
     first-word : AgreesOn D t1 i (i + 4)
     unfolding t1
@@ -118,8 +118,8 @@ module _ (D : List ℕ) where
     pub three-within : AgreesOn D (putThree t i a b c) i (i + 12)
     three-within =
         within-join (putThree t i a b c) i (i + 4) (i + 12)
-        (within-grown t1 (putThree t i a b c) i (i + 4) (grown-then t1 t2 (putThree t i a b c) g2 g3) first-word)
-        (within-join (putThree t i a b c) (i + 4) (i + 8) (i + 12) (within-grown t2 (putThree t i a b c) (i + 4) (i + 8) g3 second-word) third-word)
+        (agrees-only-tree t1 (putThree t i a b c) i (i + 4) (only-tree-trans t1 t2 (putThree t i a b c) g2 g3) first-word)
+        (within-join (putThree t i a b c) (i + 4) (i + 8) (i + 12) (agrees-only-tree t2 (putThree t i a b c) (i + 4) (i + 8) g3 second-word) third-word)
 
 -- Bytes written one after the other.
 
@@ -127,8 +127,8 @@ module _ (D t : List ℕ) (i v : ℕ) (fits : i < length t) (inside : i < length
   byte-right : getD (set t i v) i 0 ≡ getD D i 0
   byte-right = getD-set-same t i v 0 fits ∙ sym is
 
-  byte-grown : WritesOnlyTree D t (set t i v)
-  byte-grown = record {
+  byte-only-tree : WritesOnlyTree D t (set t i v)
+  byte-only-tree = record {
     same-length = length-set t i v;
     keeps = λ k e. keep k e (ℕ-discrete k i);
     past = λ k l. getD-set-other t i k v 0 (λ e. omega arith);
@@ -140,12 +140,12 @@ module _ (D t : List ℕ) (i v : ℕ) (fits : i < length t) (inside : i < length
 
 module _ (D t T : List ℕ)
     (to from n : ℕ) (fits : to + n ≤ length t) (inside : to + n ≤ length D) (is : (j : ℕ) → j < n → getD D (to + j) 0 ≡ getD T (from + j) 0) where
-  pub bytes-grown : (j : ℕ) → j ≤ n → WritesOnlyTree D t (bytesWritten t to T from j)
-  bytes-grown zero l = grown-none D t
-  bytes-grown (suc j) l =
-      let g = bytes-grown j (omega arith) in
-      grown-then D t (bytesWritten t to T from j) (bytesWritten t to T from (suc j)) g
-      (byte-grown D (bytesWritten t to T from j) (to + j) (getD T (from + j) 0) (omega (arith, g .same-length)) (omega arith) (is j (omega arith)))
+  pub bytes-only-tree : (j : ℕ) → j ≤ n → WritesOnlyTree D t (bytesWritten t to T from j)
+  bytes-only-tree zero l = only-tree-refl D t
+  bytes-only-tree (suc j) l =
+      let g = bytes-only-tree j (omega arith) in
+      only-tree-trans D t (bytesWritten t to T from j) (bytesWritten t to T from (suc j)) g
+      (byte-only-tree D (bytesWritten t to T from j) (to + j) (getD T (from + j) 0) (omega (arith, g .same-length)) (omega arith) (is j (omega arith)))
 
   bytes-right : (j : ℕ) → j ≤ n → (x : ℕ) → x < j → getD (bytesWritten t to T from j) (to + x) 0 ≡ getD D (to + x) 0
   bytes-right zero l x k = absurd (let z : ⊥ = omega arith in z)
@@ -155,7 +155,7 @@ module _ (D t T : List ℕ)
           → getD (bytesWritten t to T from (suc j)) (to + x) 0 ≡ getD D (to + x) 0
       go (inl y) r = getD-set-other (bytesWritten t to T from j) (to + j) (to + x) (getD T (from + j) 0) 0 (λ e. omega arith) ∙ r y
       go (inr y) r =
-          let g = bytes-grown j (omega arith) in
+          let g = bytes-only-tree j (omega arith) in
           rw y (byte-right D (bytesWritten t to T from j) (to + j) (getD T (from + j) 0) (omega (arith, g .same-length)) (omega arith) (is j (omega arith)))
 
   pub bytes-within : AgreesOn D (bytesWritten t to T from n) to (to + n)

@@ -12,7 +12,7 @@ use Rattle.text.specs.Text.{substring}
 use Rattle.text.specs.TextLaws.{substring-add, length-substring}
 use Rattle.search.specs.FingerValues.{search-digits}
 use Rattle.search.proofs.Modulo.{mul-mod, cancel, added, power-more}
-use Rattle.scan_rolling_hash.specs.Prints.{baseOf, print}
+use Rattle.scan_rolling_hash.specs.Fingerprints.{baseOf, fingerprint}
 
 abbrev pub modulus : ℕ
 modulus = 2147483647
@@ -66,25 +66,25 @@ module _ (seed : ℕ) where
   abbrev β : ℕ
   β = baseOf seed
 
-  pub print-nil : 0 % modulus ≡ print seed []
-  unfolding print search-digits
-  print-nil = ap (λ (y : ℕ). y % modulus) (sym (zero-mul β))
+  pub fingerprint-nil : 0 % modulus ≡ fingerprint seed []
+  unfolding fingerprint search-digits
+  fingerprint-nil = ap (λ (y : ℕ). y % modulus) (sym (zero-mul β))
 
-  pub print-none : (s : List ℕ) → 0 % modulus ≡ print seed (take 0 s)
-  print-none s = print-nil
+  pub fingerprint-none : (s : List ℕ) → 0 % modulus ≡ fingerprint seed (take 0 s)
+  fingerprint-none s = fingerprint-nil
 
-  pub print-below : (s : List ℕ) → print seed s < modulus
-  unfolding print
-  print-below s = mod-lt (search-digits β 0 s * β) (omega arith)
+  pub fingerprint-below : (s : List ℕ) → fingerprint seed s < modulus
+  unfolding fingerprint
+  fingerprint-below s = mod-lt (search-digits β 0 s * β) (omega arith)
 
-  pub is-print-below : (s : List ℕ) (h : ℕ) → h ≡ print seed s → h < modulus
-  is-print-below s h e = omega (arith, e, print-below s)
+  pub is-fingerprint-below : (s : List ℕ) (h : ℕ) → h ≡ fingerprint seed s → h < modulus
+  is-fingerprint-below s h e = omega (arith, e, fingerprint-below s)
 
   -- One byte more.
-  pub print-push : (s : List ℕ) (i j h x : ℕ) → i < length s → j ≡ i + 1 → x ≡ getD s i 0 → h % modulus ≡ print seed (take i s)
-      → (h + x) * β % modulus ≡ print seed (take j s)
-  unfolding print
-  print-push s i j h x l ej ex e =
+  pub fingerprint-push : (s : List ℕ) (i j h x : ℕ) → i < length s → j ≡ i + 1 → x ≡ getD s i 0 → h % modulus ≡ fingerprint seed (take i s)
+      → (h + x) * β % modulus ≡ fingerprint seed (take j s)
+  unfolding fingerprint
+  fingerprint-push s i j h x l ej ex e =
       same-product (h + x) (search-digits β 0 (take i s) * β + x) β modulus (same-sum h (search-digits β 0 (take i s) * β) x modulus e)
       ∙ ap (λ (y : ℕ). (search-digits β 0 (take i s) * β + y) * β % modulus) ex
       ∙ ap (λ (y : ℕ). y * β % modulus) (sym (digits-last β 0 (take i s) (getD s i 0)))
@@ -138,14 +138,14 @@ module _ (seed : ℕ) where
         sum-more (t₄ * u + t₃ * a₂ + t₂ * a₃) (β * β * β * β * u + β * β * β * a₂ + β * β * a₃) t₁ β a₄ modulus s₃ o
         ∙ ap (λ (z : ℕ). z % modulus) spread
 
-  pub print-four : (s : List ℕ) (i h a₁ a₂ a₃ a₄ r : ℕ) → i + 4 ≤ length s
+  pub fingerprint-four : (s : List ℕ) (i h a₁ a₂ a₃ a₄ r : ℕ) → i + 4 ≤ length s
       → a₁ ≡ getD s i 0 → a₂ ≡ getD s (i + 1) 0 → a₃ ≡ getD s (i + 2) 0 → a₄ ≡ getD s (i + 3) 0
-      → h % modulus ≡ print seed (take i s) → r % modulus ≡ h₄ h a₁ a₂ a₃ a₄ % modulus → r % modulus ≡ print seed (take (i + 4) s)
-  print-four s i h a₁ a₂ a₃ a₄ r l x₁ x₂ x₃ x₄ e er =
-      let p₁ = print-push s i (i + 1) h a₁ (omega arith) refl x₁ e in
-      let p₂ = print-push s (i + 1) (i + 2) (h₁ h a₁ a₂ a₃ a₄) a₂ (omega arith) (omega arith) x₂ p₁ in
-      let p₃ = print-push s (i + 2) (i + 3) (h₂ h a₁ a₂ a₃ a₄) a₃ (omega arith) (omega arith) x₃ p₂ in
-      er ∙ print-push s (i + 3) (i + 4) (h₃ h a₁ a₂ a₃ a₄) a₄ (omega arith) (omega arith) x₄ p₃
+      → h % modulus ≡ fingerprint seed (take i s) → r % modulus ≡ h₄ h a₁ a₂ a₃ a₄ % modulus → r % modulus ≡ fingerprint seed (take (i + 4) s)
+  fingerprint-four s i h a₁ a₂ a₃ a₄ r l x₁ x₂ x₃ x₄ e er =
+      let p₁ = fingerprint-push s i (i + 1) h a₁ (omega arith) refl x₁ e in
+      let p₂ = fingerprint-push s (i + 1) (i + 2) (h₁ h a₁ a₂ a₃ a₄) a₂ (omega arith) (omega arith) x₂ p₁ in
+      let p₃ = fingerprint-push s (i + 2) (i + 3) (h₂ h a₁ a₂ a₃ a₄) a₃ (omega arith) (omega arith) x₃ p₂ in
+      er ∙ fingerprint-push s (i + 3) (i + 4) (h₃ h a₁ a₂ a₃ a₄) a₄ (omega arith) (omega arith) x₄ p₃
 
   -- A window moved on.
   module _ (T : List ℕ) (p n : ℕ) (l : p + n < length T) where
@@ -177,10 +177,10 @@ module _ (seed : ℕ) where
         let d : (o * β ^ n + next) * β ≡ o * β ^ n * β + next * β = add-mul (o * β ^ n) next β in
         ap (λ (z : ℕ). z * β) (sym entered ∙ ap (λ (k : ℕ). search-digits β 0 (substring T p k)) e ∙ left-out) ∙ omega (arith, w, d)
 
-    pub print-roll : (h t x out : ℕ) → h ≡ print seed (substring T p n) → t ≡ β ^ (n + 1) % modulus → out ≡ getD T p 0 → x ≡ getD T (p + n) 0
-        → ((h + x) * β + out * (modulus - t)) % modulus ≡ print seed (substring T (p + 1) n)
-    unfolding print
-    print-roll h t x out eh et eo ex =
+    pub fingerprint-roll : (h t x out : ℕ) → h ≡ fingerprint seed (substring T p n) → t ≡ β ^ (n + 1) % modulus → out ≡ getD T p 0 → x ≡ getD T (p + n) 0
+        → ((h + x) * β + out * (modulus - t)) % modulus ≡ fingerprint seed (substring T (p + 1) n)
+    unfolding fingerprint
+    fingerprint-roll h t x out eh et eo ex =
         let lt : t < modulus = omega (arith, et, mod-lt (β ^ (n + 1)) {m = modulus} (omega arith)) in
         let q : modulus - t + t ≡ modulus = omega arith in
         let d : modulus * out ≡ out * (modulus - t) + t * out =
@@ -196,10 +196,10 @@ module _ (seed : ℕ) where
         ∙ sym (added (next * β) t (β ^ (n + 1)) out modulus et))
 
   -- The fingerprint of two adjacent windows.
-  pub print-join : (T : List ℕ) (p a n h t g : ℕ) → p + a + n ≤ length T → h ≡ print seed (substring T p a) → t ≡ β ^ n % modulus
-      → g ≡ print seed (substring T (p + a) n) → (h * t + g) % modulus ≡ print seed (substring T p (a + n))
-  unfolding print
-  print-join T p a n h t g fits eh et eg =
+  pub fingerprint-join : (T : List ℕ) (p a n h t g : ℕ) → p + a + n ≤ length T → h ≡ fingerprint seed (substring T p a) → t ≡ β ^ n % modulus
+      → g ≡ fingerprint seed (substring T (p + a) n) → (h * t + g) % modulus ≡ fingerprint seed (substring T p (a + n))
+  unfolding fingerprint
+  fingerprint-join T p a n h t g fits eh et eg =
       let u : ℕ = search-digits β 0 (substring T p a) in
       let v : ℕ = search-digits β 0 (substring T (p + a) n) in
       let digits-are : search-digits β 0 (substring T p (a + n)) ≡ u * β ^ n + v =

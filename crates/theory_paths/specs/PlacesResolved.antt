@@ -1,4 +1,4 @@
--- Where a place of a block lands: in the block itself if it is kept, in a kept target if it points; and the path from there.
+-- The kept block that a place of a block resolves to: the block itself if it is kept, a kept target if it points; and the path from there.
 use mathlib.Core.List.{List, [], _∷_, _++_, append-assoc}
 use mathlib.Core.Option.{Option, none, some}
 use mathlib.Core.Bool.{true, false}
@@ -10,7 +10,8 @@ use borrow.Author.Tests.{lt-ltb, le-ltb, eq-eqb}
 use Rattle.text.specs.ListLaws.{lt-or-ge}
 use Rattle.format.specs.LayoutLaws.{Readable}
 use Rattle.format.specs.Layout as at
-use Rattle.format.specs.TreeReading.{Path, Visit, visit, entered, keptBlock, pointingBlock, targetBlock, targetPlace, landBlock, landPlace, landVisits, lands}
+use Rattle.format.specs.TreeReading.{Path, Visit, visit, entered, keptBlock, pointingBlock, targetBlock, targetPlace, resolvedBlock, resolvedPlace}
+use Rattle.format.specs.TreeReading.{resolvedVisits, resolves}
 use Rattle.format.specs.TreeReading.{pathFrom, leafOf}
 use Rattle.theory_paths.specs.Links.{N, b, s, len, Pointing, Linked}
 use Rattle.theory_paths.specs.BlockStarts.{first-inside, second-inside}
@@ -51,14 +52,14 @@ module _ (t : List ℕ) where
   -- A kept block's path goes on with a child.
   pub from-kept : (below l i o : ℕ) → keptBlock t l i ≡ true
       → pathFrom t (suc below) l i o ≡ entered (visit l i o ∷ []) (pathFrom t below (l + 1) (at.link t l i + o / b t (l + 1)) (o % b t (l + 1)))
-  unfolding pathFrom lands landBlock landPlace landVisits
+  unfolding pathFrom resolves resolvedBlock resolvedPlace resolvedVisits
   from-kept below l i o kept = rw kept
 
   -- A pointing block's path with a child of its target, and so as that of the target, with one visit more.
   pub from-points : (below l i o : ℕ) → keptBlock t l i ≡ false → pointingBlock t l i ≡ true → keptBlock t l (targetBlock t l i o) ≡ true
       → pathFrom t (suc below) l i o ≡ entered (visit l i o ∷ visit l (targetBlock t l i o) (targetPlace t l i o) ∷ [])
       (pathFrom t below (l + 1) (at.link t l (targetBlock t l i o) + targetPlace t l i o / b t (l + 1)) (targetPlace t l i o % b t (l + 1)))
-  unfolding pathFrom lands landBlock landPlace landVisits
+  unfolding pathFrom resolves resolvedBlock resolvedPlace resolvedVisits
   from-points below l i o un pt kept = rw (un, pt, kept)
 
   pub from-pointing : (below l i o : ℕ) → keptBlock t l i ≡ false → pointingBlock t l i ≡ true → keptBlock t l (targetBlock t l i o) ≡ true
