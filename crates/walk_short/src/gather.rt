@@ -204,46 +204,43 @@ fn settle(t: &[u8], size: u32, on: LevelAt, c: u32, ahead: BlockOffset, span: Bl
 }
 
 // The walk from the block some steps after another, as one number; the levels left fall.
+// The arguments are single words: a struct of two words would be packed and unpacked at each level.
 fn gather_packed(
     t: &&[u8],
     size: u32,
-    on: LevelAt,
-    ahead: BlockOffset,
-    span: BlockSpan,
+    level: u32,
+    b: u32,
+    first: BlockNumber,
+    steps: u32,
+    place: BlockPlace,
+    len: u32,
     entered: u32,
 ) -> u64
-    requires { ⌜ Walking (now (now t)) size (on .level) (on .b) (span .place .0) (span .len) entered ⌝ }
+    requires { ⌜ Walking (now (now t)) size level b (place .0) len entered ⌝ }
     ensures { λ r. ⌜ unpacked (now (now (t .entry))) r ≡ gathered entered (shortFrom (now (now (t .entry)))
-        (at.settings (now (now (t .entry))) .levels - 1 - on .level) (on .level) (ahead .first .0 + ahead .steps) (span .place .0) (span .len)) ⌝ }
+        (at.settings (now (now (t .entry))) .levels - 1 - level) level (first .0 + steps) (place .0) len) ⌝ }
 {
     let tree = *t;
-    if on.b < span.place.0 + span.len {
-        return over(tree, size, on, ahead, span.place, entered);
+    let on = LevelAt { level, b };
+    let ahead = BlockOffset { first, steps };
+    if b < place.0 + len {
+        return over(tree, size, on, ahead, place, entered);
     }
+    let span = BlockSpan { place, len };
     let shape = fields::shape_of(tree);
-    let down = on.level + 1;
+    let down = level + 1;
     if down == shape.levels {
         return last(tree, size, on, ahead, span, entered);
     }
-    let c = walk_steps::quotient(on.b, shape.arity);
+    let c = walk_steps::quotient(b, shape.arity);
     let step = settle(tree, size, on, c, ahead, span);
     match step {
-        SpanStep::Down(first, steps, place, n) => gather_packed(
-            t,
-            size,
-            LevelAt { level: down, b: c },
-            BlockOffset { first, steps },
-            BlockSpan {
-                place,
-                len: span.len,
-            },
-            entered + n,
-        ),
-        SpanStep::Over(first, p) => over(
+        SpanStep::Down(i, k, p, n) => gather_packed(t, size, down, c, i, k, p, len, entered + n),
+        SpanStep::Over(i, p) => over(
             tree,
             size,
             on,
-            BlockOffset { first, steps: 0 },
+            BlockOffset { first: i, steps: 0 },
             p,
             entered + 1,
         ),
@@ -264,7 +261,17 @@ pub fn gather(
     ensures { λ r. ⌜ r ≡ gathered entered (shortFrom (now (t .entry)) (at.settings (now (t .entry)) .levels - 1 - on .level) (on .level)
         (ahead .first .0 + ahead .steps) (span .place .0) (span .len)) ⌝ }
 {
-    let code = gather_packed(&t, size, on, ahead, span, entered);
+    let code = gather_packed(
+        &t,
+        size,
+        on.level,
+        on.b,
+        ahead.first,
+        ahead.steps,
+        span.place,
+        span.len,
+        entered,
+    );
     let m = word::read(t, header::LEAF_AT);
     packed::unpack(t, size, m, code)
 }
@@ -278,13 +285,6 @@ pub fn from_text(t: &[u8], h: Header, p: TextPlace, len: u32) -> Gathered
     let position = walk_steps::top_position(p, b);
     let first = position.block;
     let place = position.place;
-    let code = gather_packed(
-        &t,
-        h.record_size,
-        LevelAt { level: 0, b },
-        BlockOffset { first, steps: 0 },
-        BlockSpan { place, len },
-        0,
-    );
+    let code = gather_packed(&t, h.record_size, 0, b, first, 0, place, len, 0);
     packed::unpack(t, h.record_size, h.settings.leaf, code)
 }
