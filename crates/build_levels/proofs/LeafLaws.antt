@@ -18,13 +18,13 @@ use Rattle.byte_slices.specs.ByteSlices.{bytesWritten}
 use Rattle.build_records.specs.declared.level_written.Level.{Level}
 use Rattle.build_records.specs.declared.level_written.Substring.{Substring}
 use Rattle.build_records.specs.WritesOnlyTree.{WritesOnlyTree, AgreesOn}
-use Rattle.build_levels.specs.LeafBytesWritten.{Leafing}
+use Rattle.build_levels.specs.LeafBytesWritten.{LeafBytesUpTo}
 use Rattle.build_records.specs.State.{BlockNext, SubstringIs}
 use Rattle.build_records.proofs.WritesOnlyTreeLaws.{agrees-only-tree, within-part, within-join, bytes-only-tree, bytes-within}
 use Rattle.build_records.proofs.RecordsRead.{on-written}
 use Rattle.build_records.proofs.StateLaws.{table-inside}
 
-module _ (S : Settings) (T out : List ℕ) (level : Level) (to i : ℕ) (w : Leafing S T out level to i) where
+module _ (S : Settings) (T out : List ℕ) (level : Level) (to i : ℕ) (w : LeafBytesUpTo S T out level to i) where
   abbrev l : ℕ
   l = level .number
 
@@ -80,8 +80,8 @@ module _ (S : Settings) (T out : List ℕ) (level : Level) (to i : ℕ) (w : Lea
 
     -- The next block.
     module _ (new : List ℕ) (len : ℕ) (len-is : len ≡ widthOf S T l i) (g : WritesOnlyTree D out new) (here : AgreesOn D new to (to + len)) where
-      pub leafing-more : Leafing S T new level (to + len) (i + 1)
-      leafing-more = record {
+      pub leaf-bytes-more : LeafBytesUpTo S T new level (to + len) (i + 1)
+      leaf-bytes-more = record {
         level-is = w .level-is;
         last = w .last;
         room = omega (arith, w .room, g .same-length);
@@ -101,8 +101,8 @@ module _ (S : Settings) (T out : List ℕ) (level : Level) (to i : ℕ) (w : Lea
       )
 
   -- All leaf bytes are written.
-  pub leafing-all : i ≡ level .count → AgreesOn D out headerLength (length D)
-  leafing-all e =
+  pub leaf-bytes-all : i ≡ level .count → AgreesOn D out headerLength (length D)
+  leaf-bytes-all e =
       let all : to ≡ length D = w .to-is ∙ sym (tree-length S T taken ∙ ap (λ (x : ℕ). offset S T (S .levels) + x)
       (leaf-count S T taken l (w .last) ∙ ap (λ (x : ℕ). sumBelow x (widthOf S T l)) (sym (e ∙ w .level-is .count-is)))) in
       rw all at (w .body)

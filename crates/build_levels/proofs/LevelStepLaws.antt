@@ -22,7 +22,7 @@ use Rattle.build_records.specs.WritesOnlyTree.{WritesOnlyTree, AgreesOn}
 use Rattle.build_levels.specs.Head.{pairWritten, unusedWritten}
 use Rattle.build_records.specs.RecordPlaces.{recordPlace}
 use Rattle.build_records.specs.State.{recordSettingsOf, LevelIs, RecordsUpTo, Below, placeAt}
-use Rattle.build_levels.specs.LeafBytesWritten.{Leafing}
+use Rattle.build_levels.specs.LeafBytesWritten.{LeafBytesUpTo}
 use Rattle.build_levels.specs.Trees.{nextAt, nextOf, LevelReady, LevelWritten, StepIs, TreeComplete}
 use Rattle.build_records.proofs.WritesOnlyTreeLaws.{only-tree-trans, agrees-only-tree, within-part, within-join}
 use Rattle.build_levels.proofs.LevelZeroLaws.{divided, step-ready, step-none}
@@ -189,9 +189,9 @@ module _ (T cs : List ℕ) (level : Level) (out two : List ℕ) (total : ℕ) (r
             let e : l + 1 ≡ S .levels = last in
             end-within S T taken two room-two three three-right (rw e at header-two)
 
-        pub leafing-first : Leafing S T three level at 0
+        pub leaf-bytes-first : LeafBytesUpTo S T three level at 0
         unfolding sumBelow
-        leafing-first = record {
+        leaf-bytes-first = record {
           level-is = h;
           last = last′;
           room = omega (arith, end-is, three-only-tree .same-length);

@@ -61,21 +61,21 @@ places-few t P some-byte =
     rw (← so-far-end t P some-byte n (sym (text-length t))) (below-few (n + 1 - length P) (occursAt P (textOf t)))
 
 -- What is known where a size is answered.
-pub record Roomy (t : List ℕ) (len words : ℕ) : Type 0 where
+pub record WordsAnswered (t : List ℕ) (len words : ℕ) : Type 0 where
   pub pass : headerResult t ≡ 0
   pub low : 1 ≤ len
   pub high : len ≤ maxPattern
   pub words-are : words ≡ at.textLength t + 1 - len
 
-pub roomy : (t : List ℕ) (len words : ℕ) → record { number = 0; value = words; entered = 0 } ≡ placesWordsAnswer t len → Roomy t len words
+pub words-answered : (t : List ℕ) (len words : ℕ) → record { number = 0; value = words; entered = 0 } ≡ placesWordsAnswer t len → WordsAnswered t len words
 unfolding placesWordsAnswer wordsFor
-roomy t len words e =
-    let told : Answer = record { number = 0; value = at.textLength t + 1 - len; entered = 0 } in
+words-answered t len words e =
+    let reply : Answer = record { number = 0; value = at.textLength t + 1 - len; entered = 0 } in
     let asked = ask 16 (leb 1 len && leb len maxPattern) 0 in
-    let a = unless-passes (headerResult t) (unless asked told) (sym (ap (λ (s : Answer). s .number) e)) in
-    let b = unless-passes asked told (a .1) in
+    let a = unless-passes (headerResult t) (unless asked reply) (sym (ap (λ (s : Answer). s .number) e)) in
+    let b = unless-passes asked reply (a .1) in
     let ok = ask-test 15 (leb 1 len && leb len maxPattern) 0 (b .0) in
-    let is : record { number = 0; value = words; entered = 0 } ≡ told = rw (a .0, b .0) at e in
+    let is : record { number = 0; value = words; entered = 0 } ≡ reply = rw (a .0, b .0) at e in
     record {
       pass = a .0;
       low = leb-true 1 len (and-left (leb 1 len) (leb len maxPattern) ok);

@@ -25,7 +25,7 @@ use Rattle.query_places.specs.declared.PlacesAnswer.the-variants as plac
 use Rattle.query_places.specs.Places.{maxPattern, patternOk, placesIn, placesOf, placesRefusal, placesAnswer, placesBuffer, placesReply}
 use Rattle.query_places.specs.declared.PlacesWordsAnswer.{PlacesWordsAnswer}
 use Rattle.query_places.specs.declared.PlacesWordsAnswer.the-variants as places-words
-use Rattle.query_places.proofs.RoomLaws.{places-few, roomy}
+use Rattle.query_places.proofs.RoomLaws.{places-few, words-answered}
 use Rattle.query_places.proofs.places.Reads as places-reads
 use Rattle.query_places.proofs.places_words.Reads as words-reads
 
@@ -122,7 +122,7 @@ module _ (κ : Lfts 1) (t P table : RefT (List ℕ))
     (words : ℕ) (a : PlacesWords κ t (length (now P)) (places-words.Words words)) (enough : words ≤ length (now table)) where
   pub room-holds : length (placesIn (now P) (textOf (now t))) ≤ length (now table)
   unfolding placesOf
-  room-holds = let k = roomy (now t) (length (now P)) words (a .answers) in omega (arith, k .words-are, places-few (now t) (now P) (k .low))
+  room-holds = let k = words-answered (now t) (length (now P)) words (a .answers) in omega (arith, k .words-are, places-few (now t) (now P) (k .low))
 
   -- With a table of that size the call is not refused with 17.
   pub room-enough : (κs : Lfts 3) (after : RefT (List ℕ)) → Places κs t P table after (places.Refused 17) → ⊥
@@ -139,7 +139,7 @@ module _ (κ : Lfts 1) (t P table : RefT (List ℕ))
 
       go : (holds : Bool) → pathsHold (now t) 0 (at.textLength (now t)) ≡ holds → ⊥
       go holds e =
-          let k = roomy (now t) (length (now P)) words (a .answers) in
+          let k = words-answered (now t) (length (now P)) words (a .answers) in
           let z : placesRefusal (now t) (now P) (length (now table)) ≡ ask 14 holds 0 =
           rw (
             k .pass,

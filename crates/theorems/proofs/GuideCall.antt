@@ -55,6 +55,6 @@ make-guide-numbers κs t table after n a =
 pub guide-words-numbers : (κs : Lfts 1) (t : Borrowed) (n : ℕ) → GuideWords κs t (guide-words.Refused n) → OneOf (5 ∷ 6 ∷ 7 ∷ []) n
 unfolding guideWordsAnswer
 guide-words-numbers κs t n a =
-    let told : Answer = record { number = 0; value = guideWords (now t); entered = 0 } in
-    let e : n ≡ headerResult (now t) = ap (λ (s : Answer). s .number) (a .0) ∙ unless-number (headerResult (now t)) told refl in
+    let reply : Answer = record { number = 0; value = guideWords (now t); entered = 0 } in
+    let e : n ≡ headerResult (now t) = ap (λ (s : Answer). s .number) (a .0) ∙ unless-number (headerResult (now t)) reply refl in
     not-zero (5 ∷ 6 ∷ 7 ∷ []) n (a .1) (rw e (header-one (now t)))

@@ -24,7 +24,7 @@ use Rattle.theory_adequacy.specs.TotalCorrectness.{Function, TotallyCorrect}
 use Rattle.theory_adequacy.specs.Preconditions.{NoPrecondition, Each}
 use Rattle.row_filter.specs.SelectedRows.{outcomeAt}
 use Rattle.keys.specs.Keys.{rangesOk}
-use Rattle.keys.specs.Matches.{nextMatch, shownFor}
+use Rattle.keys.specs.Matches.{nextMatch, matchOutcome}
 use Rattle.prefix_match.specs.PrefixRowNumbers.{nextWithPrefix}
 use Rattle.columns.specs.Columns.{widthOk, uncolumns}
 use Rattle.sha256.specs.Sha256.{sha256}
@@ -189,7 +189,7 @@ module _ (t : Borrowed) (S : Settings) (T : List ℕ) where
     -- The next row after the mark that matches the ranges; if there is none, the mark goes to the number of rows, or stays if it is above.
     pub match-of : (κs : Lfts 2) (ranges : Borrowed) (mark : ℕ) (r : NextRowAnswer) → NextMatch κs t ranges mark r
         → rangesOk (now ranges) ≡ true → CountedIn 10 (S .counted)
-        → r ≡ cond (eqb (nextMatch (now ranges) T mark) 0) (next.Nothing (shownFor (now ranges) T mark .mark)) (next.Row (nextMatch (now ranges) T mark))
+        → r ≡ cond (eqb (nextMatch (now ranges) T mark) 0) (next.Nothing (matchOutcome (now ranges) T mark .mark)) (next.Row (nextMatch (now ranges) T mark))
 
   pub record MatchRefuses : Type 0 where
     -- Ranges that are not ranges of 1 to 10 cuts: 19.

@@ -32,7 +32,7 @@ finish-spec =
     (λ c κs. let w = c .before .before .before .before .before in let v = w .before .before .before .before .before in
     (laws.room-two _ _ _ _ _ _ (v .pre .0) (w .put-pair .ensures), bounds _ _ (v .pre .0 .level-is .taken) .levels-high))
     (λ c κs. let w = c .before .before .before .before .before in let v = w .before .before .before .before .before .before .before .before .before in
-    laws.leafing-first _ _ _ _ _ _ (v .pre .0) (w .before .before .before .before .put-pair .ensures)
+    laws.leaf-bytes-first _ _ _ _ _ _ (v .pre .0) (w .before .before .before .before .put-pair .ensures)
     (v .pre .1) _ (w .before .place .ensures .0) (w .if1 .left) _ (c .before .before .before .put-end .ensures))
     (λ c. let w = c .before .before .before .before .before .before .before .before in
     let v = w .before .before .before .before .before .before .before .before .before in

@@ -21,79 +21,126 @@ Inv-loop t size on most step n₀ next₀ link₀ n next link =
 abbrev μ-loop : tie.MeasureT-loop
 μ-loop t size on most step n₀ next₀ link₀ n next link = most - n
 
-pub kept-size-spec : {M : Type 1} → statement M
-kept-size-spec =
-    tie.close
-    (tie.spec
-    Inv-loop
-    μ-loop
-    (λ c κs. let k = c .before .pre .0 in (k .facts, k .b-is, k .level-in))
-    (λ c. search needs)
-    (λ c κs. let start = c .before .before in
-    let k = start .pre .0 in field-there _ _ _ _ _ 2 k (kept-in _ _ _ (start .pre .1)) (omega arith))
-    (λ c. search needs)
-    (λ c. search needs)
-    (λ c. search needs)
-    (λ c. search needs)
-    (λ c. search needs)
-    (λ c. let start = c .before .before .before .before .before .before .before in
+-- What was read before the loop, and what holds in every turn.
+module _ (turn : tie.At-loop Inv-loop μ-loop) where
+  abbrev at-link : tie.After-link Inv-loop μ-loop
+  at-link = turn .before .before .before .before .before
+
+  abbrev at-width : tie.After-width Inv-loop μ-loop
+  at-width = at-link .before
+
+  abbrev start : tie.Start Inv-loop μ-loop
+  start = at-width .before .before
+
+  width-low : at-width .width .result ≤ start .args .on .b
+  width-low = let k = start .pre .0 in omega (arith, at-width .width .ensures, k .b-is, laws.width-in _ _ (k .facts) (k .level-in) .1)
+
+  near : (turn .loop .next - (start .args .from .block .0 + 1) ≤ turn .loop .n)
+      × ((turn .loop .next - (start .args .from .block .0 + 1)) * at-width .width .result ≤ turn .loop .n)
+  near = laws.counts-near _ _ _ _ _ (omega (arith, b-pos _ _ _ _ (start .pre .0))) width-low (turn .loop .inv .1)
+
+  kept-on : KeptOn (start .args .t .now) (start .args .on .level) (start .args .from .block .0) (start .args .from .place .0) (turn .loop .n)
+  kept-on =
+      turn .loop .inv .4 _ _ (start .pre .2) (start .pre .1) refl refl (ap (λ (y : ℕ). y + at-width .width .result) (at-link .link .ensures))
+
+width-requires : tie.Need-width-requires Inv-loop μ-loop
+width-requires c κs =
+    let k = c .before .pre .0 in
+    (k .facts, k .b-is, k .level-in)
+
+link-requires : tie.Need-link-requires Inv-loop μ-loop
+link-requires c κs =
+    let start = c .before .before in
+    let k = start .pre .0 in
+    field-there _ _ _ _ _ 2 k (kept-in _ _ _ (start .pre .1)) (omega arith)
+
+loop-holds : tie.Need-loop-holds Inv-loop μ-loop
+loop-holds c =
+    let start = c .before .before .before .before .before .before .before in
     let k = start .pre .0 in (
       omega arith,
       laws.counts-none _ _ _,
       laws.counts-none _ _ _,
       omega arith,
       λ i o small kept next-is n-is link-is. laws.kept-first _ (k .facts) _ (k .level-in) i o (omega (arith, k .b-is)) _ kept (omega (arith, k .b-is)),
-    ))
-    (λ c κs. let start = c .before .before .before .before .before .before .before .before .before in
-    start .pre .0)
-    (λ c. let at-link = c .before .before .before .before .before .before .before .before in
-    let start = at-link .before .before .before in
-    c .before .before .before .loop .inv .4 _ _ (start .pre .2) (start .pre .1) refl refl
-    (ap (λ (y : ℕ). y + at-link .before .width .result) (at-link .link .ensures)))
-    (λ c. let start = c .before .before .before .before .before .before .before .before .before .before .before .before in
-    let k = start .pre .0 in record { fits = omega (arith, b-small _ _ _ _ k, c .before .before .before .loop-test .taken, start .pre .3) })
-    (λ c. let turn = c .before .before .before .before in
-    let at-width = turn .before .before .before .before .before .before in
-    let start = at-width .before .before in
-    let k = start .pre .0 in
-    let z = laws.counts-near _ _ (at-width .width .result) _ _ (omega (arith, b-pos _ _ _ _ k))
-    (omega (arith, at-width .width .ensures, k .b-is, laws.width-in _ _ (k .facts) (k .level-in) .1)) (turn .loop .inv .1) in
-    record { fits = omega (arith, z .0, turn .loop .inv .0, turn .loop .inv .3, start .pre .3, b-small _ _ _ _ k, start .good .1 .1 .1 .0 .1 .1 .0 .1) })
-    (λ c. let turn = c .before .before .before .before in
-    let at-link = turn .before .before .before .before .before in
-    let at-width = at-link .before in
-    let start = at-width .before .before in
-    let k = start .pre .0 in
-    let z = laws.counts-near _ _ (at-width .width .result) _ _ (omega (arith, b-pos _ _ _ _ k))
-    (omega (arith, at-width .width .ensures, k .b-is, laws.width-in _ _ (k .facts) (k .level-in) .1)) (turn .loop .inv .1) in
+    )
+
+continues-requires : tie.Need-continues-requires Inv-loop μ-loop
+continues-requires c κs = start (c .before) .pre .0
+
+returns : tie.Need-returns Inv-loop μ-loop
+returns c = kept-on (c .before .before .before)
+
+add-n : tie.Need-add-n Inv-loop μ-loop
+add-n c =
+    let s = start (c .before .before .before .before) in
+    record { fits = omega (arith, b-small _ _ _ _ (s .pre .0), c .before .before .before .loop-test .taken, s .pre .3) }
+
+add-next-2 : tie.Need-add-next-2 Inv-loop μ-loop
+add-next-2 c =
+    let turn = c .before .before .before .before in
+    let s = start turn in
+    let v = turn .loop .inv in
+    record { fits = omega (arith, near turn .0, v .0, v .3, s .pre .3, b-small _ _ _ _ (s .pre .0), s .good .1 .1 .1 .0 .1 .1 .0 .1) }
+
+add-link-2 : tie.Need-add-link-2 Inv-loop μ-loop
+add-link-2 c =
+    let turn = c .before .before .before .before in
+    let k = start turn .pre .0 in
+    let v = turn .loop .inv in
     record {
       fits = omega (
         arith,
-        z .1,
-        turn .loop .inv .2,
-        turn .loop .inv .3,
-        start .pre .3,
+        near turn .1,
+        v .2,
+        v .3,
+        start turn .pre .3,
         b-small _ _ _ _ k,
-        laws.width-in _ _ (k .facts)
-            (k .level-in) .1,
-        at-width .width .ensures,
-        k .b-is,
-        at-link .link .ok .1 .1 .0 .1,
+        width-low turn,
+        at-link turn .link .ok .1 .1 .0 .1,
       );
-    })
-    (λ c. let start = c .before .before .before .before .before .before .before .before .before .before .before .before in
-    let k = start .pre .0 in omega (arith, b-pos _ _ _ _ k, c .before .before .before .loop-test .taken))
-    (λ c. let turn = c .before .before .before .before in
-    let at-width = turn .before .before .before .before .before .before in
-    let k = at-width .before .before .pre .0 in let v = turn .loop .inv in (
+    }
+
+loop-less : tie.Need-loop-less Inv-loop μ-loop
+loop-less c =
+    let s = start (c .before .before .before .before) in
+    omega (arith, b-pos _ _ _ _ (s .pre .0), c .before .before .before .loop-test .taken)
+
+loop-again : tie.Need-loop-again Inv-loop μ-loop
+loop-again c =
+    let turn = c .before .before .before .before in
+    let k = start turn .pre .0 in
+    let v = turn .loop .inv in (
       omega (arith, v .0),
       laws.counts-more _ _ _ _ _ (v .0) (v .1),
       laws.counts-more _ _ _ _ _ (v .0) (v .2),
       omega (arith, c .before .before .before .loop-test .taken),
       λ i o small kept next-is n-is link-is. laws.kept-again _ (k .facts) _ (k .level-in) i o (omega (arith, k .b-is)) _ _ _ _ _ _ _ _
-          (k .b-is) (at-width .width .ensures) (v .4 i o small kept next-is n-is link-is) next-is n-is link-is (v .0) (v .1) (v .2)
+          (k .b-is) (at-width turn .width .ensures) (v .4 i o small kept next-is n-is link-is) next-is n-is link-is (v .0) (v .1) (v .2)
           _ (c .before .before .continues .ensures) (not-false _ (c .before .if1 .left)),
-    ))
-    (λ c. let at-link = c .before .before .before .before .before .before in
-    let start = at-link .before .before .before in
-    c .before .loop .inv .4 _ _ (start .pre .2) (start .pre .1) refl refl (ap (λ (y : ℕ). y + at-link .before .width .result) (at-link .link .ensures))))
+    )
+
+returns-2 : tie.Need-returns-2 Inv-loop μ-loop
+returns-2 c = kept-on (c .before)
+
+pub kept-size-spec : {M : Type 1} → statement M
+kept-size-spec =
+    tie.close
+    (tie.spec Inv-loop μ-loop
+    width-requires
+    (λ c. search needs)
+    link-requires
+    (λ c. search needs)
+    (λ c. search needs)
+    (λ c. search needs)
+    (λ c. search needs)
+    (λ c. search needs)
+    loop-holds
+    continues-requires
+    returns
+    add-n
+    add-next-2
+    add-link-2
+    loop-less
+    loop-again
+    returns-2)

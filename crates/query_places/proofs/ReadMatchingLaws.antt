@@ -18,7 +18,7 @@ use Rattle.search_byte.specs.FirstByte.{Without}
 use Rattle.search_kmp.specs.Borders.{Next, GoesOn}
 use Rattle.search_kmp.proofs.BorderLaws.{back-start, next-more, first-none}
 use Rattle.query_places.specs.declared.pattern_seek.Progress.{Progress}
-use Rattle.query_places.specs.TableFilled.{Even, Skips, Seeking, Glides}
+use Rattle.query_places.specs.TableFilled.{Even, Skips, Seeking, ReadsMatching}
 use Rattle.query_places.proofs.PatternStepLaws.{stepped-on}
 use Rattle.query_places.proofs.PatternSeekLaws.{seeking-even, seeking-byte}
 
@@ -38,9 +38,9 @@ next-same P s c low e = next-more P s c s (back-start P s c) (and-both (lt-ltb s
 
 module _ (t P : List ℕ) (room : ℕ) (before table : List ℕ) (some-byte : 1 ≤ length P) (p from size : ℕ) (reads : ReadsOn t p from size) where
   -- One byte more.
-  glide-one : (j s f r : ℕ) → j < size → Seeking t P room before (progress (p + j) s f) table → r ≤ s + 1 → r < length P
+  reads-one : (j s f r : ℕ) → j < size → Seeking t P room before (progress (p + j) s f) table → r ≤ s + 1 → r < length P
       → Next P s (getD t (from + j) 0) r → Seeking t P room before (progress (p + (j + 1)) r f) table
-  glide-one j s f r low k high short next =
+  reads-one j s f r low k high short next =
       let m = progress (p + j) s f in
       let e : p + (j + 1) ≡ p + j + 1 = omega arith in
       let other : r ≡ length P → ⊥ = λ z. omega arith in
@@ -53,7 +53,7 @@ module _ (t P : List ℕ) (room : ℕ) (before table : List ℕ) (some-byte : 1 
   skip-on zero f high w k = let e : p + 0 ≡ p = omega arith in rw e k
   skip-on (suc j) f high w k =
       let e : suc j ≡ j + 1 = omega arith in
-      rw e (glide-one j 0 f 0 (omega arith) (skip-on j f (omega arith) (record { other = λ x h. w .other x (omega arith) }) k) (omega arith)
+      rw e (reads-one j 0 f 0 (omega arith) (skip-on j f (omega arith) (record { other = λ x h. w .other x (omega arith) }) k) (omega arith)
       (omega arith) (next-other P (getD t (from + j) 0) (w .other j (omega arith))))
 
   match-on : (k s f : ℕ) → k ≤ size → GoesOn P t from s k → Seeking t P room before (progress p s f) table
@@ -65,7 +65,7 @@ module _ (t P : List ℕ) (room : ℕ) (before table : List ℕ) (some-byte : 1 
   match-on (suc j) s f high g k =
       let e : suc j ≡ j + 1 = omega arith in
       let z : s + suc j ≡ s + j + 1 = omega arith in
-      rw (z, e) (glide-one j (s + j) f (s + j + 1) (omega arith)
+      rw (z, e) (reads-one j (s + j) f (s + j + 1) (omega arith)
       (match-on j s f (omega arith) (record { same = λ x h. g .same x (omega arith); short = λ x h. g .short x (omega arith) }) k)
       (omega arith) (g .short j (omega arith)) (next-same P (s + j) (getD t (from + j) 0) (omega (arith, g .short j (omega arith))) (g .same j (omega arith))))
 
@@ -86,8 +86,8 @@ module _ (t P : List ℕ) (some-byte : 1 ≤ length P) (m : Progress) (from n k 
   no-place (inl e) h = omega arith
   no-place (inr e) h = omega (arith, goes .short (d - 1) (omega arith))
 
-  pub glides : Even P m → Glides t P n m (progress (m .place .0 + (k + d)) (m .state + d) (m .found))
-  glides e = record {
+  pub reads-matching : Even P m → ReadsMatching t P n m (progress (m .place .0 + (k + d)) (m .state + d) (m .found))
+  reads-matching e = record {
     least = omega arith;
     most = omega arith;
     even = record { short = no-place (zero-or d) (e .short); state-low = omega (arith, e .state-low); found-low = omega (arith, e .found-low) };
