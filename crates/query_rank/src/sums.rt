@@ -139,7 +139,8 @@ fn to_kept(
     position: BlockPosition,
     sum: Sum,
 ) -> Landing
-    requires { ⌜ (MayPoint (now t) size (on .level) (on .b) (position .block .0) (position .place .0) (sum .entered)) × (Carried (now t) (wanted .number) sum) ⌝ }
+    requires { ⌜ (MayPoint (now t) size (on .level) (on .b) (position .block .0) (position .place .0) (sum .entered))
+        × (Carried (now t) (wanted .number) sum) ⌝ }
     ensures { λ r. ⌜ LandedSum (now (t .entry)) size (on .level) (on .b) (wanted .byte) (wanted .number) (position .block .0) (position .place .0) sum r ⌝ }
 {
     let block = position.block;

@@ -110,7 +110,8 @@ fn to_kept(
     }
 }
 
-// From a kept block above the last level to the child that contains the place; `below` is the block length of the children. The walk ends on the last level, where no block points.
+// From a kept block above the last level to the child that contains the place; `below` is the block length of the children. The walk ends on the last level,
+// where no block points.
 // Both steps take single words as arguments: a struct of two words would be packed and unpacked at each level.
 fn kept_step(
     t: &&[u8],
