@@ -24,7 +24,7 @@ pub struct WalkState {
 pub struct PathEnd {
     pub block: BlockNumber,
     pub place: BlockPlace,
-    pub trail: WalkState,
+    pub state: WalkState,
 }
 
 pub enum WalkAnswer {
@@ -55,11 +55,11 @@ impl WalkState {
 const BROKEN: u64 = 18446744073709551615;
 
 // The result of a walk in one word: the block + 2^28 × the place + 2^36 × the blocks entered + 2^40 × the bytes left.
-fn packed(block: BlockNumber, place: BlockPlace, trail: WalkState) -> u64
-    requires { ⌜ (block .0 < 268435456) × (place .0 < 256) × (trail .entered < 16) × (trail .left ≤ maxText) ⌝ }
-    ensures { λ r. ⌜ walkedIn r ≡ WalkAnswer.At (record { block = block; place = place; trail = trail }) ⌝ }
+fn packed(block: BlockNumber, place: BlockPlace, state: WalkState) -> u64
+    requires { ⌜ (block .0 < 268435456) × (place .0 < 256) × (state .entered < 16) × (state .left ≤ maxText) ⌝ }
+    ensures { λ r. ⌜ walkedIn r ≡ WalkAnswer.At (record { block = block; place = place; state = state }) ⌝ }
 {
-    let carried = trail.entered as u64 + 16 * trail.left as u64;
+    let carried = state.entered as u64 + 16 * state.left as u64;
     block.0 as u64 + 268435456 * (place.0 as u64 + 256 * carried)
 }
 
@@ -73,7 +73,7 @@ pub fn unpacked(word: u64) -> WalkAnswer
     WalkAnswer::At(PathEnd {
         block: BlockNumber((word % 268435456) as u32),
         place: BlockPlace((word / 268435456 % 256) as u32),
-        trail: WalkState {
+        state: WalkState {
             entered: (word / 68719476736 % 16) as u32,
             left: (word / 1099511627776) as u32,
         },
@@ -94,12 +94,12 @@ fn to_kept(
     requires { ⌜ (MayPoint (now t) size level b (block .0) (place .0) entered) × (level + 1 < at.settings (now t) .levels) ⌝ }
     ensures { λ r. ⌜ r ≡ landingAt (now (t .entry)) (record { entered = entered; left = left }) level (block .0) (place .0) ⌝ }
 {
-    let trail = WalkState { entered, left };
+    let state = WalkState { entered, left };
     let here = walk_steps::classify_block(t, size, level, b, block, place);
     match here {
-        BlockKind::Kept(_, _) => Landing::At(block, place, trail),
+        BlockKind::Kept(_, _) => Landing::At(block, place, state),
         BlockKind::Points(_, _) => {
-            let further = trail.enter(b, place);
+            let further = state.enter(b, place);
             let there = walk_steps::resolve_target(t, size, level, b, block, place);
             let BlockAt::At(i, p) = there else {
                 return Landing::Off;
@@ -131,8 +131,8 @@ fn kept_step(
 {
     let tree = *t;
     let shape = fields::shape_of(tree);
-    let trail = WalkState { entered, left };
-    let further = trail.enter(b, place);
+    let state = WalkState { entered, left };
+    let further = state.enter(b, place);
     let child = walk_steps::child(tree, size, level, below, block, place);
     let BlockAt::At(i, p) = child else {
         return BROKEN;

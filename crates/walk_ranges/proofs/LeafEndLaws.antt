@@ -137,7 +137,7 @@ module _ (t : List ℕ) (p : ℕ) (h : Header) (k : HeaderOf t h) (low : p < h .
       end-place = omega (arith, above-place t (k .facts) p (end-walk .above) (end-walk .is), end-walk .place-is, full-last t (k .facts))
 
       pub end-few : keptBlock t (lastLevel t) (r .block .0) ≡ true → at.link t (lastLevel t) (r .block .0) + r .place .0 < at.leafCount t
-          → r .trail .entered + 1 < 4294967296
+          → r .state .entered + 1 < 4294967296
       unfolding pathOf
       end-few kept small =
           let vs = end-walk .above .visits ++ (visit (lastLevel t) (r .block .0) (r .place .0) ∷ []) in
@@ -153,7 +153,7 @@ module _ (t : List ℕ) (p : ℕ) (h : Header) (k : HeaderOf t h) (low : p < h .
 
       pub end-reached : keptBlock t (lastLevel t) (r .block .0) ≡ true
           → (leaf : ℕ) → leaf ≡ at.link t (lastLevel t) (r .block .0) + r .place .0 → leaf < at.leafCount t
-          → LeafEndAt t p (record { block = r .block; place = r .place; leaf = leaf; left = r .trail .left; entered = r .trail .entered + 1 })
+          → LeafEndAt t p (record { block = r .block; place = r .place; leaf = leaf; left = r .state .left; entered = r .state .entered + 1 })
       end-reached kept leaf leaf-is leaf-in = record {
         ends-in = record { kept = kept; place-in = end-place; leaf-is = leaf-is; leaf-in = leaf-in };
         above = end-walk .above;
@@ -179,11 +179,11 @@ module _ (t : List ℕ) (p : ℕ) (h : Header) (k : HeaderOf t h) (low : p < h .
           pub end-no-leaf : h .«leaf_count» ≤ leaf → byteAnswer t p ≡ refused 14
           end-no-leaf past = end-past is-kept (omega (arith, is-leaf, k .count-is))
 
-          pub end-entered-fits : leaf < h .«leaf_count» → r .trail .entered + 1 < 4294967296
+          pub end-entered-fits : leaf < h .«leaf_count» → r .state .entered + 1 < 4294967296
           end-entered-fits low-leaf = end-few is-kept (omega (arith, is-leaf, k .count-is))
 
           pub end-found : leaf < h .«leaf_count»
-              → LeafEndAt t p (record { block = r .block; place = r .place; leaf = leaf; left = r .trail .left; entered = r .trail .entered + 1 })
+              → LeafEndAt t p (record { block = r .block; place = r .place; leaf = leaf; left = r .state .left; entered = r .state .entered + 1 })
           end-found low-leaf = end-reached is-kept leaf is-leaf (omega (arith, k .count-is))
 
 -- Block after block.

@@ -58,8 +58,8 @@ pub fn end_of(t: &[u8], h: Header, p: TextPlace, word: u64) -> LeafEndAnswer
         block,
         place,
         leaf: leaf as u32,
-        left: reached.trail.left,
-        entered: reached.trail.entered + 1,
+        left: reached.state.left,
+        entered: reached.state.entered + 1,
     })
 }
 
