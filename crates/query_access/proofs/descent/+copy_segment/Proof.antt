@@ -8,7 +8,7 @@ use lib.ListN.{length}
 use Rattle.format.specs.Layout as at
 use Rattle.layout.proofs.ShapeLaws.{shapes}
 use Rattle.layout.proofs.fields.shape_of.Reads as shape-of-reads
-use Rattle.query_access.specs.Segments.{NextAt}
+use Rattle.walk_ranges.specs.Segments.{NextAt}
 use Rattle.query_access.proofs.SegmentLaws as segments
 use Rattle.query_access.proofs.descent.copy_leaves.Reads as copy-leaves-reads
 use Rattle.walk_ranges.proofs.segments.next_segment.Reads as next-segment-reads
