@@ -20,7 +20,12 @@ COMMON = {"calls", "every-call-ends", "no-preconditions", "Find", "Row"}
 GIVEN_UP = {
     "Says": "Answer", "Said": "Answer or Reply", "says": "answers", "said": "answer", "saying": "answer", "told": "answered", "Told": "what holds", "Leaves": "Buffer (leaf bytes: LeafBytes)",
     "verdict": "checkResult", "Verdict": "CheckResult", "readable": "header", "Enough": "SizeBound", "stretches": "byte_slices", "Demands": "Theorems", "trusts": "no-preconditions",
-    "twin": "equal item", "Spot": "BlockPosition", "Trail": "WalkState", "worn": "key match", "Worn": "KeyMatch", "shelf": "sort",
+    "twin": "equal item", "twins": "equal items", "Spot": "BlockPosition", "spot": "position", "Trail": "WalkState", "trail": "state", "worn": "key match",
+    "Worn": "KeyMatch", "shelf": "sort", "Stretch": "BlockSpan or substring", "Stretches": "substrings",
+    "stretch": "substring", "Standing": "ordering", "standing": "ordering", "Growth": "WritesOnlyTree", "grown": "only-tree", "Noted": "lengths", "noted": "lengths",
+    "entrants": "items entered", "took": "processed", "touched": "compared", "untold": "unread", "Say": "Answer", "Gift": "InputKind", "gift": "input",
+    "Glide": "ReadMatching", "Glides": "ReadsMatching", "glide": "read_matching", "hop": "pointer", "Prints": "Fingerprints", "Leafing": "LeafBytesUpTo",
+    "leafing": "leaf bytes", "Roomy": "what holds",
 }
 DEFINITION = re.compile(r"^([ ]*)((?:abbrev |unfoldable |pub |opaque )*)(?:(?:record|data) )?([^\s(){}:,.;]+)(?=[\s(:{])(?:[^\n=]*?)(?<![\w-])(?::|where)", re.M)
 LIBRARY = re.compile(r"^(?:ghost )?(?:pub )?use (?!Rattle·)[\w.·-]+\.\{([^}]*)\}", re.M)

@@ -174,10 +174,10 @@ static void ask_prefix_guided(char **word)
 }
 static void query_compare(char **word)
 {
-    static const char *const standings[] = {" -", " before", " same", " after"};
+    static const char *const orders[] = {" -", " before", " same", " after"};
     const uint64_t n = file(word[0], other);
     say_number(bt_compare(tree, tree_len, other, n, &first, &second, &third));
-    say(standings[first & 3]);
+    say(orders[first & 3]);
     say_figure(second);
     say_figure(third);
 }

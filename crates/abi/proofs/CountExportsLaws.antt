@@ -15,18 +15,18 @@ use Rattle.format.specs.TreeReading.{ask, headerResult}
 use Rattle.format.specs.LayoutLaws.{header-facts}
 use Rattle.format.specs.FindAnswerLaws.{FindAnswers}
 use Rattle.theory_counts.specs.CountsLocal.{byteOf}
-use Rattle.theory_counts.specs.Ranks as tally
+use Rattle.theory_counts.specs.Ranks as ranks
 use Rattle.query_select.specs.declared.FindAnswer.{FindAnswer}
-use Rattle.query_select.specs.declared.FindAnswer.the-variants as found
+use Rattle.query_select.specs.declared.FindAnswer.the-variants as find
 use Rattle.query_rank.specs.Counts.{uncountedRefusal}
 use Rattle.query_select.specs.Found.{findReply}
 use Rattle.text.specs.declared.TextPlace.{TextPlace}
 
 module _ (t : List ℕ) (byte j : ℕ) (r : FindAnswer) (k : FindAnswers t byte j (replied (findReply r))) where
-  pub find-answered : (place : TextPlace) (entered : ℕ) → r ≡ found.At place entered → FindAnswers t byte j (answerWith 0 (place .0) entered)
+  pub find-answered : (place : TextPlace) (entered : ℕ) → r ≡ find.At place entered → FindAnswers t byte j (answerWith 0 (place .0) entered)
   find-answered place entered e = subst (λ (x : FindAnswer). FindAnswers t byte j (replied (findReply x))) e k
 
-  pub find-refused : (q : ℕ) → r ≡ found.Refused q → FindAnswers t byte j (answerWith q 0 0)
+  pub find-refused : (q : ℕ) → r ≡ find.Refused q → FindAnswers t byte j (answerWith q 0 0)
   find-refused q e = subst (λ (x : FindAnswer). FindAnswers t byte j (replied (findReply x))) e k
 
 -- A row by its number and length.
@@ -67,7 +67,7 @@ module _ (t : List ℕ) (bytes : (k : ℕ) → getD t k 0 < 256) (byte : ℕ) (h
       decide : (b : Bool) → isCounted t byte ≡ b → b ≡ false
       decide true e =
           let k = header-facts t z in
-          let d = tally.counted t k byte e in
+          let d = ranks.counted t k byte e in
           absurd (omega (
             arith,
             d .byte-is,

@@ -18,7 +18,7 @@ use Rattle.query_access.specs.declared.SpanAnswer.{SpanAnswer}
 use Rattle.query_access.specs.declared.SpanAnswer.the-variants as span
 use Rattle.query_access.specs.ReadAnswers.{spanReply, IsSpanAnswer}
 use Rattle.build_by_search.specs.declared.BuildAnswer.{BuildAnswer}
-use Rattle.build_by_search.specs.declared.BuildAnswer.the-variants as built
+use Rattle.build_by_search.specs.declared.BuildAnswer.the-variants as build
 use Rattle.build_by_search.specs.BuildAnswer.{buildReply}
 
 -- The reply of an answer that is known.
@@ -28,14 +28,14 @@ reply-is reply r x s is e = sym (ap (λ y. replied (reply y)) e) ∙ is
 -- build
 
 module _ (r : BuildAnswer) (number size : ℕ) (n-is : replied (buildReply r) .number ≡ number) (s-is : replied (buildReply r) .value ≡ size) where
-  pub build-answered : (n : ℕ) → r ≡ built.Size n → (0 ≡ number) × (n ≡ size)
+  pub build-answered : (n : ℕ) → r ≡ build.Size n → (0 ≡ number) × (n ≡ size)
   build-answered n e = (
     sym (ap (λ (x : BuildAnswer). replied (buildReply x) .number) e)
         ∙ n-is,
     sym (ap (λ (x : BuildAnswer). replied (buildReply x) .value) e) ∙ s-is,
   )
 
-  pub build-refused : (q : ℕ) → r ≡ built.Refused q → (q ≡ number) × (0 ≡ size)
+  pub build-refused : (q : ℕ) → r ≡ build.Refused q → (q ≡ number) × (0 ≡ size)
   build-refused q e = (
     sym (ap (λ (x : BuildAnswer). replied (buildReply x) .number) e)
         ∙ n-is,

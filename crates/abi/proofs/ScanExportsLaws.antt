@@ -4,13 +4,13 @@ use mathlib.Core.Path.{_≡_, sym, ap, _∙_, subst}
 use Prim.Native.Nat.{ℕ}
 use Rattle.format.specs.Answers.{replied}
 use Rattle.build_by_scan.specs.declared.BuildScannedAnswer.{BuildScannedAnswer}
-use Rattle.build_by_scan.specs.declared.BuildScannedAnswer.the-variants as scanned
+use Rattle.build_by_scan.specs.declared.BuildScannedAnswer.the-variants as build-scanned
 use Rattle.build_by_scan.specs.ScanAnswers.{buildScannedReply, TableLeft}
 
 module _ (r : BuildScannedAnswer) (number size windows : ℕ) (n-is : replied (buildScannedReply r) .number ≡ number)
     (s-is : replied (buildScannedReply r) .value ≡ size) (w-is : replied (buildScannedReply r) .entered ≡ windows) (old new : List ℕ)
     (left : TableLeft (replied (buildScannedReply r) .number) old new) where
-  pub scan-answered : (n w : ℕ) → r ≡ scanned.Size n w → (0 ≡ number) × (n ≡ size) × (w ≡ windows) × TableLeft 0 old new
+  pub scan-answered : (n w : ℕ) → r ≡ build-scanned.Size n w → (0 ≡ number) × (n ≡ size) × (w ≡ windows) × TableLeft 0 old new
   scan-answered n w e = (
     sym (ap (λ (x : BuildScannedAnswer). replied (buildScannedReply x) .number) e)
         ∙ n-is,
@@ -19,7 +19,7 @@ module _ (r : BuildScannedAnswer) (number size windows : ℕ) (n-is : replied (b
     subst (λ (x : BuildScannedAnswer). TableLeft (replied (buildScannedReply x) .number) old new) e left,
   )
 
-  pub scan-refused : (q : ℕ) → r ≡ scanned.Refused q → (q ≡ number) × (0 ≡ size) × (0 ≡ windows) × TableLeft q old new
+  pub scan-refused : (q : ℕ) → r ≡ build-scanned.Refused q → (q ≡ number) × (0 ≡ size) × (0 ≡ windows) × TableLeft q old new
   scan-refused q e = (
     sym (ap (λ (x : BuildScannedAnswer). replied (buildScannedReply x) .number) e)
         ∙ n-is,

@@ -143,8 +143,8 @@ pub extern "C" fn bt_run_range(tree: &[u8], place: u32, offset: &mut u64, len: &
     ensures { λ _. ⌜ now (offset .exit) ≡ runAnswer (now (tree .entry)) place .0 ⌝ }
     ensures { λ _. ⌜ now (len .exit) ≡ runAnswer (now (tree .entry)) place .1 ⌝ }
 {
-    let ran = query_access::run_range(tree, TextPlace(place));
-    match ran {
+    let range = query_access::run_range(tree, TextPlace(place));
+    match range {
         RunRangeAnswer::At(part) => put_u64(
             offset,
             part.from as u64,

@@ -16,7 +16,7 @@ use Rattle.theory_built.specs.BlockSizes.{BuiltBounds, bounds, size-pos}
 use Rattle.theory_built.specs.Structure.{count, start, bytesIn, bytesIn-is}
 use Rattle.theory_built.specs.BuiltTargets.{placeOf-is}
 use Rattle.build_records.specs.declared.level_written.Level.{Level}
-use Rattle.build_records.specs.State.{recordSettingsOf, LevelIs, On}
+use Rattle.build_records.specs.State.{recordSettingsOf, LevelIs, BlockNext}
 use Rattle.build_records.proofs.StateLaws.{RecordFew, record-few}
 use Rattle.build_records.proofs.RecordsRead.{start-fits, start-read, start-in}
 use Rattle.build_levels.specs.Trees.{LevelReady}
@@ -24,7 +24,7 @@ use Rattle.scan_hash_table.specs.declared.Items.{Items}
 use Rattle.scan_hash_table.specs.Entries.{Placed, Laid, startAt, lengthAt}
 use Rattle.scan_pass.specs.Passes.{Present, Ordered, Answered}
 use Rattle.scan_pass.proofs.ItemLengths.{block-length, pair-length}
-use Rattle.build_by_scan.specs.ItemTable.{itemsSay, pairBytes, TableGivesMarking}
+use Rattle.build_by_scan.specs.ItemTable.{itemsOf, pairBytes, TableGivesMarking}
 use Rattle.build_by_scan.proofs.TableRoom.{pieces-few, order, few-items}
 
 module _ (seed : ℕ) (T out cs : List ℕ) (level : Level)
@@ -37,7 +37,7 @@ module _ (seed : ℕ) (T out cs : List ℕ) (level : Level)
     l = level .number
 
     abbrev it : Items
-    it = itemsSay (length T) (recordBytes S) level seed
+    it = itemsOf (length T) (recordBytes S) level seed
 
     h : LevelIs S T level
     h = r .level-is
@@ -54,7 +54,7 @@ module _ (seed : ℕ) (T out cs : List ℕ) (level : Level)
     pub items-fit : level .count + level .count ≤ pieces (length T) (level .settings .leaf) + 1
     items-fit = omega (arith, few-items S T (h .taken) l upper (omega (arith, some-blocks, h .count-is)), h .count-is)
 
-    on : On S T out level 0
+    on : BlockNext S T out level 0
     on = record { level-is = h; filled = r .filled; block-in = omega (arith, some-blocks) }
 
     -- Block x / 2 of item x.
@@ -137,7 +137,7 @@ module _ (seed : ℕ) (T out cs : List ℕ) (level : Level)
       room = omega (arith, a .laid .room, h .count-is);
       place = λ i il. a .place (2 * i) (block-item i il) (inl (omega arith)) ∙ ap₂ (leftmost T) (block-start i il) (block-bytes i il)
           ∙ sym (placeOf-is S T l i);
-      twins = λ i il. a .twins (2 * i) (block-item i il) (inl (omega arith));
+      equal-before = λ i il. a .equal-before (2 * i) (block-item i il) (inl (omega arith));
       first = λ i il p e. sym (ap₂ (leftmost T) (pair-start i il p) (pair-bytes i il p))
           ∙ a .first (2 * i + 1) (pair-item i il p) (pair-there i il p) (e ∙ sym (pair-start i il p)) ∙ pair-start i il p;
       again = λ i il p n e. a .again (2 * i + 1) (pair-item i il p) (pair-there i il p) (λ q. n (q ∙ pair-start i il p))
@@ -162,7 +162,7 @@ answered-none S T W l upper none = record {
   upper = upper;
   room = omega (arith, none);
   place = λ i il. absurd (no-block i il);
-  twins = λ i il. absurd (no-block i il);
+  equal-before = λ i il. absurd (no-block i il);
   first = λ i il. absurd (no-block i il);
   again = λ i il. absurd (no-block i il);
 }

@@ -10,7 +10,7 @@ use Rattle.format.specs.Layout.{maxText, pieces, maxLevels}
 use Rattle.layout.specs.declared.settings.Settings as code
 use Rattle.build_records.specs.declared.level_written.Level.{Level}
 use Rattle.build_records.specs.State.{recordSettingsOf}
-use Rattle.build_records.proofs.Growth.{grown-none}
+use Rattle.build_records.proofs.WritesOnlyTreeLaws.{only-tree-refl}
 use Rattle.build_levels.specs.Trees.{LevelReady}
 use Rattle.build_by_search.proofs.AllLevelsLaws.{LevelReached}
 use Rattle.build_by_scan.specs.ScanAnswers.{windowsAt, windowsOf}
@@ -28,7 +28,7 @@ module _ (first : code.Settings) (cs T out₀ words₀ : List ℕ) where
       → ScanReached first cs T out₀ words₀ out₀ words₀ level 0
   unfolding sumBelow
   along-first level s z r = record {
-    reached = record { same = s; ready = r; grown = grown-none _ _ };
+    reached = record { same = s; ready = r; only-tree = only-tree-refl _ _ };
     same-length = refl;
     windows-are = rw z;
     windows-few = omega arith;

@@ -14,13 +14,13 @@ use Rattle.format.specs.Blocks.{startsAt, pairAt}
 use Rattle.theory_built.specs.Structure.{count, start}
 use Rattle.build_records.specs.declared.level_written.Level.{Level}
 use Rattle.build_records.specs.RecordPlaces.{recordPlace}
-use Rattle.build_records.specs.State.{recordSettingsOf, On}
+use Rattle.build_records.specs.State.{recordSettingsOf, BlockNext}
 use Rattle.build_records.proofs.RecordsRead.{start-read}
 use Rattle.build_marking.specs.declared.pair.Pair.the-variants.{First, Again}
 use Rattle.build_marking.specs.MarkingRule.{pairAnswer, pairOf}
 use Rattle.build_marking.proofs.PairLaws.{pair-is}
 use Rattle.scan_hash_table.specs.Entries.{itemPlaceIn}
-use Rattle.build_by_scan.specs.ItemTable.{itemsSay, pairBytes, TableGivesMarking}
+use Rattle.build_by_scan.specs.ItemTable.{itemsOf, pairBytes, TableGivesMarking}
 
 answers-first : (T : List ℕ) (s len : ℕ) → leftmost T s len ≡ s → First ≡ pairAnswer T s len
 answers-first T s len e = rw (eq-eqb (leftmost T s len) s e)
@@ -28,7 +28,8 @@ answers-first T s len e = rw (eq-eqb (leftmost T s len) s e)
 answers-again : (T : List ℕ) (s len : ℕ) → (leftmost T s len ≡ s → ⊥) → Again ≡ pairAnswer T s len
 answers-again T s len e = rw (ne-eqb (leftmost T s len) s e)
 
-module _ (S : Settings) (T out : List ℕ) (level : Level) (i : ℕ) (w : On S T out level i) (W : List ℕ) (t : TableGivesMarking S T (level .number) W) where
+module _ (S : Settings) (T out : List ℕ) (level : Level) (i : ℕ) (w : BlockNext S T out level i) (W : List ℕ)
+    (t : TableGivesMarking S T (level .number) W) where
   abbrev l : ℕ
   l = level .number
 
@@ -70,5 +71,5 @@ module _ (S : Settings) (T out : List ℕ) (level : Level) (i : ℕ) (w : On S T
 pub same-items : (n step : ℕ) (level : Level) (seed p s h : ℕ) → p ≡ pieces n (level .settings .leaf) → s ≡ step
     → h ≡ min (4 * p - 3 * (level .count + level .count - 1)) (16 * (level .count + level .count - 1))
     → record { records = level .table; step = s; size = level .size; items = level .count + level .count - 1; heads = h; seed = seed }
-    ≡ itemsSay n step level seed
+    ≡ itemsOf n step level seed
 same-items n step level seed p s h ep es eh = rw (eh, ep, es)

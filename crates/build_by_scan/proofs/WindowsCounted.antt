@@ -23,10 +23,10 @@ use Rattle.scan_rolling_hash.proofs.WindowLaws.{places-none, places-some}
 use Rattle.scan_hash_table.specs.declared.Items.{Items}
 use Rattle.scan_hash_table.specs.Entries.{startAt, lengthAt}
 use Rattle.scan_pass.specs.declared.Lengths.{Lengths}
-use Rattle.scan_pass.specs.Passes.{Present, Ordered, Among, Has, LengthNoted, Counted}
+use Rattle.scan_pass.specs.Passes.{Present, Ordered, Among, Has, LengthsOf, Counted}
 use Rattle.scan_pass.proofs.ItemLengths.{length-low, length-high, length-most, next-in}
 use Rattle.build_by_scan.specs.ScanAnswers.{anyBelow, hasLength, windowsAt}
-use Rattle.build_by_scan.specs.ItemTable.{itemsSay, pairBytes}
+use Rattle.build_by_scan.specs.ItemTable.{itemsOf, pairBytes}
 use Rattle.build_by_scan.proofs.ScannedFillLaws as lev
 
 -- `anyBelow` holds exactly where the test holds at some number.
@@ -110,7 +110,7 @@ module _ (seed : ℕ) (T out cs : List ℕ) (level : Level)
   S = recordSettingsOf (level .settings) cs
 
   abbrev it : Items
-  it = itemsSay (length T) (recordBytes S) level seed
+  it = itemsOf (length T) (recordBytes S) level seed
 
   o : Ordered T out it
   o = lev.ordered seed T out cs level r k some
@@ -183,7 +183,7 @@ module _ (seed : ℕ) (T out cs : List ℕ) (level : Level)
       go (i, il, t) = by i il (or-cases (eqb (bytesIn S T l i) n) (pairAt T (blockLength S l) (startsAt S T l) i && eqb (pairBytes S T l i) n) t)
 
   -- The lengths noted.
-  module _ (g : Lengths) (s : LengthNoted T out it (it .items) g) where
+  module _ (g : Lengths) (s : LengthsOf T out it (it .items) g) where
     abbrev n : ℕ
     n = length T
 
@@ -338,7 +338,7 @@ module _ (seed : ℕ) (T out cs : List ℕ) (level : Level)
         (share-sum n (g .ending) (ending-in (s .ending-is))))
 
   pub counted : (w : ℕ) → Counted T out it w → w ≡ windowsAt S T l
-  counted w c = c .sum ∙ windows-are (c .lengths) (c .noted)
+  counted w c = c .sum ∙ windows-are (c .lengths) (c .lengths-are)
 
   -- A window fits at no more places than the text has.
   places-most : (v : ℕ) → v ≤ length T → placesOf (length T) v ≤ length T
@@ -351,7 +351,7 @@ module _ (seed : ℕ) (T out cs : List ℕ) (level : Level)
   pub counted-few : (w : ℕ) → Counted T out it w → w ≤ 4 * maxText
   counted-few w c =
       let g = c .lengths in
-      let s = c .noted in
+      let s = c .lengths-are in
       omega (
         arith,
         c .sum,

@@ -15,8 +15,8 @@ use Rattle.scan_hash_table.specs.Entries.{itemPlaceIn}
 use Rattle.scan_pass.specs.Passes.{placeOut}
 
 -- The items of a level of a text of n bytes, with records of `step` bytes, and the number of chains that the table has room for.
-abbrev pub itemsSay : ℕ → ℕ → Level → ℕ → Items
-itemsSay n step level seed = record {
+abbrev pub itemsOf : ℕ → ℕ → Level → ℕ → Items
+itemsOf n step level seed = record {
   records = level .table;
   step = step;
   size = level .size;
@@ -35,7 +35,7 @@ module _ (S : Settings) (T : List ℕ) (l : ℕ) where
     pub upper : suc l < S .levels
     pub room : 6 * count S T l ≤ length W + 3
     pub place : (i : ℕ) → i < count S T l → placeOut (length T) W (2 * i) ≡ placeOf S T l i
-    pub twins : (i : ℕ) → i < count S T l → length T ≤ itemPlaceIn W (2 * i) → itemPlaceIn W (2 * i) < length T + 2 * i
+    pub equal-before : (i : ℕ) → i < count S T l → length T ≤ itemPlaceIn W (2 * i) → itemPlaceIn W (2 * i) < length T + 2 * i
     pub first : (i : ℕ) → i < count S T l → pairAt T (blockLength S l) (startsAt S T l) i ≡ true → itemPlaceIn W (2 * i + 1) ≡ start S T l i
         → leftmost T (start S T l i) (pairBytes i) ≡ start S T l i
     pub again : (i : ℕ) → i < count S T l → pairAt T (blockLength S l) (startsAt S T l) i ≡ true → (itemPlaceIn W (2 * i + 1) ≡ start S T l i → ⊥)

@@ -15,7 +15,7 @@ ghost use Prim.Native.Nat.{_+_, _*_, _≤_, _<_};
 ghost use lib.ListN.{length};
 ghost use Rattle.format.specs.Layout.{maxText, pieces};
 ghost use Rattle.build_marking.specs.MarkingRule.{Next, pairOf};
-ghost use Rattle.build_records.specs.State.{recordSettingsOf, On, BlockIs};
+ghost use Rattle.build_records.specs.State.{recordSettingsOf, BlockNext, BlockIs};
 ghost use Rattle.build_levels.specs.Trees.{LevelReady, LevelDone};
 ghost use Rattle.build_by_scan.specs.ScanAnswers.{windowsAt};
 ghost use Rattle.build_by_scan.specs.ItemTable.{TableGivesMarking};
@@ -35,7 +35,7 @@ fn pair_in(
     level: Level,
     i: BlockNumber,
 ) -> Pair
-    requires { ⌜ On (recordSettingsOf (level .settings) (now counted)) (now text) (now out) level (i .0)
+    requires { ⌜ BlockNext (recordSettingsOf (level .settings) (now counted)) (now text) (now out) level (i .0)
         × TableGivesMarking (recordSettingsOf (level .settings) (now counted)) (now text) (level .number) (now words) ⌝ }
     ensures { λ r. ⌜ r ≡ pairOf (recordSettingsOf (level .settings) (now (counted .entry))) (now (text .entry)) (level .number) (i .0) ⌝ }
 {

@@ -9,14 +9,14 @@ ghost use lib.ListN.{length};
 ghost use Rattle.format.specs.Layout.{maxText, pieces, maxLeaf, maxCounted};
 ghost use Rattle.format.specs.Blocks.{recordBytes};
 ghost use Rattle.build_records.specs.State.{recordSettingsOf};
-ghost use Rattle.build_by_scan.specs.ItemTable.{itemsSay};
+ghost use Rattle.build_by_scan.specs.ItemTable.{itemsOf};
 
 // The items of a level. With more than 16 heads for an item they would only spread over more memory.
 pub fn items_of(text: &[u8], counted: &[u8], level: Level, seed: u32) -> Items
     requires { ⌜ (length (now counted) ≤ maxCounted)
         × (1 ≤ level .count) × (1 ≤ level .settings .leaf) × (level .settings .leaf ≤ maxLeaf) × (length (now text) ≤ maxText)
         × (level .count + level .count ≤ pieces (length (now text)) (level .settings .leaf) + 1) ⌝ }
-    ensures { λ r. ⌜ r ≡ itemsSay (length (now (text .entry))) (recordBytes (recordSettingsOf (level .settings) (now (counted .entry)))) level seed ⌝ }
+    ensures { λ r. ⌜ r ≡ itemsOf (length (now (text .entry))) (recordBytes (recordSettingsOf (level .settings) (now (counted .entry)))) level seed ⌝ }
 {
     let items = level.count + level.count - 1;
     let words = 4 * settings::pieces(text.len() as u32, level.settings.leaf);

@@ -9,7 +9,7 @@ use Rattle.layout.specs.declared.settings.Settings as code
 use Rattle.build_records.specs.declared.level_written.Level.{Level}
 use Rattle.build_records.specs.WritesOnlyTree.{WritesOnlyTree}
 use Rattle.build_records.specs.State.{recordSettingsOf}
-use Rattle.build_records.proofs.Growth.{grown-then}
+use Rattle.build_records.proofs.WritesOnlyTreeLaws.{only-tree-trans}
 use Rattle.build_levels.specs.declared.level_step.Step.{Step}
 use Rattle.build_levels.specs.declared.level_step.Step.the-variants.{To, Full}
 use Rattle.build_levels.specs.Trees.{LevelReady, StepIs, TreeComplete}
@@ -18,7 +18,7 @@ use Rattle.build_levels.specs.Trees.{LevelReady, StepIs, TreeComplete}
 pub record LevelReached (first : code.Settings) (cs T out₀ out : List ℕ) (level : Level) : Type 0 where
   pub same : level .settings ≡ first
   pub ready : LevelReady (recordSettingsOf first cs) T out level
-  pub grown : WritesOnlyTree (treeOf (recordSettingsOf first cs) T) out₀ out
+  pub only-tree : WritesOnlyTree (treeOf (recordSettingsOf first cs) T) out₀ out
 
 -- A step came to a level, or found no room for it.
 module _ (first : code.Settings) (cs T out₀ new : List ℕ) (g : WritesOnlyTree (treeOf (recordSettingsOf first cs) T) out₀ new) (number : ℕ) (x : Step)
@@ -31,7 +31,7 @@ module _ (first : code.Settings) (cs T out₀ new : List ℕ) (g : WritesOnlyTre
     step-number = is .to next e .1
 
     pub step-reached : LevelReached first cs T out₀ new next
-    step-reached = record { same = is .to next e .0; ready = is .to next e .2; grown = g }
+    step-reached = record { same = is .to next e .0; ready = is .to next e .2; only-tree = g }
 
 module _ (first : code.Settings) (cs T out₀ out : List ℕ) (level : Level) (r : LevelReached first cs T out₀ out level) where
   pub ready-here : LevelReady (recordSettingsOf (level .settings) cs) T out level
@@ -45,9 +45,10 @@ module _ (first : code.Settings) (cs T out₀ out : List ℕ) (level : Level) (r
 
   -- What holds of the settings of the level holds of those of the first.
   module _ (new : List ℕ) where
-    pub grown-here : WritesOnlyTree (treeOf (recordSettingsOf (level .settings) cs) T) out new → WritesOnlyTree (treeOf (recordSettingsOf first cs) T) out₀ new
-    grown-here g = grown-then
-        (treeOf (recordSettingsOf first cs) T) out₀ out new (r .grown)
+    pub only-tree-here : WritesOnlyTree (treeOf (recordSettingsOf (level .settings) cs) T) out new
+        → WritesOnlyTree (treeOf (recordSettingsOf first cs) T) out₀ new
+    only-tree-here g = only-tree-trans
+        (treeOf (recordSettingsOf first cs) T) out₀ out new (r .only-tree)
         (subst (λ (s : code.Settings). WritesOnlyTree (treeOf (recordSettingsOf s cs) T) out new) (r .same) g)
 
     pub finished-here : (n : ℕ) → TreeComplete (treeOf (recordSettingsOf (level .settings) cs) T) new n

@@ -16,9 +16,9 @@ use Rattle.theory_built.specs.Pairs.{offset}
 use Rattle.build_records.specs.declared.level_written.Level.{Level}
 use Rattle.build_records.specs.declared.record_written.Block.{Block}
 use Rattle.build_records.specs.WritesOnlyTree.{WritesOnlyTree, AgreesOn}
-use Rattle.build_records.specs.State.{LevelIs, RecordsUpTo, On, BlockIs, Writing, placeAt}
-use Rattle.build_records.proofs.Growth.{grown-none, grown-then, within-grown, within-part}
-use Rattle.build_records.proofs.StateLaws.{filled-grown, place-end}
+use Rattle.build_records.specs.State.{LevelIs, RecordsUpTo, BlockNext, BlockIs, Writing, placeAt}
+use Rattle.build_records.proofs.WritesOnlyTreeLaws.{only-tree-refl, only-tree-trans, agrees-only-tree, within-part}
+use Rattle.build_records.proofs.StateLaws.{filled-only-tree, place-end}
 use Rattle.build_levels.specs.Trees.{LevelWritten}
 use Rattle.build_marking.specs.declared.pair.Pair.{Pair}
 use Rattle.build_marking.specs.declared.pair.Pair.the-variants.{Apart}
@@ -28,7 +28,7 @@ use Rattle.build_marking.proofs.PairLaws.{kept-rule}
 -- The loop over the blocks of a level, before block i.
 pub record Going (S : Settings) (T : List ℕ) (level : Level) (out₀ out : List ℕ) (left : Pair) (link i : ℕ) : Type 0 where
   pub within : i ≤ level .count
-  pub grown : WritesOnlyTree (treeOf S T) out₀ out
+  pub only-tree : WritesOnlyTree (treeOf S T) out₀ out
   pub filled : RecordsUpTo S T out (level .number) i
   pub left-is : left ≡ pairBefore S T (level .number) i
   pub link-is : link ≡ sumBelow i (widthOf S T (level .number))
@@ -45,10 +45,10 @@ module _ (S : Settings) (T : List ℕ) (level : Level) (h : LevelIs S T level) w
 
   pub going-first : (out : List ℕ) → RecordsUpTo S T out l 0 → Going S T level out out Apart 0 0
   unfolding pairBefore sumBelow
-  going-first out f = record { within = omega arith; grown = grown-none D out; filled = f; left-is = refl; link-is = refl }
+  going-first out f = record { within = omega arith; only-tree = only-tree-refl D out; filled = f; left-is = refl; link-is = refl }
 
   module _ (out₀ out : List ℕ) (left : Pair) (link i : ℕ) (g : Going S T level out₀ out left link i) (il : i < level .count) where
-    pub going-on : On S T out level i
+    pub going-on : BlockNext S T out level i
     going-on = record { level-is = h; filled = g .filled; block-in = il }
 
     module _ (right : Pair) (right-is : right ≡ pairOf S T l i) (kept : Bool) (kept-is : kept ≡ keptBy left right) where
@@ -72,10 +72,10 @@ module _ (S : Settings) (T : List ℕ) (level : Level) (h : LevelIs S T level) w
 
         pub going-more : Going S T level out₀ new right (link + wide) (i + 1)
         going-more =
-            let f = filled-grown S T out new l i (g .filled) more in
+            let f = filled-only-tree S T out new l i (g .filled) more in
             record {
               within = omega arith;
-              grown = grown-then D out₀ out new (g .grown) more;
+              only-tree = only-tree-trans D out₀ out new (g .only-tree) more;
               filled = record { room = f .room; body = body; starts = f .starts };
               left-is = before-next;
               link-is = link-next;
@@ -92,6 +92,6 @@ module _ (S : Settings) (T : List ℕ) (level : Level) (h : LevelIs S T level) w
       room = g .filled .room;
       body = within-part D out headerLength (placeAt S T l i) headerLength (offset S T (suc l)) (g .filled .body) (omega arith)
           (omega (arith, place-end S T l, ap (placeAt S T l) (last ∙ h .count-is)));
-      header = within-grown D out₀ out 0 (countAt l) (g .grown) header;
+      header = agrees-only-tree D out₀ out 0 (countAt l) (g .only-tree) header;
       total-is = rw last at (g .link-is);
     }

@@ -25,7 +25,7 @@ use Rattle.query_guide.specs.Guides.{guideRefusal, makeGuideRefusal, makeGuideA
 use Rattle.build_guide.specs.EntriesWritten.{guide-written, Puts, GuideCompared}
 use Rattle.build_guide.proofs.WordLists.{words-are, put-word}
 use Rattle.query_guide.proofs.Holders.{total-few, block-in, first-low, block-is}
-use Rattle.query_guide.proofs.GuideList.{guide-length, guide-size, guide-entry, entry-below, entry-stands, entry-word}
+use Rattle.query_guide.proofs.GuideList.{guide-length, guide-size, guide-entry, entry-below, entry-in-total, entry-word}
 
 pub false-not {ℓ} : {A : Type ℓ} → false ≡ true → A
 false-not e = bool-clash false e refl
@@ -36,7 +36,7 @@ true-not e = bool-clash true refl e
 -- The block of entry e of counted byte number c, looked for from a block with fewer before it.
 module _ (t : List ℕ) (c e : ℕ) (v : checkResult t ≡ 0) (hc : c < at.countedCount t) (he : e < entriesOf t c) where
   rank : listedEvery * e + 1 ≤ total t c
-  rank = entry-stands t c e hc he
+  rank = entry-in-total t c e hc he
 
   pub rank-few : listedEvery * e + 1 ≤ maxText
   rank-few = omega (arith, rank, total-few t v c hc)

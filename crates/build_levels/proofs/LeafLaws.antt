@@ -18,13 +18,13 @@ use Rattle.byte_slices.specs.ByteSlices.{bytesWritten}
 use Rattle.build_records.specs.declared.level_written.Level.{Level}
 use Rattle.build_records.specs.declared.level_written.Substring.{Substring}
 use Rattle.build_records.specs.WritesOnlyTree.{WritesOnlyTree, AgreesOn}
-use Rattle.build_levels.specs.LeafBytesWritten.{Leafing}
-use Rattle.build_records.specs.State.{On, SubstringIs}
-use Rattle.build_records.proofs.Growth.{within-grown, within-part, within-join, bytes-grown, bytes-within}
+use Rattle.build_levels.specs.LeafBytesWritten.{LeafBytesUpTo}
+use Rattle.build_records.specs.State.{BlockNext, SubstringIs}
+use Rattle.build_records.proofs.WritesOnlyTreeLaws.{agrees-only-tree, within-part, within-join, bytes-only-tree, bytes-within}
 use Rattle.build_records.proofs.RecordsRead.{on-written}
 use Rattle.build_records.proofs.StateLaws.{table-inside}
 
-module _ (S : Settings) (T out : List ℕ) (level : Level) (to i : ℕ) (w : Leafing S T out level to i) where
+module _ (S : Settings) (T out : List ℕ) (level : Level) (to i : ℕ) (w : LeafBytesUpTo S T out level to i) where
   abbrev l : ℕ
   l = level .number
 
@@ -45,7 +45,7 @@ module _ (S : Settings) (T out : List ℕ) (level : Level) (to i : ℕ) (w : Lea
     i-in : i < count S T l
     i-in = omega (arith, w .level-is .count-is)
 
-    pub leaf-on : On S T out level i
+    pub leaf-on : BlockNext S T out level i
     leaf-on = on-written S T out level i (w .level-is) (omega (arith, table-inside S T taken l l-in, w .room))
         (within-part D out headerLength to headerLength (offset S T (suc l)) (w .body) (omega arith) end) il
 
@@ -72,20 +72,20 @@ module _ (S : Settings) (T out : List ℕ) (level : Level) (to i : ℕ) (w : Lea
           ∙ leaf-at S T taken l i j (w .last) i-in (omega (arith, own-is .length-is)))
 
       module _ (new : List ℕ) (new-is : new ≡ bytesWritten out to T s len) where
-        pub leaf-grown : WritesOnlyTree D out new
-        leaf-grown = rw new-is (bytes-grown D out T to s len leaf-fits in-tree bytes-are len (omega arith))
+        pub leaf-only-tree : WritesOnlyTree D out new
+        leaf-only-tree = rw new-is (bytes-only-tree D out T to s len leaf-fits in-tree bytes-are len (omega arith))
 
         pub leaf-within : AgreesOn D new to (to + len)
         leaf-within = rw new-is (bytes-within D out T to s len leaf-fits in-tree bytes-are)
 
     -- The next block.
     module _ (new : List ℕ) (len : ℕ) (len-is : len ≡ widthOf S T l i) (g : WritesOnlyTree D out new) (here : AgreesOn D new to (to + len)) where
-      pub leafing-more : Leafing S T new level (to + len) (i + 1)
-      leafing-more = record {
+      pub leaf-bytes-more : LeafBytesUpTo S T new level (to + len) (i + 1)
+      leaf-bytes-more = record {
         level-is = w .level-is;
         last = w .last;
         room = omega (arith, w .room, g .same-length);
-        body = within-join D new headerLength to (to + len) (within-grown D out new headerLength to g (w .body)) here;
+        body = within-join D new headerLength to (to + len) (agrees-only-tree D out new headerLength to g (w .body)) here;
         to-is = omega (arith, w .to-is, len-is, sumBelow-suc i (widthOf S T l));
       }
 
@@ -101,8 +101,8 @@ module _ (S : Settings) (T out : List ℕ) (level : Level) (to i : ℕ) (w : Lea
       )
 
   -- All leaf bytes are written.
-  pub leafing-all : i ≡ level .count → AgreesOn D out headerLength (length D)
-  leafing-all e =
+  pub leaf-bytes-all : i ≡ level .count → AgreesOn D out headerLength (length D)
+  leaf-bytes-all e =
       let all : to ≡ length D = w .to-is ∙ sym (tree-length S T taken ∙ ap (λ (x : ℕ). offset S T (S .levels) + x)
       (leaf-count S T taken l (w .last) ∙ ap (λ (x : ℕ). sumBelow x (widthOf S T l)) (sym (e ∙ w .level-is .count-is)))) in
       rw all at (w .body)

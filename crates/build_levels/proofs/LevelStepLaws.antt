@@ -22,11 +22,11 @@ use Rattle.build_records.specs.WritesOnlyTree.{WritesOnlyTree, AgreesOn}
 use Rattle.build_levels.specs.Head.{pairWritten, unusedWritten}
 use Rattle.build_records.specs.RecordPlaces.{recordPlace}
 use Rattle.build_records.specs.State.{recordSettingsOf, LevelIs, RecordsUpTo, Below, placeAt}
-use Rattle.build_levels.specs.LeafBytesWritten.{Leafing}
+use Rattle.build_levels.specs.LeafBytesWritten.{LeafBytesUpTo}
 use Rattle.build_levels.specs.Trees.{nextAt, nextOf, LevelReady, LevelWritten, StepIs, TreeComplete}
-use Rattle.build_records.proofs.Growth.{grown-then, within-grown, within-part, within-join}
+use Rattle.build_records.proofs.WritesOnlyTreeLaws.{only-tree-trans, agrees-only-tree, within-part, within-join}
 use Rattle.build_levels.proofs.LevelZeroLaws.{divided, step-ready, step-none}
-use Rattle.build_levels.proofs.HeaderWrittenLaws.{level-grown, level-within, end-grown, end-within}
+use Rattle.build_levels.proofs.HeaderWrittenLaws.{level-only-tree, level-within, end-only-tree, end-within}
 use Rattle.build_records.proofs.StateLaws.{place-is, place-end, offset-low, table-inside, RecordFew, record-few}
 
 pub next-made : (level : Level) (count p : ℕ) (cs : List ℕ) → p ≡ recordPlace (level .table) (level .count) (recordSettingsOf (level .settings) cs)
@@ -73,17 +73,17 @@ module _ (T cs : List ℕ) (level : Level) (out two : List ℕ) (total : ℕ) (r
   two-right : two ≡ pairWritten out l (count S T l) (offset S T l)
   two-right = two-is ∙ rw (h .count-is, h .table-is)
 
-  pub pair-grown : WritesOnlyTree D out two
-  pair-grown = level-grown S T taken out two l room-out (h .number-in) two-right
+  pub pair-only-tree : WritesOnlyTree D out two
+  pair-only-tree = level-only-tree S T taken out two l room-out (h .number-in) two-right
 
   header-two : AgreesOn D two 0 (countAt (l + 1))
   header-two = level-within S T taken out two l room-out (h .number-in) two-right (r .header)
 
   body-two : AgreesOn D two headerLength (offset S T (suc l))
-  body-two = within-grown D out two headerLength (offset S T (suc l)) pair-grown (r .body)
+  body-two = agrees-only-tree D out two headerLength (offset S T (suc l)) pair-only-tree (r .body)
 
   pub room-two : headerLength ≤ length two
-  room-two = omega (arith, room-out, pair-grown .same-length)
+  room-two = omega (arith, room-out, pair-only-tree .same-length)
 
   -- Above the last level.
   module _ (up : l + 1 < S .levels) where
@@ -133,7 +133,7 @@ module _ (T cs : List ℕ) (level : Level) (out two : List ℕ) (total : ℕ) (r
     ready-next new more filled = record {
       level-is = next-is;
       filled = rw (← add-one l) at filled;
-      header = within-grown D two new 0 (countAt (l + 1)) more header-two;
+      header = agrees-only-tree D two new 0 (countAt (l + 1)) more header-two;
     }
 
     -- For the level that the code makes.
@@ -181,32 +181,32 @@ module _ (T cs : List ℕ) (level : Level) (out two : List ℕ) (total : ℕ) (r
             (setWord (unusedWritten two (S .levels) (maxLevels - S .levels)) leafOffsetAt (offset S T (S .levels))) leafCountAt (length (leafBytes S T))
         three-right = three-is ∙ rw (at-right, total-leaves)
 
-        pub three-grown : WritesOnlyTree D two three
-        three-grown = end-grown S T taken two room-two three three-right
+        pub three-only-tree : WritesOnlyTree D two three
+        three-only-tree = end-only-tree S T taken two room-two three three-right
 
         header-three : AgreesOn D three 0 headerLength
         header-three =
             let e : l + 1 ≡ S .levels = last in
             end-within S T taken two room-two three three-right (rw e at header-two)
 
-        pub leafing-first : Leafing S T three level at 0
+        pub leaf-bytes-first : LeafBytesUpTo S T three level at 0
         unfolding sumBelow
-        leafing-first = record {
+        leaf-bytes-first = record {
           level-is = h;
           last = last′;
-          room = omega (arith, end-is, three-grown .same-length);
+          room = omega (arith, end-is, three-only-tree .same-length);
           body = within-part D three headerLength (offset S T (suc l)) headerLength
-              at (within-grown D two three headerLength (offset S T (suc l)) three-grown body-two) (omega arith) (omega (arith, at-is, table-end));
+              at (agrees-only-tree D two three headerLength (offset S T (suc l)) three-only-tree body-two) (omega arith) (omega (arith, at-is, table-end));
           to-is = omega (arith, at-right);
         }
 
         module _ (four : List ℕ) (leaves : WritesOnlyTree D three four) (all : AgreesOn D four headerLength (length D)) where
-          pub finish-grown : WritesOnlyTree D out four
-          finish-grown = grown-then D out two four pair-grown (grown-then D two three four three-grown leaves)
+          pub finish-only-tree : WritesOnlyTree D out four
+          finish-only-tree = only-tree-trans D out two four pair-only-tree (only-tree-trans D two three four three-only-tree leaves)
 
           pub finished : TreeComplete D four (at + total)
           finished = inr (
             end-is,
-            omega (arith, end-is, three-grown .same-length, leaves .same-length),
-            within-join D four 0 headerLength (length D) (within-grown D three four 0 headerLength leaves header-three) all,
+            omega (arith, end-is, three-only-tree .same-length, leaves .same-length),
+            within-join D four 0 headerLength (length D) (agrees-only-tree D three four 0 headerLength leaves header-three) all,
           )

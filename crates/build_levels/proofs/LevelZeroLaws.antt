@@ -22,11 +22,11 @@ use Rattle.build_records.specs.WrittenStarts.{startsWritten, StartsAsk}
 use Rattle.build_records.specs.State.{recordSettingsOf, LevelIs, RecordsUpTo, placeAt}
 use Rattle.build_levels.specs.declared.level_step.Step.the-variants.{To, Full}
 use Rattle.build_levels.specs.Trees.{levelFirstOf, LevelReady, StepIs}
-use Rattle.build_records.proofs.Growth.{grown-then, within-grown, within-none}
+use Rattle.build_records.proofs.WritesOnlyTreeLaws.{only-tree-trans, agrees-only-tree, within-none}
 use Rattle.build_records.proofs.BelowLaws.{pieces-most}
-use Rattle.build_records.proofs.WrittenStartsLaws.{starts-grown, starts-within}
+use Rattle.build_records.proofs.WrittenStartsLaws.{starts-only-tree, starts-within}
 use Rattle.build_records.proofs.StateLaws.{record-size, place-is, place-end, record-inside-table, table-inside}
-use Rattle.build_records.proofs.StateLaws.{offset-low, size-high, start-stands, RecordFew, record-few}
+use Rattle.build_records.proofs.StateLaws.{offset-low, size-high, start-bytes, RecordFew, record-few}
 
 -- A step that came to a level, and one that found no room for it.
 module _ (S : Settings) (T out : List ℕ) (s : code.Settings) (number : ℕ) where
@@ -162,10 +162,10 @@ module _ (s : code.Settings) (cs T : List ℕ) (h : Taken (recordSettingsOf s cs
           at-place : (j : ℕ) → headerLength + j * recordBytes S ≡ placeAt S T 0 j
           at-place j = omega (arith, table-zero S T)
 
-          stands : (j : ℕ) → j < count S T 0 → BytesAt D (headerLength + j * recordBytes S) (0 + j * blockLength S 0)
-          stands j k =
+          start-bytes-at : (j : ℕ) → j < count S T 0 → BytesAt D (headerLength + j * recordBytes S) (0 + j * blockLength S 0)
+          start-bytes-at j k =
               let e : start S T 0 j ≡ 0 + j * blockLength S 0 = start-top S T h j k ∙ omega arith in
-              rw (at-place j, ← e) (start-stands S T h 0 j (limits .levels-low) k)
+              rw (at-place j, ← e) (start-bytes S T h 0 j (limits .levels-low) k)
 
           in-table : (j : ℕ) → j < count S T 0 → headerLength + j * recordBytes S + 4 ≤ offset S T 1
           in-table j k = omega (arith, at-place j, record-inside-table S T 0 j k, record-size S T)
@@ -176,20 +176,20 @@ module _ (s : code.Settings) (cs T : List ℕ) (h : Taken (recordSettingsOf s cs
           inside : (j : ℕ) → j < count S T 0 → headerLength + j * recordBytes S + 4 ≤ length D
           inside j k = omega (arith, in-table j k, table-inside S T h 0 (limits .levels-low))
 
-          grown-two : WritesOnlyTree D one two
-          grown-two = rw two-right (starts-grown D
-              one headerLength (recordBytes S) 0 (blockLength S 0) (count S T 0) stands fits inside (count S T 0) (omega arith))
+          two-only-tree : WritesOnlyTree D one two
+          two-only-tree = rw two-right (starts-only-tree D
+              one headerLength (recordBytes S) 0 (blockLength S 0) (count S T 0) start-bytes-at fits inside (count S T 0) (omega arith))
 
-          pub first-grown : WritesOnlyTree D out two
-          first-grown = grown-then D out one two g grown-two
+          pub first-only-tree : WritesOnlyTree D out two
+          first-only-tree = only-tree-trans D out one two g two-only-tree
 
           started : (x : ℕ) → x < count S T 0 → AgreesOn D two (placeAt S T 0 x) (placeAt S T 0 x + 4)
           started x k = rw (← at-place x, two-right)
-              (starts-within D one headerLength (recordBytes S) 0 (blockLength S 0) (count S T 0) stands fits inside (count S T 0) (omega arith) x k)
+              (starts-within D one headerLength (recordBytes S) 0 (blockLength S 0) (count S T 0) start-bytes-at fits inside (count S T 0) (omega arith) x k)
 
           filled : RecordsUpTo S T two 0 0
           filled = record {
-            room = omega (arith, room-one, grown-two .same-length);
+            room = omega (arith, room-one, two-only-tree .same-length);
             body = within-none D two headerLength (placeAt S T 0 0) (omega (arith, table-zero S T));
             starts = started;
           }
@@ -201,6 +201,6 @@ module _ (s : code.Settings) (cs T : List ℕ) (h : Taken (recordSettingsOf s cs
             record {
               level-is = level-first;
               filled = subst (λ (l : ℕ). RecordsUpTo S T two l 0) (sym number-first) filled;
-              header = subst (λ (l : ℕ). AgreesOn D two 0 (countAt l)) (sym number-first) (within-grown D one two 0 pairsAt grown-two header);
+              header = subst (λ (l : ℕ). AgreesOn D two 0 (countAt l)) (sym number-first) (agrees-only-tree D one two 0 pairsAt two-only-tree header);
             },
           )

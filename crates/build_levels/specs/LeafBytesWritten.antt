@@ -14,7 +14,7 @@ use Rattle.build_records.specs.State.{LevelIs}
 
 module _ (S : Settings) (T : List ℕ) where
   -- All records are written, and the leaf bytes before place `to`, which are those of the first i blocks of the last level.
-  pub record Leafing (out : List ℕ) (level : Level) (to i : ℕ) : Type 0 where
+  pub record LeafBytesUpTo (out : List ℕ) (level : Level) (to i : ℕ) : Type 0 where
     pub level-is : LevelIs S T level
     pub last : suc (level .number) ≡ S .levels
     pub room : length (treeOf S T) ≤ length out

@@ -9,7 +9,7 @@ ghost use Rattle.format.specs.Layout.{headerLength};
 ghost use Rattle.format.specs.Blocks.{treeOf};
 ghost use Rattle.theory_built.specs.Structure.{widthOf};
 ghost use Rattle.build_records.specs.WritesOnlyTree.{WritesOnlyTree, AgreesOn};
-ghost use Rattle.build_levels.specs.LeafBytesWritten.{Leafing};
+ghost use Rattle.build_levels.specs.LeafBytesWritten.{LeafBytesUpTo};
 ghost use Rattle.build_records.specs.State.{recordSettingsOf};
 
 // Writes the leaf bytes of a block and returns their number.
@@ -21,7 +21,7 @@ fn put_leaf(
     to: u32,
     i: BlockNumber,
 ) -> u32
-    requires { ⌜ Leafing (recordSettingsOf (level .settings) (now counted)) (now text) (now out) level to (i .0) × (i .0 < level .count) ⌝ }
+    requires { ⌜ LeafBytesUpTo (recordSettingsOf (level .settings) (now counted)) (now text) (now out) level to (i .0) × (i .0 < level .count) ⌝ }
     ensures { λ r. ⌜ r ≡ widthOf (recordSettingsOf (level .settings) (now (counted .entry))) (now (text .entry)) (level .number) (i .0) ⌝ }
     ensures { λ _. ⌜ WritesOnlyTree (treeOf (recordSettingsOf (level .settings) (now (counted .entry))) (now (text .entry))) (now (out .entry))
         (now (out .exit)) ⌝ }
@@ -40,7 +40,7 @@ fn put_leaf(
 
 // Writes all leaf bytes.
 pub fn put_leaves(out: &mut [u8], text: &[u8], counted: &[u8], level: Level, at: u32)
-    requires { ⌜ Leafing (recordSettingsOf (level .settings) (now counted)) (now text) (now out) level at 0 ⌝ }
+    requires { ⌜ LeafBytesUpTo (recordSettingsOf (level .settings) (now counted)) (now text) (now out) level at 0 ⌝ }
     ensures { λ _. ⌜ WritesOnlyTree (treeOf (recordSettingsOf (level .settings) (now (counted .entry))) (now (text .entry))) (now (out .entry))
         (now (out .exit)) ⌝ }
     ensures { λ _. ⌜ AgreesOn (treeOf (recordSettingsOf (level .settings) (now (counted .entry))) (now (text .entry))) (now (out .exit))

@@ -19,7 +19,7 @@ use Rattle.build_marking.specs.declared.pair.Pair.{Pair}
 use Rattle.build_marking.specs.declared.pair.Pair.the-variants.{Apart, First, Again}
 use Rattle.build_records.specs.RecordPlaces.{recordPlace}
 use Rattle.build_marking.specs.MarkingRule.{keptBy, pairAnswer, pairBy, pairOf, pairBefore}
-use Rattle.build_records.specs.State.{recordSettingsOf, On}
+use Rattle.build_records.specs.State.{recordSettingsOf, BlockNext}
 use Rattle.build_records.proofs.RecordsRead.{start-read}
 
 module _ (T : List ℕ) (s len : ℕ) (fits : s + len ≤ length T) (r : Bool) (r-is : r ≡ occursEarlierAnswer T s len) where
@@ -45,7 +45,7 @@ module _ (T : List ℕ) (s b len : ℕ) (r : Bool) (low : s ≤ length T) (len-i
   pub first-here : r ≡ false → First ≡ pairAnswer T s (min (b + b) (length T - s))
   first-here y = rw len-is at (found-here T s len (omega arith) r r-is y)
 
-module _ (S : Settings) (T out : List ℕ) (level : Level) (i : ℕ) (w : On S T out level i) where
+module _ (S : Settings) (T out : List ℕ) (level : Level) (i : ℕ) (w : BlockNext S T out level i) where
   abbrev l : ℕ
   l = level .number
 

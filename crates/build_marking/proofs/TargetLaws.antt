@@ -20,7 +20,7 @@ use Rattle.build_records.specs.declared.level_written.Level.{Level}
 use Rattle.build_records.specs.declared.level_written.Substring.{Substring}
 use Rattle.build_records.specs.declared.record_written.Block.{Block}
 use Rattle.build_records.specs.RecordPlaces.{recordPlace}
-use Rattle.build_records.specs.State.{LevelIs, recordSettingsOf, On, SubstringIs, BlockIs}
+use Rattle.build_records.specs.State.{LevelIs, recordSettingsOf, BlockNext, SubstringIs, BlockIs}
 use Rattle.build_marking.specs.TargetSearch.{parentAnswer, Sorted, Between}
 use Rattle.build_records.proofs.RecordsRead.{start-fits, start-read}
 use Rattle.build_records.proofs.StateLaws.{record-few}
@@ -38,7 +38,7 @@ block-with own up kind link from gap = record {
   gap = record { 0 = gap };
 }
 
-module _ (S : Settings) (T out : List ℕ) (level : Level) (i : ℕ) (w : On S T out level i) where
+module _ (S : Settings) (T out : List ℕ) (level : Level) (i : ℕ) (w : BlockNext S T out level i) where
   abbrev l : ℕ
   l = level .number
 

@@ -9,7 +9,7 @@ use Rattle.format.specs.Layout.{Settings, blockLength}
 use Rattle.format.specs.Blocks.{startsAt, pairAt, firstPairAt}
 use Rattle.theory_built.specs.Structure.{keptAt, widthOf}
 use Rattle.build_records.specs.declared.level_written.Level.{Level}
-use Rattle.build_records.specs.State.{On}
+use Rattle.build_records.specs.State.{BlockNext}
 use Rattle.build_marking.specs.declared.pair.Pair.{Pair}
 use Rattle.build_marking.specs.declared.pair.Pair.the-variants.{Apart, First, Again}
 
@@ -46,6 +46,6 @@ module _ (S : Settings) (T : List ℕ) (l : ℕ) where
 module _ (S : Settings) (T : List ℕ) where
   -- Block i of a level is next in turn; its kind and its link are known.
   pub record Next (out : List ℕ) (level : Level) (i : ℕ) (kept : Bool) (link : ℕ) : Type 0 where
-    pub on : On S T out level i
+    pub on : BlockNext S T out level i
     pub kept-is : kept ≡ keptAt S T (level .number) i
     pub link-is : link ≡ sumBelow i (widthOf S T (level .number))

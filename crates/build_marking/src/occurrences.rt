@@ -7,7 +7,7 @@ use search::Occurrence;
 use text::TextPlace;
 ghost use mathlib.Core.Path.{_≡_};
 ghost use Rattle.theory_built.specs.BuiltTargets.{placeOf};
-ghost use Rattle.build_records.specs.State.{recordSettingsOf, On};
+ghost use Rattle.build_records.specs.State.{recordSettingsOf, BlockNext};
 ghost use Rattle.search.specs.Occurrences.{occursEarlierAnswer};
 
 // Any base and modulus give the same tree. This function promises nothing, so the proofs about marking hold for all of them.
@@ -23,7 +23,7 @@ pub fn first_place(
     level: Level,
     i: BlockNumber,
 ) -> TextPlace
-    requires { ⌜ On (recordSettingsOf (level .settings) (now counted)) (now text) (now out) level (i .0) ⌝ }
+    requires { ⌜ BlockNext (recordSettingsOf (level .settings) (now counted)) (now text) (now out) level (i .0) ⌝ }
     ensures { λ r. ⌜ r .0 ≡ placeOf (recordSettingsOf (level .settings) (now (counted .entry))) (now (text .entry)) (level .number) (i .0) ⌝ }
 {
     let own = level_written::substring_of(text, counted, out, level, i);

@@ -7,7 +7,7 @@ use layout::place::TextPlace;
 ghost use mathlib.Core.Path.{_≡_};
 ghost use Prim.Native.Nat.{_+_, _-_, _≤_, min};
 ghost use lib.ListN.{length};
-ghost use Rattle.build_records.specs.State.{recordSettingsOf, On};
+ghost use Rattle.build_records.specs.State.{recordSettingsOf, BlockNext};
 ghost use Rattle.build_marking.specs.MarkingRule.{keptBy, pairAnswer, pairOf};
 ghost use Rattle.format.specs.Layout.{maxText};
 
@@ -51,7 +51,7 @@ fn pair_at(text: &[u8], start: TextPlace, size: u32) -> Pair
 
 // Whether a block and the next one are a pair, and where its bytes first occur. On the last level, where all blocks are kept, no pair is looked for.
 pub fn pair_after(text: &[u8], counted: &[u8], out: &[u8], level: Level, i: BlockNumber) -> Pair
-    requires { ⌜ On (recordSettingsOf (level .settings) (now counted)) (now text) (now out) level (i .0) ⌝ }
+    requires { ⌜ BlockNext (recordSettingsOf (level .settings) (now counted)) (now text) (now out) level (i .0) ⌝ }
     ensures { λ r. ⌜ r ≡ pairOf (recordSettingsOf (level .settings) (now (counted .entry))) (now (text .entry)) (level .number) (i .0) ⌝ }
 {
     if level.number + 1 == level.settings.levels {

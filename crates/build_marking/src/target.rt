@@ -12,7 +12,7 @@ ghost use Prim.Native.Nat.{_+_, _-_, _<_};
 ghost use Rattle.text.specs.Text.{sumBelow};
 ghost use Rattle.theory_built.specs.Structure.{keptAt, widthOf};
 ghost use Rattle.theory_built.specs.BuiltTargets.{placeOf};
-ghost use Rattle.build_records.specs.State.{recordSettingsOf, On, BlockIs};
+ghost use Rattle.build_records.specs.State.{recordSettingsOf, BlockNext, BlockIs};
 ghost use Rattle.build_marking.specs.TargetSearch.{parentAnswer, Sorted, Between};
 
 // The blocks from `low` up to `high`, excluded.
@@ -78,7 +78,7 @@ pub fn kept_block(
     i: BlockNumber,
     link: Link,
 ) -> Block
-    requires { ⌜ On (recordSettingsOf (level .settings) (now counted)) (now text) (now out) level (i .0) ⌝ }
+    requires { ⌜ BlockNext (recordSettingsOf (level .settings) (now counted)) (now text) (now out) level (i .0) ⌝ }
     requires { ⌜ keptAt (recordSettingsOf (level .settings) (now counted)) (now text) (level .number) (i .0) ≡ true ⌝ }
     requires { ⌜ link .0 ≡ sumBelow (i .0) (widthOf (recordSettingsOf (level .settings) (now counted)) (now text) (level .number)) ⌝ }
     ensures { λ r. ⌜ BlockIs (recordSettingsOf (level .settings) (now (counted .entry))) (now (text .entry)) (level .number) (i .0) r ⌝ }
@@ -105,7 +105,7 @@ pub fn pointing_block(
     i: BlockNumber,
     place: TextPlace,
 ) -> Block
-    requires { ⌜ On (recordSettingsOf (level .settings) (now counted)) (now text) (now out) level (i .0) ⌝ }
+    requires { ⌜ BlockNext (recordSettingsOf (level .settings) (now counted)) (now text) (now out) level (i .0) ⌝ }
     requires { ⌜ keptAt (recordSettingsOf (level .settings) (now counted)) (now text) (level .number) (i .0) ≡ false ⌝ }
     requires { ⌜ place .0 ≡ placeOf (recordSettingsOf (level .settings) (now counted)) (now text) (level .number) (i .0) ⌝ }
     ensures { λ r. ⌜ BlockIs (recordSettingsOf (level .settings) (now (counted .entry))) (now (text .entry)) (level .number) (i .0) r ⌝ }

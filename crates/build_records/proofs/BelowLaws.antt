@@ -25,12 +25,12 @@ use Rattle.build_records.specs.declared.level_written.Substring.{Substri
 use Rattle.build_records.specs.WritesOnlyTree.{WritesOnlyTree, AgreesOn}
 use Rattle.build_records.specs.RecordPlaces.{recordPlace}
 use Rattle.build_records.specs.WrittenStarts.{startsWritten, StartsAsk}
-use Rattle.build_records.specs.State.{LevelIs, recordSettingsOf, RecordsUpTo, Below, Started, On, SubstringIs, placeAt}
-use Rattle.build_records.proofs.Growth.{read-right, within-grown, within-part}
+use Rattle.build_records.specs.State.{LevelIs, recordSettingsOf, RecordsUpTo, Below, Started, BlockNext, SubstringIs, placeAt}
+use Rattle.build_records.proofs.WritesOnlyTreeLaws.{read-right, agrees-only-tree, within-part}
 use Rattle.build_records.proofs.RecordsRead.{on-written}
-use Rattle.build_records.proofs.WrittenStartsLaws.{starts-grown, starts-within}
+use Rattle.build_records.proofs.WrittenStartsLaws.{starts-only-tree, starts-within}
 use Rattle.build_records.proofs.StateLaws.{record-size, place-is, place-le, place-end, record-inside-table, table-inside, offset-low}
-use Rattle.build_records.proofs.StateLaws.{offset-rises, size-high, start-stands, kind-stands, link-stands}
+use Rattle.build_records.proofs.StateLaws.{offset-rises, size-high, start-bytes, kind-bytes, link-bytes}
 use Rattle.build_records.proofs.Widths.{kept-by-kind, points-by-kind}
 
 -- No more blocks than bytes, and one more block's.
@@ -68,7 +68,7 @@ module _ (S : Settings) (T out : List ℕ) (level next : Level) (i : ℕ) (w : B
   ends = record-inside-table S T l i i-in
 
   -- The records of the level are written.
-  pub children-on : On S T out level i
+  pub children-on : BlockNext S T out level i
   children-on = on-written S T out level i lev (omega (arith, offset-rises S T (suc l) (suc (suc l)) (omega arith), w .room)) (w .body) il
 
   module _ (at : ℕ) (at-is : at ≡ recordPlace (level .table) i (recordSettingsOf (level .settings) (S .counted))) where
@@ -84,14 +84,14 @@ module _ (S : Settings) (T out : List ℕ) (level next : Level) (i : ℕ) (w : B
         v (within-part (treeOf S T) out headerLength (offset S T (suc l)) (P + x) (P + x + 4) (w .body) (omega (arith, low)) (omega (arith, ends))) s small)
 
     kind-read : wordAt out (at + 4 * kindField) ≡ kindOf S T l i
-    kind-read = word (4 * kindField) (kindOf S T l i) (omega (arith, record-size S T)) (kind-stands S T (lev .taken) l i (lev .number-in) i-in)
+    kind-read = word (4 * kindField) (kindOf S T l i) (omega (arith, record-size S T)) (kind-bytes S T (lev .taken) l i (lev .number-in) i-in)
         (omega (arith, kind-le S T l i))
 
     link-read : wordAt out (at + 4 * linkField) ≡ linkOf S T l i
     link-read =
         let e : P + 4 * kindField + 4 ≡ P + 4 * linkField = omega arith in
         word (4 * linkField) (linkOf S T l i) (omega (arith, record-size S T))
-        (rw e at (link-stands S T (lev .taken) l i (lev .number-in) i-in))
+        (rw e at (link-bytes S T (lev .taken) l i (lev .number-in) i-in))
         (omega (arith, link-le S T (lev .taken) l (lev .number-in) i i-in, limits .text-high))
 
     module _ (kind : ℕ) (kind-is : kind ≡ wordAt out (at + 4 * kindField)) where
@@ -144,11 +144,11 @@ module _ (S : Settings) (T out : List ℕ) (level next : Level) (i : ℕ) (w : B
               child-fits : (j : ℕ) → j < n → to + j * recordBytes S + 4 ≤ offset S T (suc (suc l))
               child-fits j h = omega (arith, to-child j, record-inside-table S T (suc l) (sum + j) (child-in j h), record-size S T)
 
-              stands : (j : ℕ) → j < n → BytesAt (treeOf S T) (to + j * recordBytes S) (own .start .0 + j * next .size)
-              stands j h =
+              start-bytes-at : (j : ℕ) → j < n → BytesAt (treeOf S T) (to + j * recordBytes S) (own .start .0 + j * next .size)
+              start-bytes-at j h =
                   let e : start S T (suc l) (sum + j) ≡ own .start .0 + j * next .size =
                   start-below S T (lev .taken) l i j up i-in (omega (arith, n-right)) ∙ rw (own-is .start-is, size-right) in
-                  rw (to-child j, ← e) (start-stands S T (lev .taken) (suc l) (sum + j) up (child-in j h))
+                  rw (to-child j, ← e) (start-bytes S T (lev .taken) (suc l) (sum + j) up (child-in j h))
 
               pub starts-ask : StartsAsk out to step (own .start .0) (next .size) n
               starts-ask = record {
@@ -176,28 +176,28 @@ module _ (S : Settings) (T out : List ℕ) (level next : Level) (i : ℕ) (w : B
                 inside : (j : ℕ) → j < n → to + j * recordBytes S + 4 ≤ length (treeOf S T)
                 inside j h = omega (arith, child-fits j h, table-inside S T (lev .taken) (suc l) up)
 
-                children-grown : WritesOnlyTree (treeOf S T) out new
-                children-grown = rw new-right (starts-grown (treeOf S T) out to (recordBytes S) (own .start .0) (next .size) n stands fits inside n
-                    (omega arith))
+                children-only-tree : WritesOnlyTree (treeOf S T) out new
+                children-only-tree = rw new-right (starts-only-tree (treeOf S T) out to (recordBytes S) (own .start .0) (next .size) n
+                    start-bytes-at fits inside n (omega arith))
 
                 child-started : (j : ℕ) → j < n → AgreesOn (treeOf S T) new (placeAt S T (suc l) (sum + j)) (placeAt S T (suc l) (sum + j) + 4)
                 child-started j h = rw (← to-child j, new-right)
-                    (starts-within (treeOf S T) out to (recordBytes S) (own .start .0) (next .size) n stands fits inside n (omega arith) j h)
+                    (starts-within (treeOf S T) out to (recordBytes S) (own .start .0) (next .size) n start-bytes-at fits inside n (omega arith) j h)
 
                 children-started : Started S T new (suc l) 0 (sumBelow (i + 1) (widthOf S T l))
                 children-started = record { starts = λ x _ h. go x h (lt-or-ge x sum) }
                   where
                     go : (x : ℕ) → x < sumBelow (i + 1) (widthOf S T l)
                         → (x < sum) ⊎ (sum ≤ x) → AgreesOn (treeOf S T) new (placeAt S T (suc l) x) (placeAt S T (suc l) x + 4)
-                    go x h (inl y) = within-grown
-                        (treeOf S T) out new (placeAt S T (suc l) x) (placeAt S T (suc l) x + 4) children-grown (w .finished .starts x (omega arith) y)
+                    go x h (inl y) = agrees-only-tree
+                        (treeOf S T) out new (placeAt S T (suc l) x) (placeAt S T (suc l) x + 4) children-only-tree (w .finished .starts x (omega arith) y)
                     go x h (inr y) =
                         let e : sum + (x - sum) ≡ x = omega arith in
                         let k : x - sum < n = omega (arith, sumBelow-suc i (widthOf S T l), n-right) in
                         rw e at (child-started (x - sum) k)
 
                 pub children-written : WritesOnlyTree (treeOf S T) out new × Started S T new (suc l) 0 (sumBelow (i + 1) (widthOf S T l))
-                children-written = (children-grown, children-started)
+                children-written = (children-only-tree, children-started)
 
 -- The loop over the blocks.
 
@@ -208,7 +208,7 @@ below-more S T t u level next i w g s = record {
   next-is = w .next-is;
   follows = w .follows;
   room = omega (arith, w .room, g .same-length);
-  body = within-grown (treeOf S T) t u headerLength (offset S T (suc (level .number))) g (w .body);
+  body = agrees-only-tree (treeOf S T) t u headerLength (offset S T (suc (level .number))) g (w .body);
   finished = s;
 }
 

@@ -12,7 +12,7 @@ use Rattle.format.specs.EdgeLaws.{first-own, first-none, last-own, last-none}
 use Rattle.theory_built.specs.Structure.{count, start, bytesIn}
 use Rattle.theory_built.specs.BuiltLeafBytes.{bytes-fit}
 use Rattle.theory_built.specs.BuiltRecords.{edgesIn, recordWords}
-use Rattle.theory_built.specs.BuiltBytes.{edge-stands}
+use Rattle.theory_built.specs.BuiltBytes.{edge-byte-is}
 use Rattle.byte_slices.specs.ByteSlices.{bytesWritten}
 use Rattle.build_records.specs.declared.level_written.Level.{Level}
 use Rattle.build_records.specs.declared.record_written.Block.{Block}
@@ -20,7 +20,7 @@ use Rattle.build_records.specs.WritesOnlyTree.{WritesOnlyTree, AgreesOn}
 use Rattle.build_records.specs.RecordPlaces.{recordPlace}
 use Rattle.build_records.specs.RecordWords.{edgeWritten}
 use Rattle.build_records.specs.State.{LevelIs, recordSettingsOf, Writing, placeAt}
-use Rattle.build_records.proofs.Growth.{grown-then, within-grown, within-join, bytes-grown, bytes-within}
+use Rattle.build_records.proofs.WritesOnlyTreeLaws.{only-tree-trans, agrees-only-tree, within-join, bytes-only-tree, bytes-within}
 use Rattle.build_records.proofs.StateLaws.{record-size, place-is, place-next, record-inside-table, table-inside}
 
 pub edge-then : (t u v T : List ℕ) (at from own m : ℕ) → u ≡ bytesWritten t at T from own → v ≡ bytesWritten u (at + own) [] 0 (m - own)
@@ -33,27 +33,27 @@ module _ (D t T : List ℕ) (at from own m : ℕ) (few : own ≤ m) (fits : at +
   half : List ℕ
   half = bytesWritten t at T from own
 
-  half-grown : WritesOnlyTree D t half
+  half-only-tree : WritesOnlyTree D t half
   unfolding half
-  half-grown = bytes-grown D t T at from own (omega arith) (omega arith) bytes own (omega arith)
+  half-only-tree = bytes-only-tree D t T at from own (omega arith) (omega arith) bytes own (omega arith)
 
   none : (j : ℕ) → j < m - own → getD D (at + own + j) 0 ≡ getD [] (0 + j) 0
   none j h = rw (add-assoc at own j) (zeros (own + j) (omega arith) (omega arith))
 
-  rest-grown : WritesOnlyTree D half (edgeWritten t at T from own m)
+  rest-only-tree : WritesOnlyTree D half (edgeWritten t at T from own m)
   unfolding half
-  rest-grown = bytes-grown D half [] (at + own) 0 (m - own) (omega (arith, half-grown .same-length)) (omega arith) none (m - own) (omega arith)
+  rest-only-tree = bytes-only-tree D half [] (at + own) 0 (m - own) (omega (arith, half-only-tree .same-length)) (omega arith) none (m - own) (omega arith)
 
-  pub edge-grown : WritesOnlyTree D t (edgeWritten t at T from own m)
-  edge-grown = grown-then D t half (edgeWritten t at T from own m) half-grown rest-grown
+  pub edge-only-tree : WritesOnlyTree D t (edgeWritten t at T from own m)
+  edge-only-tree = only-tree-trans D t half (edgeWritten t at T from own m) half-only-tree rest-only-tree
 
   pub edge-within : AgreesOn D (edgeWritten t at T from own m) at (at + m)
   unfolding half
   edge-within =
       let e : at + own + (m - own) ≡ at + m = omega arith in
       within-join D (edgeWritten t at T from own m) at (at + own) (at + m)
-      (within-grown D half (edgeWritten t at T from own m) at (at + own) rest-grown (bytes-within D t T at from own (omega arith) (omega arith) bytes))
-      (rw e at (bytes-within D half [] (at + own) 0 (m - own) (omega (arith, half-grown .same-length)) (omega arith) none))
+      (agrees-only-tree D half (edgeWritten t at T from own m) at (at + own) rest-only-tree (bytes-within D t T at from own (omega arith) (omega arith) bytes))
+      (rw e at (bytes-within D half [] (at + own) 0 (m - own) (omega (arith, half-only-tree .same-length)) (omega arith) none))
 
 module _ (S : Settings) (T out : List ℕ) (level : Level) (i : ℕ) (block : Block) (w : Writing S T out level i block) where
   abbrev l : ℕ
@@ -82,7 +82,7 @@ module _ (S : Settings) (T out : List ℕ) (level : Level) (i : ℕ) (block : Bl
   edge-at : (x : ℕ) → x < m + m → getD D (A + x) 0 ≡ getD (edgesIn S T l i) x 0
   edge-at x h =
       let e : A + x ≡ placeAt S T l i + 4 * recordWords S T + x = omega (arith, words) in
-      rw e (edge-stands S T (lev .taken) l i x (lev .number-in) i-in h)
+      rw e (edge-byte-is S T (lev .taken) l i x (lev .number-in) i-in h)
 
   fit : start S T l i + bytesIn S T l i ≤ length T
   fit = bytes-fit S T (lev .taken) l i (lev .number-in) i-in
@@ -130,8 +130,8 @@ module _ (S : Settings) (T out : List ℕ) (level : Level) (i : ℕ) (block : Bl
       one-right : one ≡ edgeWritten out A T (start S T l i) own m
       one-right = one-is ∙ rw (here, w .block-is .start-is)
 
-      one-grown : WritesOnlyTree D out one
-      one-grown = rw one-right (edge-grown D out T A (start S T l i) own m few (omega (arith, room)) (omega (arith, in-tree)) first-bytes first-zeros)
+      one-only-tree : WritesOnlyTree D out one
+      one-only-tree = rw one-right (edge-only-tree D out T A (start S T l i) own m few (omega (arith, room)) (omega (arith, in-tree)) first-bytes first-zeros)
 
       one-within : AgreesOn D one A (A + m)
       one-within = rw one-right (edge-within D out T A (start S T l i) own m few (omega (arith, room)) (omega (arith, in-tree)) first-bytes first-zeros)
@@ -140,24 +140,24 @@ module _ (S : Settings) (T out : List ℕ) (level : Level) (i : ℕ) (block : Bl
       last = block .start .0 + (block .length - own)
 
       pub last-asks : (at + plainBytes + countedBytes * length (S .counted) + m + m ≤ length one) × (last + own ≤ length T) × (own ≤ m)
-      last-asks = (omega (arith, here, room, one-grown .same-length), omega (arith, w .block-is .start-is, w .block-is .length-is, own-in, fit), few)
+      last-asks = (omega (arith, here, room, one-only-tree .same-length), omega (arith, w .block-is .start-is, w .block-is .length-is, own-in, fit), few)
 
       module _ (two : List ℕ) (two-is : two ≡ edgeWritten one (at + plainBytes + countedBytes * length (S .counted) + m) T last own m) where
         two-right : two ≡ edgeWritten one (A + m) T (start S T l i + (bytesIn S T l i - own)) own m
         two-right = two-is ∙ rw (here, w .block-is .start-is, w .block-is .length-is)
 
         rest-of : WritesOnlyTree D one two
-        rest-of = rw two-right (edge-grown D one T (A + m) (start S T l i + (bytesIn S T l i - own))
-            own m few (omega (arith, room, one-grown .same-length)) (omega (arith, in-tree)) last-bytes last-zeros)
+        rest-of = rw two-right (edge-only-tree D one T (A + m) (start S T l i + (bytesIn S T l i - own))
+            own m few (omega (arith, room, one-only-tree .same-length)) (omega (arith, in-tree)) last-bytes last-zeros)
 
         two-within : AgreesOn D two (A + m) (A + m + m)
         two-within = rw two-right (edge-within D one T (A + m) (start S T l i + (bytesIn S T l i - own))
-            own m few (omega (arith, room, one-grown .same-length)) (omega (arith, in-tree)) last-bytes last-zeros)
+            own m few (omega (arith, room, one-only-tree .same-length)) (omega (arith, in-tree)) last-bytes last-zeros)
 
-        pub edges-grown : WritesOnlyTree D out two
-        edges-grown = grown-then D out one two one-grown rest-of
+        pub edges-only-tree : WritesOnlyTree D out two
+        edges-only-tree = only-tree-trans D out one two one-only-tree rest-of
 
         pub edges-within : AgreesOn D two A (placeAt S T l (i + 1))
         edges-within =
             let e : A + m + m ≡ placeAt S T l (i + 1) = omega (arith, ends) in
-            rw e at (within-join D two A (A + m) (A + m + m) (within-grown D one two A (A + m) rest-of one-within) two-within)
+            rw e at (within-join D two A (A + m) (A + m + m) (agrees-only-tree D one two A (A + m) rest-of one-within) two-within)

@@ -1,6 +1,6 @@
 pub mod LevelWrittenLaws
 pub mod RecordWrittenLaws
-pub mod Growth
+pub mod WritesOnlyTreeLaws
 pub mod Neighbours
 pub mod StateLaws
 pub mod RecordsRead

@@ -24,17 +24,18 @@ use Rattle.build_records.specs.WritesOnlyTree.{WritesOnlyTree, AgreesOn}
 use Rattle.build_records.specs.RecordPlaces.{recordPlace}
 use Rattle.build_records.specs.RecordWords.{beforeWord}
 use Rattle.build_records.specs.State.{recordSettingsOf, Writing, placeAt}
-use Rattle.build_records.proofs.Growth.{read-right, within-grown, within-join, grown-then, within-part, three-grown, three-within}
+use Rattle.build_records.proofs.WritesOnlyTreeLaws.{read-right, agrees-only-tree, within-join, only-tree-trans, within-part, three-only-tree}
+use Rattle.build_records.proofs.WritesOnlyTreeLaws.{three-within}
 use Rattle.build_records.proofs.Neighbours.{LeftOf, left-of, before-left, before-first}
-use Rattle.build_records.proofs.StateLaws.{record-size, place-is, place-next, record-inside-table, offset-low, table-inside, kind-stands}
-use Rattle.build_records.proofs.StateLaws.{link-stands, gap-stands, before-stands, inside-stands, skip-stands}
+use Rattle.build_records.proofs.StateLaws.{record-size, place-is, place-next, record-inside-table, offset-low, table-inside, kind-bytes}
+use Rattle.build_records.proofs.StateLaws.{link-bytes, gap-bytes, before-bytes, inside-bytes, skip-bytes}
 
 -- The places written so far, and those of one more counted byte.
 pub one-more : (D t u : List ℕ) (p c : ℕ) → AgreesOn D t p (p + countedBytes * c)
     → WritesOnlyTree D t u → AgreesOn D u (p + countedBytes * c) (p + countedBytes * c + countedBytes) → AgreesOn D u p (p + countedBytes * (c + 1))
 one-more D t u p c h g new =
     let e : p + countedBytes * c + countedBytes ≡ p + countedBytes * (c + 1) = omega arith in
-    rw e at (within-join D u p (p + countedBytes * c) (p + countedBytes * c + countedBytes) (within-grown D t u p (p + countedBytes * c) g h) new)
+    rw e at (within-join D u p (p + countedBytes * c) (p + countedBytes * c + countedBytes) (agrees-only-tree D t u p (p + countedBytes * c) g h) new)
 
 module _ (S : Settings) (T out : List ℕ) (level : Level) (i : ℕ) (block : Block) (w : Writing S T out level i block) where
   abbrev l : ℕ
@@ -100,7 +101,7 @@ module _ (S : Settings) (T out : List ℕ) (level : Level) (i : ℕ) (block : Bl
           rw left-is (read-right D out (placeAt S T l j + plainBytes + countedBytes * c) (beforeOf S T l j (getD (S .counted) c 0))
           (within-part D out headerLength P (placeAt S T l j + plainBytes + countedBytes * c)
           (placeAt S T l j + plainBytes + countedBytes * c + 4) (w .filled .body) (omega (arith, low)) (omega (arith, P-is, record-size S T)))
-          (before-stands S T taken l j l-in j-in c cl)
+          (before-bytes S T taken l j l-in j-in c cl)
           (omega (arith, before-le S T l j (getD (S .counted) c 0), limits .text-high)))
 
       word-inside : wordAt out (left + 4) ≡ insideOf S T l j x
@@ -108,7 +109,7 @@ module _ (S : Settings) (T out : List ℕ) (level : Level) (i : ℕ) (block : Bl
           rw left-is (read-right D out (placeAt S T l j + plainBytes + countedBytes * c + 4) (insideOf S T l j (getD (S .counted) c 0))
           (within-part D out headerLength P (placeAt S T l j + plainBytes + countedBytes * c + 4)
           (placeAt S T l j + plainBytes + countedBytes * c + 4 + 4) (w .filled .body) (omega (arith, low)) (omega (arith, P-is, record-size S T)))
-          (inside-stands S T taken l j l-in j-in c cl)
+          (inside-bytes S T taken l j l-in j-in c cl)
           (omega (arith, inside-le S T l j (getD (S .counted) c 0), limits .text-high)))
 
       words : wordAt out left + wordAt out (left + 4) ≡ beforeOf S T l i x
@@ -155,15 +156,16 @@ module _ (S : Settings) (T out : List ℕ) (level : Level) (i : ℕ) (block : Bl
       in-tree : P + plainBytes + countedBytes * c + countedBytes ≤ length D
       in-tree = omega (arith, record-size S T, record-in-tree)
 
-      pub counted-grown : WritesOnlyTree D out new
-      counted-grown =
-          rw new-right (three-grown D out (P + plainBytes + countedBytes * c) (beforeOf S T l i x) (insideOf S T l i x) (skipOf S T l i x) count-fits in-tree
-          (before-stands S T taken l i l-in i-in c cl) (inside-stands S T taken l i l-in i-in c cl) (skip-stands S T taken l i l-in i-in c cl))
+      pub counted-only-tree : WritesOnlyTree D out new
+      counted-only-tree =
+          rw new-right (three-only-tree D out
+          (P + plainBytes + countedBytes * c) (beforeOf S T l i x) (insideOf S T l i x) (skipOf S T l i x) count-fits in-tree
+          (before-bytes S T taken l i l-in i-in c cl) (inside-bytes S T taken l i l-in i-in c cl) (skip-bytes S T taken l i l-in i-in c cl))
 
       pub counted-within : AgreesOn D new (P + plainBytes + countedBytes * c) (P + plainBytes + countedBytes * c + countedBytes)
       counted-within =
           rw new-right (three-within D out (P + plainBytes + countedBytes * c) (beforeOf S T l i x) (insideOf S T l i x) (skipOf S T l i x) count-fits in-tree
-          (before-stands S T taken l i l-in i-in c cl) (inside-stands S T taken l i l-in i-in c cl) (skip-stands S T taken l i l-in i-in c cl))
+          (before-bytes S T taken l i l-in i-in c cl) (inside-bytes S T taken l i l-in i-in c cl) (skip-bytes S T taken l i l-in i-in c cl))
 
   -- All counts are written if those of all counted bytes are.
   pub counted-all : (new : List ℕ) (c : ℕ)
@@ -184,27 +186,27 @@ module _ (S : Settings) (T out : List ℕ) (level : Level) (i : ℕ) (block : Bl
     inside : P + 4 * kindField + 12 ≤ length D
     inside = omega (arith, record-in-tree, record-size S T)
 
-    pub fields-grown : WritesOnlyTree D out new
-    fields-grown =
-        rw fields-are (three-grown D out (P + 4 * kindField) (kindOf S T l i) (linkOf S T l i) (gapOf S T l i) fits inside
-        (kind-stands S T taken l i l-in i-in) (link-stands S T taken l i l-in i-in) (gap-stands S T taken l i l-in i-in))
+    pub fields-only-tree : WritesOnlyTree D out new
+    fields-only-tree =
+        rw fields-are (three-only-tree D out (P + 4 * kindField) (kindOf S T l i) (linkOf S T l i) (gapOf S T l i) fits inside
+        (kind-bytes S T taken l i l-in i-in) (link-bytes S T taken l i l-in i-in) (gap-bytes S T taken l i l-in i-in))
 
     fields-within : AgreesOn D new (P + 4 * kindField) (P + plainBytes)
     fields-within =
         within-part D new (P + 4 * kindField) (P + 4 * kindField + 12) (P + 4 * kindField) (P + plainBytes)
         (rw fields-are (three-within D out (P + 4 * kindField) (kindOf S T l i) (linkOf S T l i) (gapOf S T l i) fits inside
-        (kind-stands S T taken l i l-in i-in) (link-stands S T taken l i l-in i-in) (gap-stands S T taken l i l-in i-in))) (omega arith) (omega arith)
+        (kind-bytes S T taken l i l-in i-in) (link-bytes S T taken l i l-in i-in) (gap-bytes S T taken l i l-in i-in))) (omega arith) (omega arith)
 
     -- With the counts and the edges the record is complete.
     pub record-done : (third last : List ℕ)
         → WritesOnlyTree D new third → AgreesOn D third (P + plainBytes) (P + plainBytes + countedBytes * length (S .counted)) → WritesOnlyTree D third last
         → AgreesOn D last (P + plainBytes + countedBytes * length (S .counted)) (placeAt S T l (i + 1)) → AgreesOn D last headerLength (placeAt S T l (i + 1))
     record-done third last g counts g′ edges =
-        let on = grown-then D new third last g g′ in
-        let all = grown-then D out new last fields-grown on in
-        within-join D last headerLength P (placeAt S T l (i + 1)) (within-grown D out last headerLength P all (w .filled .body))
-        (within-join D last P (P + 4 * kindField) (placeAt S T l (i + 1)) (within-grown D out last P (P + 4 * kindField) all (w .filled .starts i i-in))
+        let on = only-tree-trans D new third last g g′ in
+        let all = only-tree-trans D out new last fields-only-tree on in
+        within-join D last headerLength P (placeAt S T l (i + 1)) (agrees-only-tree D out last headerLength P all (w .filled .body))
+        (within-join D last P (P + 4 * kindField) (placeAt S T l (i + 1)) (agrees-only-tree D out last P (P + 4 * kindField) all (w .filled .starts i i-in))
         (within-join D last (P + 4 * kindField)
-        (P + plainBytes) (placeAt S T l (i + 1)) (within-grown D new last (P + 4 * kindField) (P + plainBytes) on fields-within)
+        (P + plainBytes) (placeAt S T l (i + 1)) (agrees-only-tree D new last (P + 4 * kindField) (P + plainBytes) on fields-within)
         (within-join D last (P + plainBytes) (P + plainBytes + countedBytes * length (S .counted)) (placeAt S T l (i + 1))
-        (within-grown D third last (P + plainBytes) (P + plainBytes + countedBytes * length (S .counted)) g′ counts) edges)))
+        (agrees-only-tree D third last (P + plainBytes) (P + plainBytes + countedBytes * length (S .counted)) g′ counts) edges)))

@@ -14,11 +14,11 @@ use Rattle.theory_built.specs.BlockSizes.{bounds}
 use Rattle.build_records.specs.declared.level_written.Level.{Level}
 use Rattle.build_records.specs.WritesOnlyTree.{AgreesOn}
 use Rattle.build_records.specs.RecordPlaces.{recordPlace}
-use Rattle.build_records.specs.State.{recordSettingsOf, LevelIs, On, SubstringIs, placeAt}
-use Rattle.build_records.proofs.Growth.{read-right, within-part}
-use Rattle.build_records.proofs.StateLaws.{record-size, place-is, start-stands, record-inside-table, offset-low}
+use Rattle.build_records.specs.State.{recordSettingsOf, LevelIs, BlockNext, SubstringIs, placeAt}
+use Rattle.build_records.proofs.WritesOnlyTreeLaws.{read-right, within-part}
+use Rattle.build_records.proofs.StateLaws.{record-size, place-is, start-bytes, record-inside-table, offset-low}
 
-module _ (S : Settings) (T out : List ℕ) (level : Level) (i : ℕ) (w : On S T out level i) where
+module _ (S : Settings) (T out : List ℕ) (level : Level) (i : ℕ) (w : BlockNext S T out level i) where
   abbrev l : ℕ
   l = level .number
 
@@ -38,7 +38,7 @@ module _ (S : Settings) (T out : List ℕ) (level : Level) (i : ℕ) (w : On S T
 
     pub start-read : wordAt out (recordPlace (level .table) x (recordSettingsOf (level .settings) (S .counted))) ≡ start S T l x
     start-read = rw at (read-right (treeOf S T) out (placeAt S T l x) (start S T l x) (w .filled .starts x x-in)
-        (start-stands S T (lev .taken) l x (lev .number-in) x-in)
+        (start-bytes S T (lev .taken) l x (lev .number-in) x-in)
         (omega (arith, level-at S T (lev .taken) l (lev .number-in) .within x x-in, bounds S T (lev .taken) .text-high)))
 
     pub start-in : start S T l x < length T
@@ -60,7 +60,7 @@ module _ (S : Settings) (T out : List ℕ) (level : Level) (i : ℕ) (w : On S T
 
 -- A block of a level whose records are all written.
 pub on-written : (S : Settings) (T out : List ℕ) (level : Level) (i : ℕ) → LevelIs S T level → offset S T (suc (level .number)) ≤ length out
-    → AgreesOn (treeOf S T) out headerLength (offset S T (suc (level .number))) → i < level .count → On S T out level i
+    → AgreesOn (treeOf S T) out headerLength (offset S T (suc (level .number))) → i < level .count → BlockNext S T out level i
 on-written S T out level i h room body il = record {
   level-is = h;
   filled = record {

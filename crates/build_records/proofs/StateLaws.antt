@@ -10,7 +10,7 @@ use Rattle.format.specs.Layout.{startField, kindField, linkField, gapField, pla
 use Rattle.format.specs.Layout.{beforeField, insideField, skipField, countedBytes, Settings, blockLength, maxText, maxLeaf, maxCounted, headerLength}
 use Rattle.format.specs.SizeLaws.{length-top, length-falls, record-edged}
 use Rattle.format.specs.Blocks.{treeOf, recordBytes, builtLayout}
-use Rattle.theory_built.specs.BuiltBytes.{BytesAt, record-stands}
+use Rattle.theory_built.specs.BuiltBytes.{BytesAt, record-field-bytes}
 use Rattle.theory_built.specs.Gather.{sumBelow-le}
 use Rattle.theory_built.specs.BlockSizes.{Taken, BuiltBounds, bounds, maxTable}
 use Rattle.theory_built.specs.Structure.{count, start}
@@ -24,7 +24,7 @@ use Rattle.build_records.specs.declared.record_written.Block.{Block}
 use Rattle.build_records.specs.WritesOnlyTree.{WritesOnlyTree}
 use Rattle.build_records.specs.RecordPlaces.{recordPlace}
 use Rattle.build_records.specs.State.{recordSettingsOf, LevelIs, RecordsUpTo, Writing, placeAt}
-use Rattle.build_records.proofs.Growth.{within-grown}
+use Rattle.build_records.proofs.WritesOnlyTreeLaws.{agrees-only-tree}
 
 module _ (S : Settings) (T : List ℕ) where
   -- Places of records.
@@ -73,21 +73,21 @@ module _ (S : Settings) (T : List ℕ) where
       at-zero : placeAt S T l i + 4 * startField ≡ placeAt S T l i
       at-zero = omega arith
 
-      pub start-stands : BytesAt (treeOf S T) (placeAt S T l i) (start S T l i)
-      start-stands = rw at-zero at (rw (record-start S T l i) at (record-stands S T h l i startField e il (omega (arith, four))))
+      pub start-bytes : BytesAt (treeOf S T) (placeAt S T l i) (start S T l i)
+      start-bytes = rw at-zero at (rw (record-start S T l i) at (record-field-bytes S T h l i startField e il (omega (arith, four))))
 
-      pub kind-stands : BytesAt (treeOf S T) (placeAt S T l i + 4 * kindField) (kindOf S T l i)
-      kind-stands = rw (record-kind S T l i) at (record-stands S T h l i kindField e il (omega (arith, four)))
+      pub kind-bytes : BytesAt (treeOf S T) (placeAt S T l i + 4 * kindField) (kindOf S T l i)
+      kind-bytes = rw (record-kind S T l i) at (record-field-bytes S T h l i kindField e il (omega (arith, four)))
 
-      pub link-stands : BytesAt (treeOf S T) (placeAt S T l i + 4 * kindField + 4) (linkOf S T l i)
-      link-stands =
+      pub link-bytes : BytesAt (treeOf S T) (placeAt S T l i + 4 * kindField + 4) (linkOf S T l i)
+      link-bytes =
           let p : placeAt S T l i + 4 * linkField ≡ placeAt S T l i + 4 * kindField + 4 = omega arith in
-          rw (record-link S T l i, p) at (record-stands S T h l i linkField e il (omega (arith, four)))
+          rw (record-link S T l i, p) at (record-field-bytes S T h l i linkField e il (omega (arith, four)))
 
-      pub gap-stands : BytesAt (treeOf S T) (placeAt S T l i + 4 * kindField + 8) (gapOf S T l i)
-      gap-stands =
+      pub gap-bytes : BytesAt (treeOf S T) (placeAt S T l i + 4 * kindField + 8) (gapOf S T l i)
+      gap-bytes =
           let p : placeAt S T l i + 4 * gapField ≡ placeAt S T l i + 4 * kindField + 8 = omega arith in
-          rw (record-gap S T l i, p) at (record-stands S T h l i gapField e il (omega (arith, four)))
+          rw (record-gap S T l i, p) at (record-field-bytes S T h l i gapField e il (omega (arith, four)))
 
       -- The counts of counted byte number c.
       module _ (c : ℕ) (cl : c < length (S .counted)) where
@@ -95,20 +95,20 @@ module _ (S : Settings) (T : List ℕ) where
         unfolding recordWords
         six = omega arith
 
-        pub before-stands : BytesAt (treeOf S T) (placeAt S T l i + plainBytes + countedBytes * c) (beforeOf S T l i (getD (S .counted) c 0))
-        before-stands =
+        pub before-bytes : BytesAt (treeOf S T) (placeAt S T l i + plainBytes + countedBytes * c) (beforeOf S T l i (getD (S .counted) c 0))
+        before-bytes =
             let p : placeAt S T l i + 4 * beforeField c ≡ placeAt S T l i + plainBytes + countedBytes * c = omega arith in
-            rw (record-before S T l i c cl, p) at (record-stands S T h l i (beforeField c) e il (omega (arith, six)))
+            rw (record-before S T l i c cl, p) at (record-field-bytes S T h l i (beforeField c) e il (omega (arith, six)))
 
-        pub inside-stands : BytesAt (treeOf S T) (placeAt S T l i + plainBytes + countedBytes * c + 4) (insideOf S T l i (getD (S .counted) c 0))
-        inside-stands =
+        pub inside-bytes : BytesAt (treeOf S T) (placeAt S T l i + plainBytes + countedBytes * c + 4) (insideOf S T l i (getD (S .counted) c 0))
+        inside-bytes =
             let p : placeAt S T l i + 4 * insideField c ≡ placeAt S T l i + plainBytes + countedBytes * c + 4 = omega arith in
-            rw (record-inside S T l i c cl, p) at (record-stands S T h l i (insideField c) e il (omega (arith, six)))
+            rw (record-inside S T l i c cl, p) at (record-field-bytes S T h l i (insideField c) e il (omega (arith, six)))
 
-        pub skip-stands : BytesAt (treeOf S T) (placeAt S T l i + plainBytes + countedBytes * c + 8) (skipOf S T l i (getD (S .counted) c 0))
-        skip-stands =
+        pub skip-bytes : BytesAt (treeOf S T) (placeAt S T l i + plainBytes + countedBytes * c + 8) (skipOf S T l i (getD (S .counted) c 0))
+        skip-bytes =
             let p : placeAt S T l i + 4 * skipField c ≡ placeAt S T l i + plainBytes + countedBytes * c + 8 = omega arith in
-            rw (record-skip S T l i c cl, p) at (record-stands S T h l i (skipField c) e il six)
+            rw (record-skip S T l i c cl, p) at (record-field-bytes S T h l i (skipField c) e il six)
 
 -- Block lengths are at most the longest text.
 module _ (S : Settings) (T : List ℕ) (h : Taken S T) where
@@ -144,14 +144,14 @@ unfolding recordBytes
 place-is S T level h i = rw (h .table-is, h .leaf-is)
 
 -- A state goes on as the buffer grows.
-pub filled-grown : (S : Settings) (T t u : List ℕ) (l i : ℕ) → RecordsUpTo S T t l i → WritesOnlyTree (treeOf S T) t u → RecordsUpTo S T u l i
-filled-grown S T t u l i f g = record {
+pub filled-only-tree : (S : Settings) (T t u : List ℕ) (l i : ℕ) → RecordsUpTo S T t l i → WritesOnlyTree (treeOf S T) t u → RecordsUpTo S T u l i
+filled-only-tree S T t u l i f g = record {
   room = omega (arith, f .room, g .same-length);
-  body = within-grown (treeOf S T) t u headerLength (placeAt S T l i) g (f .body);
-  starts = λ x h. within-grown (treeOf S T) t u (placeAt S T l x) (placeAt S T l x + 4) g (f .starts x h);
+  body = agrees-only-tree (treeOf S T) t u headerLength (placeAt S T l i) g (f .body);
+  starts = λ x h. agrees-only-tree (treeOf S T) t u (placeAt S T l x) (placeAt S T l x + 4) g (f .starts x h);
 }
 
-pub writing-grown : (S : Settings) (T t u : List ℕ) (level : Level) (i : ℕ) (block : Block) → Writing S T t level i block → WritesOnlyTree (treeOf S T) t u
+pub writing-only-tree : (S : Settings) (T t u : List ℕ) (level : Level) (i : ℕ) (block : Block) → Writing S T t level i block → WritesOnlyTree (treeOf S T) t u
     → Writing S T u level i block
-writing-grown S T t u level i block w g =
-    record { level-is = w .level-is; filled = filled-grown S T t u (level .number) i (w .filled) g; block-in = w .block-in; block-is = w .block-is }
+writing-only-tree S T t u level i block w g =
+    record { level-is = w .level-is; filled = filled-only-tree S T t u (level .number) i (w .filled) g; block-in = w .block-in; block-is = w .block-is }

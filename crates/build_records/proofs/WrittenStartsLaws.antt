@@ -13,7 +13,7 @@ use Rattle.format.specs.SizeLaws.{maxRecord}
 use Rattle.theory_built.specs.BuiltBytes.{BytesAt}
 use Rattle.build_records.specs.WritesOnlyTree.{WritesOnlyTree, AgreesOn}
 use Rattle.build_records.specs.WrittenStarts.{startsWritten}
-use Rattle.build_records.proofs.Growth.{grown-none, grown-then, within-grown, word-grown, word-within}
+use Rattle.build_records.proofs.WritesOnlyTreeLaws.{only-tree-refl, only-tree-trans, agrees-only-tree, word-only-tree, word-within}
 
 -- One start more.
 pub starts-more : (t u v : List ℕ) (at step s b j : ℕ) → u ≡ startsWritten t at step s b j → v ≡ setWord u (at + j * step) (s + j * b)
@@ -30,12 +30,12 @@ few-steps j n step l k m = mul-le-mul (let z : j ≤ maxText = omega arith in z)
 module _ (D t : List ℕ) (at step s b : ℕ) where
   module _ (n : ℕ) (stand : (j : ℕ) → j < n → BytesAt D (at + j * step) (s + j * b)) (fits : (j : ℕ) → j < n → at + j * step + 4 ≤ length t)
       (inside : (j : ℕ) → j < n → at + j * step + 4 ≤ length D) where
-    pub starts-grown : (j : ℕ) → j ≤ n → WritesOnlyTree D t (startsWritten t at step s b j)
-    starts-grown zero l = grown-none D t
-    starts-grown (suc j) l =
-        let g = starts-grown j (omega arith) in
-        grown-then D t (startsWritten t at step s b j) (startsWritten t at step s b (suc j)) g
-        (word-grown D (startsWritten t at step s b j)
+    pub starts-only-tree : (j : ℕ) → j ≤ n → WritesOnlyTree D t (startsWritten t at step s b j)
+    starts-only-tree zero l = only-tree-refl D t
+    starts-only-tree (suc j) l =
+        let g = starts-only-tree j (omega arith) in
+        only-tree-trans D t (startsWritten t at step s b j) (startsWritten t at step s b (suc j)) g
+        (word-only-tree D (startsWritten t at step s b j)
         (at + j * step) (s + j * b) (omega (arith, fits j (omega arith), g .same-length)) (stand j (omega arith)) (inside j (omega arith)))
 
     pub starts-within : (j : ℕ) → j ≤ n → (x : ℕ) → x < j → AgreesOn D (startsWritten t at step s b j) (at + x * step) (at + x * step + 4)
@@ -45,12 +45,12 @@ module _ (D t : List ℕ) (at step s b : ℕ) where
         go : (x < j) ⊎ (x ≡ j) → (x < j → AgreesOn D (startsWritten t at step s b j) (at + x * step) (at + x * step + 4))
             → AgreesOn D (startsWritten t at step s b (suc j)) (at + x * step) (at + x * step + 4)
         go (inl y) r =
-            let g = starts-grown j (omega arith) in
-            within-grown D (startsWritten t at step s b j) (startsWritten t at step s b (suc j)) (at + x * step) (at + x * step + 4)
-            (word-grown D (startsWritten t at step s b j)
+            let g = starts-only-tree j (omega arith) in
+            agrees-only-tree D (startsWritten t at step s b j) (startsWritten t at step s b (suc j)) (at + x * step) (at + x * step + 4)
+            (word-only-tree D (startsWritten t at step s b j)
             (at + j * step) (s + j * b) (omega (arith, fits j (omega arith), g .same-length)) (stand j (omega arith)) (inside j (omega arith)))
             (r y)
         go (inr y) r =
-            let g = starts-grown j (omega arith) in
+            let g = starts-only-tree j (omega arith) in
             rw y (word-within D (startsWritten t at step s b j)
             (at + j * step) (s + j * b) (omega (arith, fits j (omega arith), g .same-length)) (stand j (omega arith)))

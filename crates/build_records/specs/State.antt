@@ -68,7 +68,7 @@ module _ (S : Settings) (T : List ℕ) where
     pub block-is : BlockIs (level .number) i block
 
   -- Block i of a level is next in turn.
-  pub record On (out : List ℕ) (level : Level) (i : ℕ) : Type 0 where
+  pub record BlockNext (out : List ℕ) (level : Level) (i : ℕ) : Type 0 where
     pub level-is : LevelIs level
     pub filled : RecordsUpTo out (level .number) i
     pub block-in : i < level .count

@@ -13,7 +13,7 @@ ghost use Rattle.format.specs.Layout.{maxText, maxLeaf, maxCounted, wordAt, pla
 ghost use Rattle.format.specs.SizeLaws.{maxRecord};
 ghost use Rattle.format.specs.Blocks.{recordBytes};
 ghost use Rattle.build_records.specs.RecordPlaces.{recordPlace};
-ghost use Rattle.build_records.specs.State.{recordSettingsOf, On, SubstringIs};
+ghost use Rattle.build_records.specs.State.{recordSettingsOf, BlockNext, SubstringIs};
 
 pub struct Level {
     pub settings: Settings,
@@ -69,7 +69,7 @@ pub fn substring_of(
     level: Level,
     i: BlockNumber,
 ) -> Substring
-    requires { ⌜ On (recordSettingsOf (level .settings) (now counted)) (now text) (now out) level (i .0) ⌝ }
+    requires { ⌜ BlockNext (recordSettingsOf (level .settings) (now counted)) (now text) (now out) level (i .0) ⌝ }
     ensures { λ r. ⌜ SubstringIs (recordSettingsOf (level .settings) (now (counted .entry))) (now (text .entry)) (level .number) (i .0) r ⌝ }
 {
     let start = start(counted, out, level, i);

@@ -17,7 +17,7 @@ use Rattle.format.specs.TreeReading.{ask}
 use Rattle.format.specs.Answers.{unless}
 use Rattle.layout.specs.declared.settings.Settings as code
 use Rattle.layout.specs.declared.settings.SettingsAnswer.{SettingsAnswer}
-use Rattle.layout.specs.declared.settings.SettingsAnswer.the-variants as checked-is
+use Rattle.layout.specs.declared.settings.SettingsAnswer.the-variants as settings
 use Rattle.layout.specs.SettingsLevel.{Sized}
 use Rattle.build_size_bound.specs.declared.SizeBoundAnswer.the-variants.{Bytes, Refused}
 use Rattle.build_size_bound.specs.SizeBound.{blocksAtMost, sizeBoundFor, sizeBoundRefusal, sizeBoundAnswer, IsSizeBoundAnswer}
@@ -67,33 +67,33 @@ module _ (n m r H k : ℕ) where
     nothing-counted = refl
 
     by-sizes : (y : Bool) → sizesOk (sizes m r H) ≡ y
-        → x ≡ cond y (checked-is.Fine (record { leaf = m; arity = r; levels = H; counted = 0 })) (checked-is.Refused 2)
+        → x ≡ cond y (settings.Fine (record { leaf = m; arity = r; levels = H; counted = 0 })) (settings.Refused 2)
     unfolding checked
     by-sizes y e = is ∙ rw (e, nothing-counted)
 
     module _ (y : Bool) (e : sizesOk (sizes m r H) ≡ y) where
-      said : sizeBoundAnswer n m r H k ≡ unless (ask 2 y (ask 3 (leb k maxCounted) 0)) (record { number = 0; value = sizeBoundFor n m r H k; entered = 0 })
+      answer-is : sizeBoundAnswer n m r H k ≡ unless (ask 2 y (ask 3 (leb k maxCounted) 0)) (record { number = 0; value = sizeBoundFor n m r H k; entered = 0 })
       unfolding sizeBoundAnswer sizeBoundRefusal lengthOk
-      said = rw (le-leb n maxText high, e)
+      answer-is = rw (le-leb n maxText high, e)
 
-    pub sizes-refused : (q : ℕ) → x ≡ checked-is.Refused q → IsSizeBoundAnswer n m r H k (Refused 2)
+    pub sizes-refused : (q : ℕ) → x ≡ settings.Refused q → IsSizeBoundAnswer n m r H k (Refused 2)
     sizes-refused q e = go (sizesOk (sizes m r H)) refl
       where
-        fine : (s : code.Settings) → checked-is.Refused q ≡ checked-is.Fine s → ⊥
+        fine : (s : code.Settings) → settings.Refused q ≡ settings.Fine s → ⊥
         fine s e = let z : _≡_ {A = ℕ} 0 1 = cc in omega arith
 
         go : (y : Bool) → sizesOk (sizes m r H) ≡ y → IsSizeBoundAnswer n m r H k (Refused 2)
         go true f = absurd (fine _ (sym e ∙ by-sizes true f))
-        go false f = record { answers = sym (said false f); numbered = omega arith }
+        go false f = record { answers = sym (answer-is false f); numbered = omega arith }
 
-    module _ (s : code.Settings) (e : x ≡ checked-is.Fine s) where
+    module _ (s : code.Settings) (e : x ≡ settings.Fine s) where
       fine-is : (sizesOk (sizes m r H) ≡ true) × (s ≡ record { leaf = m; arity = r; levels = H; counted = 0 })
       fine-is = go (sizesOk (sizes m r H)) refl
         where
-          refused : checked-is.Fine s ≡ checked-is.Refused 2 → ⊥
+          refused : settings.Fine s ≡ settings.Refused 2 → ⊥
           refused e = let z : _≡_ {A = ℕ} 0 1 = cc in omega arith
 
-          same : (u : code.Settings) → checked-is.Fine s ≡ checked-is.Fine u → s ≡ u
+          same : (u : code.Settings) → settings.Fine s ≡ settings.Fine u → s ≡ u
           same u e = cc
 
           go : (y : Bool) → sizesOk (sizes m r H) ≡ y → (sizesOk (sizes m r H) ≡ true) × (s ≡ record { leaf = m; arity = r; levels = H; counted = 0 })
@@ -113,11 +113,11 @@ module _ (n m r H k : ℕ) where
       )
 
       pub many-counted : maxCounted < k → IsSizeBoundAnswer n m r H k (Refused 3)
-      many-counted h = record { answers = sym (said true (fine-is .0) ∙ rw (lt-leb k maxCounted h)); numbered = omega arith }
+      many-counted h = record { answers = sym (answer-is true (fine-is .0) ∙ rw (lt-leb k maxCounted h)); numbered = omega arith }
 
       pub size-bound-is : k ≤ maxCounted → (sum : ℕ) → sum ≡ blocksAtMost n (s .leaf) (s .arity) (s .levels)
           → (z : ℕ) → z ≡ recordLength builtLayout (s .leaf) k → IsSizeBoundAnswer n m r H k (Bytes (headerLength + n + z * sum))
-      size-bound-is h sum e′ z ez = record { answers = sym (said true (fine-is .0) ∙ rw (le-leb k maxCounted h, e′, ez, fine-is .1)); numbered = tt }
+      size-bound-is h sum e′ z ez = record { answers = sym (answer-is true (fine-is .0) ∙ rw (le-leb k maxCounted h, e′, ez, fine-is .1)); numbered = tt }
 
 -- The records of all levels are few.
 pub bytes-few : (z sum : ℕ) → z ≤ maxRecord → sum ≤ maxLevels * (2 * maxText) → z * sum ≤ maxRecord * (maxLevels * (2 * maxText))

@@ -23,7 +23,7 @@ use Rattle.format.specs.SizeLaws.{record-plain}
 use Rattle.format.specs.TreeReading.{headerResult}
 use Rattle.layout.specs.declared.header.Header.{Header}
 use Rattle.layout.specs.declared.header.HeaderAnswer.{HeaderAnswer}
-use Rattle.layout.specs.declared.header.HeaderAnswer.the-variants as read
+use Rattle.layout.specs.declared.header.HeaderAnswer.the-variants as header
 use Rattle.layout.specs.Header.{headerAnswer}
 use Rattle.layout.specs.HeaderFields.{HeaderOf, header-refused}
 use borrow.Author.Tests.{le-leb, lt-leb, ne-eqb}
@@ -276,7 +276,7 @@ module _ (t out : List ℕ) where
   unfolding withoutEdgesSize withoutEdgesBuffer
   refused-as n e = (sym e, (rw (e, ne-eqb (suc n) 0 (λ z. omega arith)), rw (e, ne-eqb (suc n) 0 (λ z. omega arith))))
 
-  pub unread : (x : HeaderAnswer) → x ≡ headerAnswer t → (q : ℕ) → x ≡ read.Refused q → AnswerIs (Refused q) out
+  pub unread : (x : HeaderAnswer) → x ≡ headerAnswer t → (q : ℕ) → x ≡ header.Refused q → AnswerIs (Refused q) out
   unfolding withoutEdgesRefusal
   unread x is q e =
       let z = header-refused t x is q e in

@@ -27,18 +27,19 @@ pub fn find_nth(t: &[u8], from: usize, n: u32, byte: u8, j: u64) -> u32
     requires { ⌜ (from + n ≤ length (now t)) × (1 ≤ j) ⌝ }
     ensures { λ r. ⌜ HasBytes (now (t .entry)) from n byte j r ⌝ }
 {
+    let size = n as usize;
     let mut left: u64 = j;
-    let mut i: u32 = 0;
-    while i < n {
-        if t[from + i as usize] == byte {
-            if left == 1 {
-                return i;
-            }
-            left = left - 1;
+    let mut i: usize = 0;
+    while 1 < left {
+        let k = search_byte::find(t, from + i, size - i, byte);
+        if size - i <= k {
+            return n;
         }
-        i += 1;
+        i += k + 1;
+        left -= 1;
     }
-    i
+    let last = search_byte::find(t, from + i, size - i, byte);
+    (i + last) as u32
 }
 
 // Copies n bytes of the text.

@@ -6,7 +6,7 @@ use crate::order_cases;
 use crate::output_cases;
 use crate::wrong;
 use cases_replies::Sizes;
-use cases_script::Gift;
+use cases_script::InputKind;
 use cases_script::Question;
 use cases_tokens::hexadecimal::Fault;
 use cases_tokens::hexadecimal::Made;
@@ -56,16 +56,16 @@ fn other(script: &[u8], line: &[u8], bytes: &mut [u8], lent: &mut [u8]) {
 }
 
 // The number of tokens of a line that names bytes.
-fn gift_length(gift: Gift) -> u32 {
-    match gift {
-        Gift::Text | Gift::Tree => 3,
+fn input_length(kind: InputKind) -> u32 {
+    match kind {
+        InputKind::Text | InputKind::Tree => 3,
         _ => 4,
     }
 }
 
 // Tries a line that names bytes.
 fn give(script: &[u8], line: &[u8], bytes: &mut [u8]) {
-    if cases_tokens::ends(line, gift_length(cases_script::gift_of(line))) {
+    if cases_tokens::ends(line, input_length(cases_script::input_kind(line))) {
         wrong::made(cases_script::make(script, line, bytes));
     } else {
         wrong::fault(Fault::Number);

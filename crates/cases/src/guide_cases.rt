@@ -94,25 +94,25 @@ fn put(tree: &[u8], guide: &[u8], line: &[u8]) {
 }
 
 // The bytes of a guide's words; `-` is none.
-fn guide_of(said: &[u8], out: &mut [u8]) -> Made
+fn guide_of(listed: &[u8], out: &mut [u8]) -> Made
     ensures { λ r. ⌜ ((n : ℕ) → r ≡ Bytes n → n ≤ length (now (out .entry))) ⌝ }
 {
-    if check::same(said, b"-") {
+    if check::same(listed, b"-") {
         return Made::Bytes(0);
     }
     let mut n: usize = 0;
     let mut at: usize = 0;
-    while at < said.len() {
+    while at < listed.len() {
         if out.len() - n < 4 {
             return Made::Wrong(Fault::Room);
         }
-        let number = decimal::read_number(cases_tokens::until(said, at, 44));
+        let number = decimal::read_number(cases_tokens::until(listed, at, 44));
         let Number::Is(value) = number else {
             return Made::Wrong(Fault::Number);
         };
         word::write(out, n, value);
         n += 4;
-        at = cases_tokens::past(said, at, 44);
+        at = cases_tokens::past(listed, at, 44);
     }
     Made::Bytes(n)
 }

@@ -71,8 +71,8 @@ pub fn byte(tree: &[u8], at: u32) {
 
 // Where the run is in the tree's bytes, and its length.
 pub fn run(tree: &[u8], at: u32) {
-    let ran = query::run_range(tree, TextPlace(at));
-    match ran {
+    let range = query::run_range(tree, TextPlace(at));
+    match range {
         RunRangeAnswer::At(part) => say::three(0, part.from as u64, part.length as u64),
         RunRangeAnswer::Refused(number) => say::three(number, 0, 0),
     }

@@ -4,18 +4,18 @@ use crate::say;
 // The number, the order of the first in a word, the length of the longest common prefix, and which tree was returned.
 pub fn order<'a>(one: &'a [u8], other: &'a [u8]) {
     let mut number: u32 = 0;
-    let mut standing: u32 = 0;
+    let mut order: u32 = 0;
     let mut shared: u32 = 0;
-    let first = query::first(one, other, &mut number, &mut standing, &mut shared);
+    let first = query::first(one, other, &mut number, &mut order, &mut shared);
     say::number(number);
-    word(standing);
+    word(order);
     say::figure(shared as u64);
     say::figure(which(first, one) as u64);
 }
 
 // Before, same or after; `-` if the comparison is refused.
-fn word(standing: u32) {
-    match standing {
+fn word(order: u32) {
+    match order {
         1 => {
             io::write_all(1, b" before");
         }

@@ -22,8 +22,8 @@ use Rattle.cases_tokens.specs.declared.hexadecimal.Made.{Made}
 use Rattle.cases_tokens.specs.declared.hexadecimal.Made.the-variants.{Bytes, Wrong}
 use Rattle.cases_script.specs.GivenBytes.{Given, Gives, scriptFirstOf, hexGiven, figureOf, repeated, timesOver, repeatGiven, plainBy, plainGiven, padTo}
 use Rattle.cases_script.specs.GivenBytes.{padGiven, makeBy, makeGiven, namedGiven}
-use Rattle.cases_script.specs.LineWords.{giftOf}
-use Rattle.cases_script.specs.declared.line_words.Gift.{Gift}
+use Rattle.cases_script.specs.LineWords.{inputKind}
+use Rattle.cases_script.specs.declared.line_words.InputKind.{InputKind}
 use Rattle.cases_script.specs.NameLine.{givingLine}
 use Rattle.cases_script.specs.GivenBytes.Given.{bytes, none}
 
@@ -225,14 +225,14 @@ pub as-given : {buffer : List ℕ} {r : Made} {g h : Given} → g ≡ h → Give
 as-given {buffer} {r} e a = subst (λ (y : Given). Gives buffer r y) e a
 
 -- A line by its word.
-module _ (line : List ℕ) (x y : Gift) (room : ℕ) (a : x ≡ giftOf line) (e : x ≡ y) where
+module _ (line : List ℕ) (x y : InputKind) (room : ℕ) (a : x ≡ inputKind line) (e : x ≡ y) where
   pub plain-is : plainBy y line room ≡ plainGiven line room
   unfolding plainGiven
-  plain-is = ap (λ (g : Gift). plainBy g line room) (sym e ∙ a)
+  plain-is = ap (λ (g : InputKind). plainBy g line room) (sym e ∙ a)
 
   pub make-is : (script : List ℕ) → makeBy y script line room ≡ makeGiven script line room
   unfolding makeGiven
-  make-is script = ap (λ (g : Gift). makeBy g script line room) (sym e ∙ a)
+  make-is script = ap (λ (g : InputKind). makeBy g script line room) (sym e ∙ a)
 
 pub named-is : (script name line : List ℕ) (room : ℕ) → line ≡ givingLine script name → makeGiven script line room ≡ namedGiven script name room
 unfolding namedGiven

@@ -13,10 +13,10 @@ use Rattle.cases_tokens.specs.declared.hexadecimal.Fault.{Fault}
 use Rattle.cases_tokens.specs.declared.hexadecimal.Fault.the-variants as fault
 use Rattle.cases_tokens.specs.declared.hexadecimal.Made.{Made}
 use Rattle.cases_tokens.specs.declared.hexadecimal.Made.the-variants.{Bytes, Wrong}
-use Rattle.cases_script.specs.LineWords.{giftOf}
+use Rattle.cases_script.specs.LineWords.{inputKind}
 use Rattle.cases_script.specs.NameLine.{givingLine}
-use Rattle.cases_script.specs.declared.line_words.Gift.{Gift}
-use Rattle.cases_script.specs.declared.line_words.Gift.the-variants as gift
+use Rattle.cases_script.specs.declared.line_words.InputKind.{InputKind}
+use Rattle.cases_script.specs.declared.line_words.InputKind.the-variants as kind
 
 -- What a line gives: bytes, or a fault.
 pub data Given : Type 0 where
@@ -60,16 +60,16 @@ timesOver (none f) times room = none f
 unfoldable pub repeatGiven : List ℕ → ℕ → Given
 repeatGiven line room = cond (figuresRight line 3 4) (timesOver (hexGiven (tokenOf line 2) room) (figureOf line 3) room) (none fault.Number)
 
-abbrev pub plainBy : Gift → List ℕ → ℕ → Given
-plainBy gift.Text line room = hexGiven (tokenOf line 2) room
-plainBy gift.Repeat line room = repeatGiven line room
-plainBy gift.Tree line room = hexGiven (tokenOf line 2) room
-plainBy gift.Pad line room = none fault.Name
-plainBy gift.Nothing line room = none fault.Name
+abbrev pub plainBy : InputKind → List ℕ → ℕ → Given
+plainBy kind.Text line room = hexGiven (tokenOf line 2) room
+plainBy kind.Repeat line room = repeatGiven line room
+plainBy kind.Tree line room = hexGiven (tokenOf line 2) room
+plainBy kind.Pad line room = none fault.Name
+plainBy kind.Nothing line room = none fault.Name
 
 -- Text NAME HEX, tree NAME HEX, or repeat.
 unfoldable pub plainGiven : List ℕ → ℕ → Given
-plainGiven line room = plainBy (giftOf line) line room
+plainGiven line room = plainBy (inputKind line) line room
 
 abbrev pub padTo : Given → ℕ → ℕ → Given
 padTo (bytes b) to room = cond (ltb to (length b)) (none fault.Number) (cond (ltb room to) (none fault.Room) (bytes (b ++ replicate (to - length b) 0)))
@@ -80,16 +80,16 @@ unfoldable pub padGiven : List ℕ → List ℕ → ℕ → Given
 padGiven script line room =
     cond (figuresRight line 3 4) (padTo (plainGiven (givingLine script (tokenOf line 2)) room) (figureOf line 3) room) (none fault.Number)
 
-abbrev pub makeBy : Gift → List ℕ → List ℕ → ℕ → Given
-makeBy gift.Text script line room = plainGiven line room
-makeBy gift.Repeat script line room = plainGiven line room
-makeBy gift.Tree script line room = plainGiven line room
-makeBy gift.Pad script line room = padGiven script line room
-makeBy gift.Nothing script line room = plainGiven line room
+abbrev pub makeBy : InputKind → List ℕ → List ℕ → ℕ → Given
+makeBy kind.Text script line room = plainGiven line room
+makeBy kind.Repeat script line room = plainGiven line room
+makeBy kind.Tree script line room = plainGiven line room
+makeBy kind.Pad script line room = padGiven script line room
+makeBy kind.Nothing script line room = plainGiven line room
 
 -- What a line gives, given the lines of a script.
 unfoldable pub makeGiven : List ℕ → List ℕ → ℕ → Given
-makeGiven script line room = makeBy (giftOf line) script line room
+makeGiven script line room = makeBy (inputKind line) script line room
 
 -- What has this name in the lines of a script.
 unfoldable pub namedGiven : List ℕ → List ℕ → ℕ → Given

@@ -6,8 +6,8 @@ use lib.ListN.{getD}
 use lib.Dec.{eqb}
 use Rattle.text.specs.Text.{sameList}
 use Rattle.cases_tokens.specs.Parts.{tokenOf}
-use Rattle.cases_script.specs.declared.line_words.Gift.{Gift}
-use Rattle.cases_script.specs.declared.line_words.Gift.the-variants as gift
+use Rattle.cases_script.specs.declared.line_words.InputKind.{InputKind}
+use Rattle.cases_script.specs.declared.line_words.InputKind.the-variants as kind
 use Rattle.cases_script.specs.declared.line_words.Question.{Question}
 use Rattle.cases_script.specs.declared.line_words.Question.the-variants as question
 
@@ -21,20 +21,20 @@ unfoldable pub wordNumber : List ℕ → ℕ → List ℕ → ℕ
 wordNumber words n word = wordFrom words word 0 n
 
 -- The words of lines that give bytes a name: text, repeat, tree, pad.
-unfoldable pub giftWords : List ℕ
-giftWords =
+unfoldable pub inputWords : List ℕ
+inputWords =
     116 ∷ 101 ∷ 120 ∷ 116 ∷ 32 ∷
     114 ∷ 101 ∷ 112 ∷ 101 ∷ 97 ∷ 116 ∷ 32 ∷
     116 ∷ 114 ∷ 101 ∷ 101 ∷ 32 ∷
     112 ∷ 97 ∷ 100 ∷ []
 
 -- The index of the word by which a line names bytes; 4 if it names none.
-unfoldable pub giftNumber : List ℕ → ℕ
-giftNumber line = wordNumber giftWords 4 (tokenOf line 0)
+unfoldable pub inputNumber : List ℕ → ℕ
+inputNumber line = wordNumber inputWords 4 (tokenOf line 0)
 
 -- How a line gives bytes a name.
-unfoldable pub giftOf : List ℕ → Gift
-giftOf line = getD (gift.Text ∷ gift.Repeat ∷ gift.Tree ∷ gift.Pad ∷ gift.Nothing ∷ []) (giftNumber line) gift.Nothing
+unfoldable pub inputKind : List ℕ → InputKind
+inputKind line = getD (kind.Text ∷ kind.Repeat ∷ kind.Tree ∷ kind.Pad ∷ kind.Nothing ∷ []) (inputNumber line) kind.Nothing
 
 -- The words of lines with a question: build, check, list, byte, count, find, span, run, row, places, scan, match.
 unfoldable pub questionWords : List ℕ

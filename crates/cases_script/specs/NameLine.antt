@@ -6,11 +6,11 @@ use lib.ListN.{length}
 use lib.Dec.{ltb}
 use Rattle.text.specs.Text.{sameList}
 use Rattle.cases_tokens.specs.Parts.{front, rest, tokenOf}
-use Rattle.cases_script.specs.LineWords.{giftNumber}
+use Rattle.cases_script.specs.LineWords.{inputNumber}
 
 -- A line gives bytes a name.
 unfoldable pub givesBytes : List ℕ → Bool
-givesBytes line = ltb (giftNumber line) 4
+givesBytes line = ltb (inputNumber line) 4
 
 -- A line gives bytes this name.
 unfoldable pub givesName : List ℕ → List ℕ → Bool

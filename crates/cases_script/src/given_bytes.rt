@@ -1,6 +1,6 @@
 // The bytes that lines give, written to the start of a buffer.
-use crate::line_words::Gift;
-use crate::line_words::gift_of;
+use crate::line_words::InputKind;
+use crate::line_words::input_kind;
 use crate::name_line::giving;
 use cases_tokens::hexadecimal::Fault;
 use cases_tokens::hexadecimal::Made;
@@ -22,13 +22,13 @@ pub fn named(script: &[u8], name: &[u8], out: &mut [u8]) -> Made
 pub fn make(script: &[u8], line: &[u8], out: &mut [u8]) -> Made
     ensures { λ r. ⌜ Gives (now (out .exit)) r (makeGiven (now (script .entry)) (now (line .entry)) (length (now (out .entry)))) ⌝ }
 {
-    let gift = gift_of(line);
-    match gift {
-        Gift::Text => plain(line, out),
-        Gift::Repeat => plain(line, out),
-        Gift::Tree => plain(line, out),
-        Gift::Pad => pad(script, line, out),
-        Gift::Nothing => plain(line, out),
+    let kind = input_kind(line);
+    match kind {
+        InputKind::Text => plain(line, out),
+        InputKind::Repeat => plain(line, out),
+        InputKind::Tree => plain(line, out),
+        InputKind::Pad => pad(script, line, out),
+        InputKind::Nothing => plain(line, out),
     }
 }
 
@@ -36,13 +36,13 @@ pub fn make(script: &[u8], line: &[u8], out: &mut [u8]) -> Made
 fn plain(line: &[u8], out: &mut [u8]) -> Made
     ensures { λ r. ⌜ Gives (now (out .exit)) r (plainGiven (now (line .entry)) (length (now (out .entry)))) ⌝ }
 {
-    let gift = gift_of(line);
-    match gift {
-        Gift::Text => cases_tokens::hex(cases_tokens::token(line, 2), out),
-        Gift::Repeat => repeat(line, out),
-        Gift::Tree => cases_tokens::hex(cases_tokens::token(line, 2), out),
-        Gift::Pad => Made::Wrong(Fault::Name),
-        Gift::Nothing => Made::Wrong(Fault::Name),
+    let kind = input_kind(line);
+    match kind {
+        InputKind::Text => cases_tokens::hex(cases_tokens::token(line, 2), out),
+        InputKind::Repeat => repeat(line, out),
+        InputKind::Tree => cases_tokens::hex(cases_tokens::token(line, 2), out),
+        InputKind::Pad => Made::Wrong(Fault::Name),
+        InputKind::Nothing => Made::Wrong(Fault::Name),
     }
 }
 

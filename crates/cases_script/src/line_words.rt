@@ -1,10 +1,10 @@
 // The word that a line begins with.
 ghost use mathlib.Core.Path.{_≡_};
 ghost use Prim.Native.Nat.{_≤_};
-ghost use Rattle.cases_script.specs.LineWords.{wordNumber, giftNumber, giftOf, questionOf, isComment};
+ghost use Rattle.cases_script.specs.LineWords.{wordNumber, inputNumber, inputKind, questionOf, isComment};
 
 // How a line gives bytes a name.
-pub enum Gift {
+pub enum InputKind {
     Nothing,
     Text,
     Repeat,
@@ -31,12 +31,12 @@ pub enum Question {
 }
 
 // The way of giving bytes for each of the words `text repeat tree pad`, in this order; none after the last.
-const GIFTS: [Gift; 5] = [
-    Gift::Text,
-    Gift::Repeat,
-    Gift::Tree,
-    Gift::Pad,
-    Gift::Nothing,
+const INPUT_KINDS: [InputKind; 5] = [
+    InputKind::Text,
+    InputKind::Repeat,
+    InputKind::Tree,
+    InputKind::Pad,
+    InputKind::Nothing,
 ];
 
 // The question for each word, in the order of `question_of`; none after the last.
@@ -73,19 +73,19 @@ fn number(words: &[u8], n: u32, word: &[u8]) -> u32
 }
 
 // The index of the word by which a line names bytes; 4 if it names none.
-pub fn gift_number(line: &[u8]) -> u32
-    ensures { λ r. ⌜ r ≡ giftNumber (now (line .entry)) ⌝ }
+pub fn input_number(line: &[u8]) -> u32
+    ensures { λ r. ⌜ r ≡ inputNumber (now (line .entry)) ⌝ }
     ensures { λ r. ⌜ r ≤ 4 ⌝ }
 {
     number(b"text repeat tree pad", 4, cases_tokens::token(line, 0))
 }
 
 // How a line gives bytes a name.
-pub fn gift_of(line: &[u8]) -> Gift
-    ensures { λ r. ⌜ r ≡ giftOf (now (line .entry)) ⌝ }
+pub fn input_kind(line: &[u8]) -> InputKind
+    ensures { λ r. ⌜ r ≡ inputKind (now (line .entry)) ⌝ }
 {
-    let k = gift_number(line);
-    GIFTS[k as usize]
+    let k = input_number(line);
+    INPUT_KINDS[k as usize]
 }
 
 // The question of a line.

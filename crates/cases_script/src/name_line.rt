@@ -1,5 +1,5 @@
 // The line that names some bytes.
-use crate::line_words::gift_number;
+use crate::line_words::input_number;
 ghost use mathlib.Core.Path.{_≡_};
 ghost use Prim.Native.Nat.{_≤_};
 ghost use lib.ListN.{length, drop};
@@ -10,7 +10,7 @@ ghost use Rattle.cases_script.specs.NameLine.{givesBytes, givesName, giv
 pub fn gives_bytes(line: &[u8]) -> bool
     ensures { λ r. ⌜ r ≡ givesBytes (now (line .entry)) ⌝ }
 {
-    gift_number(line) < 4
+    input_number(line) < 4
 }
 
 // Whether the line that starts at `at` names bytes by this name.

@@ -51,8 +51,8 @@ pub fn read_number(word: &[u8]) -> Number
 pub fn figure(line: &[u8], k: u32) -> u32
     ensures { λ r. ⌜ r ≡ valueOf (numberOf (tokenOf (now (line .entry)) k)) ⌝ }
 {
-    let said = read_number(token(line, k));
-    match said {
+    let parsed = read_number(token(line, k));
+    match parsed {
         Number::Is(v) => v,
         Number::Nothing => 0,
     }
@@ -62,8 +62,8 @@ pub fn figure(line: &[u8], k: u32) -> u32
 fn is_number(line: &[u8], k: u32) -> bool
     ensures { λ r. ⌜ r ≡ isNumber (now (line .entry)) k ⌝ }
 {
-    let said = read_number(token(line, k));
-    match said {
+    let parsed = read_number(token(line, k));
+    match parsed {
         Number::Is(_) => true,
         Number::Nothing => false,
     }

@@ -11,8 +11,8 @@ use Rattle.format.specs.TreeReading.{targetBlock, lastLevel}
 use Rattle.format.specs.LayoutLaws.{Readable, full-pos}
 use Rattle.theory_paths.specs.Links.{Linked, Pointing}
 use Rattle.theory_paths.specs.BlockStarts.{start-below, len-pos, child, target-full}
-use Rattle.theory_paths.specs.PlacesLand.{target}
-use Rattle.theory_counts.specs.CountsLocal.{upLength, beforeLocal, inLeafBytes, lastChild, handBlock, handPlace, upTo, keptInside, keptLocal, pointingSkip}
+use Rattle.theory_paths.specs.PlacesResolved.{target}
+use Rattle.theory_counts.specs.CountsLocal.{upLength, beforeLocal, inLeafBytes, lastChild, holderBlock, holderPlace, upTo, keptInside, keptLocal, pointingSkip}
 use Rattle.theory_counts.specs.CountsLocal.{pointingInside, pointingLocal, blockLocal}
 use Rattle.theory_counts.specs.SiblingCounts.{neighbour}
 use Rattle.check_counts.specs.declared.prefix.PrefixTarget.{PrefixTarget}
@@ -142,9 +142,9 @@ module _ (t : List ℕ) (size level i c : ℕ) (w : InTable t size level i c) wh
       end-there = record { table = w; place-in = omega (arith, length-pos x x-is) }
 
       module _ (on : PrefixTarget) (on-is : on ≡ targetOf t level i (x - 1) c) where
-        pub hand-there : InKept t size level (on .block .0) (on .place .0) c
-        unfolding targetOf handBlock handPlace
-        hand-there =
+        pub holder-there : InKept t size level (on .block .0) (on .place .0) c
+        unfolding targetOf holderBlock holderPlace
+        holder-there =
             let q = target t k d level i (x - 1) (w .block-in) p (omega (arith, length-pos x x-is)) in
             rw (on-is, un) (record {
               block = record { table = other (targetBlock t level i (x - 1)) (q .below); place-in = q .inside };
@@ -152,9 +152,10 @@ module _ (t : List ℕ) (size level i c : ℕ) (w : InTable t size level i c) wh
               below = below;
             })
 
-        pub hand-is : (r : ℕ) → r ≡ upTo t (at.settings t .levels - 1 - level) level (on .block .0) (on .place .0) c → on .plus + r ≡ pointingInside t level i c
+        pub holder-is : (r : ℕ) → r ≡ upTo t (at.settings t .levels - 1 - level) level (on .block .0) (on .place .0) c
+            → on .plus + r ≡ pointingInside t level i c
         unfolding pointingInside lastLevel targetOf
-        hand-is r e = rw (e, on-is, x-is)
+        holder-is r e = rw (e, on-is, x-is)
 
   -- The whole block.
 

@@ -14,7 +14,7 @@ use Rattle.format.specs.Layout as at
 use Rattle.format.specs.LayoutLaws.{Readable, full-pos, full-small, full-last}
 use Rattle.theory_paths.specs.Links.{Linked, Pointing}
 use Rattle.theory_paths.specs.BlockStarts.{len-small, Child, child}
-use Rattle.theory_paths.specs.PlacesLand.{target-first, target-second}
+use Rattle.theory_paths.specs.PlacesResolved.{target-first, target-second}
 use Rattle.layout.specs.declared.place.BlockNumber.{BlockNumber}
 use Rattle.layout.specs.declared.place.BlockPlace.{BlockPlace}
 use Rattle.walk_steps.specs.declared.position.BlockPosition.{BlockPosition}
@@ -23,8 +23,8 @@ use Rattle.walk_steps.specs.declared.DivRem.{DivRem}
 use Rattle.theory_counts.specs.LevelTrue.{tally, Level}
 use Rattle.theory_counts.specs.CountsExact.{up-to}
 use Rattle.theory_counts.specs.CountedSubstrings.{leaves-end, tally-le}
-use Rattle.theory_counts.specs.PointedCounts.{Handed, handed}
-use Rattle.theory_counts.specs.CountsLocal.{handBlock, handPlace, handPlus, handMinus, inLeafBytes, upTo}
+use Rattle.theory_counts.specs.PointedCounts.{HolderCounts, holder-counts}
+use Rattle.theory_counts.specs.CountsLocal.{holderBlock, holderPlace, holderPlus, holderMinus, inLeafBytes, upTo}
 use Rattle.check_counts.specs.declared.prefix.PrefixTarget.{PrefixTarget}
 use Rattle.check_counts.specs.CountsAsked.{Sound, InTable, InBlock, KeptPlace, InKept}
 use Rattle.check_counts.specs.PrefixTargets.{targetOf, stepOf, childOf, lastSum}
@@ -40,9 +40,9 @@ module _ (t : List ℕ) (size level b c : ℕ) (block : BlockNumber) (place : Bl
   abbrev o : ℕ
   o = place .0
 
-  pub hand-kept : k ≡ 0 → record { block = block; place = place; plus = 0; minus = 0 } ≡ targetOf t level i o c
-  unfolding targetOf handBlock handPlace handPlus handMinus
-  hand-kept z = rw (facts.kept-of t level i k k-is z)
+  pub holder-of-kept : k ≡ 0 → record { block = block; place = place; plus = 0; minus = 0 } ≡ targetOf t level i o c
+  unfolding targetOf holderBlock holderPlace holderPlus holderMinus
+  holder-of-kept z = rw (facts.kept-of t level i k k-is z)
 
   module _ (ne : k ≡ 0 → ⊥) where
     un : at.isKept t level i ≡ false
@@ -59,9 +59,9 @@ module _ (t : List ℕ) (size level b c : ℕ) (block : BlockNumber) (place : Bl
       pub target-there : InTable t size level j c
       target-there = record { tree = w .table .tree; level-in = w .table .level-in; block-in = rw j-is (p .target-below); number-in = w .table .number-in }
 
-      pub hand-first : g + o < b → record { block = record { 0 = j }; place = record { 0 = g + o }; plus = 0; minus = sk } ≡ targetOf t level i o c
-      unfolding targetOf handBlock handPlace handPlus handMinus
-      hand-first small =
+      pub holder-first : g + o < b → record { block = record { 0 = j }; place = record { 0 = g + o }; plus = 0; minus = sk } ≡ targetOf t level i o c
+      unfolding targetOf holderBlock holderPlace holderPlus holderMinus
+      holder-first small =
           let less : at.gap t level i + o < at.fullLength t level = omega arith in
           let e = target-first t level i o less in
           rw (un, e .0, e .1, lt-ltb _ _ less, j-is, g-is, sk-is)
@@ -69,10 +69,10 @@ module _ (t : List ℕ) (size level b c : ℕ) (block : BlockNumber) (place : Bl
       pub next-there : b ≤ g + o → j + 1 < at.levelCount t level
       next-there large = rw j-is (p .next (omega (arith, w .place-in)) .below)
 
-      pub hand-second : (x : ℕ) → x ≡ at.inside t level j c → b ≤ g + o
+      pub holder-second : (x : ℕ) → x ≡ at.inside t level j c → b ≤ g + o
           → record { block = record { 0 = j + 1 }; place = record { 0 = g + o - b }; plus = x; minus = sk } ≡ targetOf t level i o c
-      unfolding targetOf handBlock handPlace handPlus handMinus
-      hand-second x x-is large =
+      unfolding targetOf holderBlock holderPlace holderPlus holderMinus
+      holder-second x x-is large =
           let more : at.fullLength t level ≤ at.gap t level i + o = omega arith in
           let e = target-second t level i o more in
           rw (un, e .0, e .1, le-ltb _ _ more, x-is, j-is, g-is, sk-is, b-is)
@@ -171,8 +171,8 @@ module _ (t : List ℕ) (size level b c i o : ℕ) (b-is : b ≡ at.fullLength t
     q : Child t k d level i o down onward
     q = child t k d level i o above (w .block .table .block-in) (w .kept) (w .block .place-in)
 
-    next : Handed t k d (level + 1) down onward c
-    next = handed t k d (level + 1) down onward c above (q .below) (q .inside) (w .block .table .number-in) (w .below (level + 1) (omega arith) above)
+    next : HolderCounts t k d (level + 1) down onward c
+    next = holder-counts t k d (level + 1) down onward c above (q .below) (q .inside) (w .block .table .number-in) (w .below (level + 1) (omega arith) above)
 
     below-true : (m : ℕ) → level + 1 < m → m < at.settings t .levels → Level t m
     below-true m lt hm = w .below m (omega arith) hm
@@ -195,7 +195,7 @@ module _ (t : List ℕ) (size level b c i o : ℕ) (b-is : b ≡ at.fullLength t
 
       pub walk-last : level + 1 + 1 ≡ at.settings t .levels
           → (r : ℕ) → r ≡ lastSum t (level + 1) (s .block .0) (s .place .0) c → r ≡ upTo t (at.settings t .levels - 1 - level) level i o c
-      unfolding upTo lastSum childOf handBlock handPlace handPlus handMinus
+      unfolding upTo lastSum childOf holderBlock holderPlace holderPlus holderMinus
       walk-last e r f =
           let z : at.settings t .levels - 1 - level ≡ suc 0 = omega arith in
           rw s-is at f ∙ rw (z, last-kept e) (omega arith)
@@ -217,12 +217,12 @@ module _ (t : List ℕ) (size level b c i o : ℕ) (b-is : b ≡ at.fullLength t
       })
 
       module _ (rest : ℕ) (rest-is : rest ≡ upTo t (at.settings t .levels - 1 - (level + 1)) (level + 1) (on .block .0) (on .place .0) c) where
-        rest-tally : rest ≡ tally t c (at.start t (level + 1) (handBlock t (level + 1) down onward)) (handPlace t (level + 1) down onward + 1)
+        rest-tally : rest ≡ tally t c (at.start t (level + 1) (holderBlock t (level + 1) down onward)) (holderPlace t (level + 1) down onward + 1)
         unfolding stepOf
         rest-tally =
             rw on-is at rest-is
             ∙ up-to t k d (at.settings t .levels - 1 - (level + 1))
-            (level + 1) (handBlock t (level + 1) down onward) (handPlace t (level + 1) down onward) c (omega arith)
+            (level + 1) (holderBlock t (level + 1) down onward) (holderPlace t (level + 1) down onward) c (omega arith)
             (next .below) (next .kept) (next .inside) (w .block .table .number-in) below-true
 
         pub rest-small : rest ≤ maxText
@@ -230,9 +230,9 @@ module _ (t : List ℕ) (size level b c i o : ℕ) (b-is : b ≡ at.fullLength t
             omega (
               arith,
               rest-tally,
-              tally-le t c (at.start t (level + 1) (handBlock t (level + 1) down onward)) (handPlace t (level + 1) down onward + 1),
+              tally-le t c (at.start t (level + 1) (holderBlock t (level + 1) down onward)) (holderPlace t (level + 1) down onward + 1),
               next .inside,
-              len-small t (level + 1) (handBlock t (level + 1) down onward),
+              len-small t (level + 1) (holderBlock t (level + 1) down onward),
               full-small t k (level + 1),
             )
 

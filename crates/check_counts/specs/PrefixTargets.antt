@@ -4,7 +4,7 @@ use mathlib.Core.Bool.{Bool}
 use Prim.Native.Nat.{ℕ, _+_, _/_, _%_}
 use Rattle.text.specs.Text.{allBelow}
 use Rattle.format.specs.Layout as at
-use Rattle.theory_counts.specs.CountsLocal.{handBlock, handPlace, handPlus, handMinus, inLeafBytes, blockLocal}
+use Rattle.theory_counts.specs.CountsLocal.{holderBlock, holderPlace, holderPlus, holderMinus, inLeafBytes, blockLocal}
 use Rattle.walk_steps.specs.declared.position.BlockPosition.{BlockPosition}
 use Rattle.check_counts.specs.declared.prefix.PrefixTarget.{PrefixTarget}
 
@@ -12,19 +12,19 @@ module _ (t : List ℕ) where
   -- What block i adds and subtracts when place o refers to another block.
   unfoldable pub targetOf : ℕ → ℕ → ℕ → ℕ → PrefixTarget
   targetOf l i o c = record {
-    block = record { 0 = handBlock t l i o };
-    place = record { 0 = handPlace t l i o };
-    plus = handPlus t l i o c;
-    minus = handMinus t l i c;
+    block = record { 0 = holderBlock t l i o };
+    place = record { 0 = holderPlace t l i o };
+    plus = holderPlus t l i o c;
+    minus = holderMinus t l i c;
   }
 
   -- The same for a child, with its count before.
   unfoldable pub stepOf : ℕ → ℕ → ℕ → ℕ → PrefixTarget
   stepOf l i o c = record {
-    block = record { 0 = handBlock t l i o };
-    place = record { 0 = handPlace t l i o };
-    plus = at.before t l i c + handPlus t l i o c;
-    minus = handMinus t l i c;
+    block = record { 0 = holderBlock t l i o };
+    place = record { 0 = holderPlace t l i o };
+    plus = at.before t l i c + holderPlus t l i o c;
+    minus = holderMinus t l i c;
   }
 
   -- The child of kept block i that contains place o, and the place in it.

@@ -109,12 +109,12 @@ fn pointing_inside(t: &[u8], size: u32, level: u32, b: u32, block: BlockNumber, 
         block,
         place: BlockPlace(length - 1),
     };
-    let hand = prefix::prefix_target(t, size, LevelAt { level, b }, end, c);
-    let next = hand.block;
-    let place = hand.place;
+    let holder = prefix::prefix_target(t, size, LevelAt { level, b }, end, c);
+    let next = holder.block;
+    let place = holder.place;
     let there = BlockPosition { block: next, place };
     let rest = prefix::up_to(&t, size, LevelAt { level, b }, there, c);
-    hand.plus + rest
+    holder.plus + rest
 }
 
 // The skip and the count inside of a pointing block are those of the blocks that it points to.

@@ -35,14 +35,20 @@ pub fn in_leaves(t: &[u8], size: u32, level: u32, block: BlockNumber, n: u32, c:
 }
 
 // The kept block for a place: a kept block itself; for a pointing block its first target, or the second if the place is past the end of the first.
-pub fn prefix_target(t: &[u8], size: u32, on: LevelAt, spot: BlockPosition, c: u32) -> PrefixTarget
-    requires { ⌜ (on .b ≡ at.fullLength (now t) (on .level)) × InBlock (now t) size (on .level) (spot .block .0) (spot .place .0) c ⌝ }
-    ensures { λ r. ⌜ (r ≡ targetOf (now (t .entry)) (on .level) (spot .block .0) (spot .place .0) c) × (r .plus < 4294967296) ⌝ }
+pub fn prefix_target(
+    t: &[u8],
+    size: u32,
+    on: LevelAt,
+    position: BlockPosition,
+    c: u32,
+) -> PrefixTarget
+    requires { ⌜ (on .b ≡ at.fullLength (now t) (on .level)) × InBlock (now t) size (on .level) (position .block .0) (position .place .0) c ⌝ }
+    ensures { λ r. ⌜ (r ≡ targetOf (now (t .entry)) (on .level) (position .block .0) (position .place .0) c) × (r .plus < 4294967296) ⌝ }
 {
-    let from = spot.block;
+    let from = position.block;
     let kind = record::kind(t, size, on.level, from);
     if kind == 0 {
-        let place = spot.place;
+        let place = position.place;
         return PrefixTarget {
             block: from,
             place,
@@ -53,7 +59,7 @@ pub fn prefix_target(t: &[u8], size: u32, on: LevelAt, spot: BlockPosition, c: u
     let link = record::link(t, size, on.level, from);
     let gap = record::gap(t, size, on.level, from);
     let skip = record::skip(t, size, on.level, from, c) as u64;
-    let at = gap.0 + spot.place.0;
+    let at = gap.0 + position.place.0;
     if at < on.b {
         return PrefixTarget {
             block: BlockNumber(link.0),
@@ -71,13 +77,13 @@ pub fn prefix_target(t: &[u8], size: u32, on: LevelAt, spot: BlockPosition, c: u
 }
 
 // From a kept block to the child that contains a place; b is the block length of the children.
-fn child_of(t: &[u8], size: u32, level: u32, b: u32, spot: BlockPosition) -> BlockPosition
+fn child_of(t: &[u8], size: u32, level: u32, b: u32, position: BlockPosition) -> BlockPosition
     requires { ⌜ (b ≡ at.fullLength (now t) (level + 1)) × (level + 1 < at.settings (now t) .levels)
-        × KeptPlace (now t) size level (spot .block .0) (spot .place .0) ⌝ }
-    ensures { λ r. ⌜ r ≡ childOf (now (t .entry)) level (spot .block .0) (spot .place .0) ⌝ }
+        × KeptPlace (now t) size level (position .block .0) (position .place .0) ⌝ }
+    ensures { λ r. ⌜ r ≡ childOf (now (t .entry)) level (position .block .0) (position .place .0) ⌝ }
 {
-    let link = record::link(t, size, level, spot.block);
-    let part = walk_steps::div_rem(spot.place, b);
+    let link = record::link(t, size, level, position.block);
+    let part = walk_steps::div_rem(position.place, b);
     let place = part.place;
     BlockPosition {
         block: BlockNumber(link.0 + part.blocks),
@@ -86,44 +92,44 @@ fn child_of(t: &[u8], size: u32, level: u32, b: u32, spot: BlockPosition) -> Blo
 }
 
 // How often counted byte number c occurs in the parent of a block of the last level, up to a place of the block.
-fn in_last(t: &[u8], size: u32, level: u32, spot: BlockPosition, c: u32) -> u64
-    requires { ⌜ (level + 1 ≡ at.settings (now t) .levels) × InBlock (now t) size level (spot .block .0) (spot .place .0) c ⌝ }
-    ensures { λ r. ⌜ r ≡ lastSum (now (t .entry)) level (spot .block .0) (spot .place .0) c ⌝ }
+fn in_last(t: &[u8], size: u32, level: u32, position: BlockPosition, c: u32) -> u64
+    requires { ⌜ (level + 1 ≡ at.settings (now t) .levels) × InBlock (now t) size level (position .block .0) (position .place .0) c ⌝ }
+    ensures { λ r. ⌜ r ≡ lastSum (now (t .entry)) level (position .block .0) (position .place .0) c ⌝ }
 {
-    let before = record::before(t, size, level, spot.block, c);
-    let within = in_leaves(t, size, level, spot.block, spot.place.0 + 1, c);
+    let before = record::before(t, size, level, position.block, c);
+    let within = in_leaves(t, size, level, position.block, position.place.0 + 1, c);
     before as u64 + within
 }
 
 // The kept block for a place of a child, with the child's count before.
-fn step(t: &[u8], size: u32, on: LevelAt, spot: BlockPosition, c: u32) -> PrefixTarget
-    requires { ⌜ (on .b ≡ at.fullLength (now t) (on .level)) × InBlock (now t) size (on .level) (spot .block .0) (spot .place .0) c ⌝ }
-    ensures { λ r. ⌜ (r ≡ stepOf (now (t .entry)) (on .level) (spot .block .0) (spot .place .0) c) × (r .plus < 8589934592) ⌝ }
+fn step(t: &[u8], size: u32, on: LevelAt, position: BlockPosition, c: u32) -> PrefixTarget
+    requires { ⌜ (on .b ≡ at.fullLength (now t) (on .level)) × InBlock (now t) size (on .level) (position .block .0) (position .place .0) c ⌝ }
+    ensures { λ r. ⌜ (r ≡ stepOf (now (t .entry)) (on .level) (position .block .0) (position .place .0) c) × (r .plus < 8589934592) ⌝ }
 {
-    let before = record::before(t, size, on.level, spot.block, c);
-    let hand = prefix_target(t, size, on, spot, c);
-    let block = hand.block;
-    let place = hand.place;
+    let before = record::before(t, size, on.level, position.block, c);
+    let holder = prefix_target(t, size, on, position, c);
+    let block = holder.block;
+    let place = holder.place;
     PrefixTarget {
         block,
         place,
-        plus: before as u64 + hand.plus,
-        minus: hand.minus,
+        plus: before as u64 + holder.plus,
+        minus: holder.minus,
     }
 }
 
 // How often counted byte number c occurs in a kept block above the last level up to a place, included. The number of levels left decreases.
-pub fn up_to(t: &&[u8], size: u32, on: LevelAt, spot: BlockPosition, c: u32) -> u64
+pub fn up_to(t: &&[u8], size: u32, on: LevelAt, position: BlockPosition, c: u32) -> u64
     requires { ⌜ (on .b ≡ at.fullLength (now (now t)) (on .level)) × (on .level + 1 < at.settings (now (now t)) .levels)
-        × InKept (now (now t)) size (on .level) (spot .block .0) (spot .place .0) c ⌝ }
+        × InKept (now (now t)) size (on .level) (position .block .0) (position .place .0) c ⌝ }
     ensures { λ r. ⌜ r ≡ upTo (now (now (t .entry)))
-        (at.settings (now (now (t .entry))) .levels - 1 - on .level) (on .level) (spot .block .0) (spot .place .0) c ⌝ }
+        (at.settings (now (now (t .entry))) .levels - 1 - on .level) (on .level) (position .block .0) (position .place .0) c ⌝ }
 {
     let tree = *t;
     let shape = fields::shape_of(tree);
     let down = on.level + 1;
     let below = walk_steps::quotient(on.b, shape.arity);
-    let child = child_of(tree, size, on.level, below, spot);
+    let child = child_of(tree, size, on.level, below, position);
     if down + 1 == shape.levels {
         return in_last(tree, size, down, child, c);
     }
@@ -131,9 +137,9 @@ pub fn up_to(t: &&[u8], size: u32, on: LevelAt, spot: BlockPosition, c: u32) -> 
         level: down,
         b: below,
     };
-    let hand = step(tree, size, under, child, c);
-    let block = hand.block;
-    let place = hand.place;
+    let holder = step(tree, size, under, child, c);
+    let block = holder.block;
+    let place = holder.place;
     let rest = up_to(t, size, under, BlockPosition { block, place }, c);
-    hand.plus + rest - hand.minus
+    holder.plus + rest - holder.minus
 }

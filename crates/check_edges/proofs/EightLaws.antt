@@ -1,14 +1,16 @@
--- Bytes compared eight at a time: eight bytes are the same exactly where their numbers are.
-use mathlib.Core.List.{List, [], _∷_, _++_}
-use mathlib.Core.Bool.{true, false, _&&_}
-use mathlib.Core.Path.{_≡_, refl, sym, ap, _∙_}
+-- Bytes compared in parts: eight bytes are equal exactly where their numbers are, and parts that cover all bytes decide.
+use mathlib.Core.List.{List}
+use mathlib.Core.Bool.{true, false}
+use mathlib.Core.Logic.{_⊎_, inl, inr}
+use mathlib.Core.Path.{_≡_, refl, sym, _∙_}
 use Prim.Native.Nat.{ℕ, zero, suc, _+_, _-_, _*_, _≤_, _<_}
 use native.Mathlib.Omega.{arith}
-use borrow.Author.Tests.{eq-eqb}
+use borrow.Author.Tests.{eqb-true, eqb-false}
+use lib.Dec.{eqb}
 use lib.ListN.{length, getD}
 use Rattle.text.specs.Text.{sameList, substring}
-use Rattle.text.specs.ListLaws.{ne-sameList}
-use Rattle.text.specs.TextLaws.{substring-ext, substring-at, substring-add}
+use Rattle.text.specs.ListLaws.{bool-cases, bool-clash, lt-or-ge, sameList-true, eq-sameList, ne-sameList}
+use Rattle.text.specs.TextLaws.{substring-ext, substring-at, substring-part}
 use Rattle.check_edges.specs.Eights.{eightAt}
 
 -- The lowest digit, and the others.
@@ -41,18 +43,12 @@ eight-digits f g low below e =
     let d6 = low-digit (f 6) (g 6) _ _ (low 6) (below 6) (d5 .1) in
     each-of-eight f g (d0 .0) (d1 .0) (d2 .0) (d3 .0) (d4 .0) (d5 .0) (d6 .0) (d6 .1)
 
--- Lists with one beginning.
-same-after : (u v w : List ℕ) → sameList (u ++ v) (u ++ w) ≡ sameList v w
-unfolding sameList
-same-after [] v w = refl
-same-after (x ∷ u) v w = rw (eq-eqb x x refl) (same-after u v w)
-
 module _ (t : List ℕ) (p q : ℕ) where
   -- The number by the place of each byte.
   first-place : (p : ℕ) → getD t (p + 0) 0 ≡ getD t p 0
   first-place p = let z : p + 0 ≡ p = omega arith in rw z
 
-  pub eight-bytes : ((k : ℕ) → getD t k 0 < 256) → eightAt t p ≡ eightAt t q → (x : ℕ) → x < 8 → getD t (p + x) 0 ≡ getD t (q + x) 0
+  eight-bytes : ((k : ℕ) → getD t k 0 < 256) → eightAt t p ≡ eightAt t q → (x : ℕ) → x < 8 → getD t (p + x) 0 ≡ getD t (q + x) 0
   eight-bytes below e =
       eight-digits (λ x. getD t (p + x) 0) (λ x. getD t (q + x) 0) (λ x. below (p + x)) (λ x. below (q + x)) (omega (arith, e, first-place p, first-place q))
 
@@ -69,44 +65,40 @@ module _ (t : List ℕ) (p q : ℕ) where
     f 7 (omega arith),
   )
 
-  module _ (n : ℕ) (long : 8 ≤ n) (hp : p + n ≤ length t) (hq : q + n ≤ length t) where
-    -- eight that differ decide
-    pub eight-differ : (eightAt t p ≡ eightAt t q → ⊥) → false ≡ sameList (substring t p n) (substring t q n)
-    eight-differ other =
-        sym (ne-sameList (substring t p n) (substring t q n) (λ e. other (eight-numbers (λ x l. substring-at t t p q n e x (omega arith)))))
+  -- Eight bytes are equal exactly where their numbers x and y are.
+  pub eight-same : (x y : ℕ) → x ≡ eightAt t p → y ≡ eightAt t q → p + 8 ≤ length t → q + 8 ≤ length t → ((k : ℕ) → getD t k 0 < 256)
+      → eqb x y ≡ sameList (substring t p 8) (substring t q 8)
+  eight-same x y ex ey hp hq below = go (bool-cases (eqb x y))
+    where
+      go : (eqb x y ≡ true) ⊎ (eqb x y ≡ false) → eqb x y ≡ sameList (substring t p 8) (substring t q 8)
+      go (inl e) = e ∙ sym (eq-sameList _ _ (substring-ext t t p q 8 hp hq (eight-bytes below (sym ex ∙ eqb-true x y e ∙ ey))))
+      go (inr e) = e ∙ sym (ne-sameList _ _ (λ same. eqb-false x y e (ex ∙ eight-numbers (substring-at t t p q 8 same) ∙ sym ey)))
 
-    -- eight that agree leave it to the others
-    pub eight-agree : ((k : ℕ) → getD t k 0 < 256) → eightAt t p ≡ eightAt t q
-        → sameList (substring t (p + 8) (n - 8)) (substring t (q + 8) (n - 8)) ≡ sameList (substring t p n) (substring t q n)
-    eight-agree below e =
-        let z : n ≡ 8 + (n - 8) = omega arith in
-        let front : substring t p 8 ≡ substring t q 8 = substring-ext t t p q 8 (omega arith) (omega arith) (eight-bytes below e) in
-        sym (ap (λ (k : ℕ). sameList (substring t p k) (substring t q k)) z
-        ∙ rw (substring-add t p 8 (n - 8), substring-add t q 8 (n - 8), front)
-        (same-after (substring t q 8) (substring t (p + 8) (n - 8)) (substring t (q + 8) (n - 8))))
+-- The k bytes at a and at b are a part, from o on, of the n bytes at p and at q.
+module _ (t : List ℕ) (p q n o k a b : ℕ) (ea : a ≡ p + o) (eb : b ≡ q + o) (hp : p + n ≤ length t) (hq : q + n ≤ length t) where
+  -- A part that differs decides.
+  pub part-differs : o + k ≤ n → sameList (substring t a k) (substring t b k) ≡ false → false ≡ sameList (substring t p n) (substring t q n)
+  part-differs within differs =
+      sym (ne-sameList _ _ (λ e. bool-clash _ (eq-sameList _ _ (rw (ea, eb) (substring-part t t p q n o k hp hq within e))) differs))
 
--- The fact that a test of two numbers decides.
-pub numbers-differ : {a b x y : ℕ} → a ≡ x → b ≡ y → (a ≡ b → ⊥) → x ≡ y → ⊥
-numbers-differ e f other same = other (e ∙ same ∙ sym f)
+  -- The last part decides where the bytes before it are equal.
+  pub rest-decides : (i : ℕ) → o ≤ i → o + k ≡ n → sameList (substring t p i) (substring t q i) ≡ true
+      → sameList (substring t a k) (substring t b k) ≡ sameList (substring t p n) (substring t q n)
+  rest-decides i covered whole first = go (bool-cases (sameList (substring t a k) (substring t b k)))
+    where
+      byte : substring t (p + o) k ≡ substring t (q + o) k → (x : ℕ) → x < n → (x < i) ⊎ (i ≤ x) → getD t (p + x) 0 ≡ getD t (q + x) 0
+      byte e x l (inl m) = substring-at t t p q i (sameList-true _ _ first) x m
+      byte e x l (inr m) =
+          let y : p + x ≡ p + o + (x - o) = omega arith in
+          let z : q + x ≡ q + o + (x - o) = omega arith in
+          rw (y, z) (substring-at t t (p + o) (q + o) k e (x - o) (omega arith))
 
-pub numbers-same : {a b x y : ℕ} → a ≡ x → b ≡ y → a ≡ b → x ≡ y
-numbers-same e f same = sym e ∙ same ∙ f
+      go : (sameList (substring t a k) (substring t b k) ≡ true) ⊎ (sameList (substring t a k) (substring t b k) ≡ false)
+          → sameList (substring t a k) (substring t b k) ≡ sameList (substring t p n) (substring t q n)
+      go (inl e) = e ∙ sym (eq-sameList _ _ (substring-ext t t p q n hp hq (λ x l. byte (rw (ea, eb) at (sameList-true _ _ e)) x l (lt-or-ge x i))))
+      go (inr e) = e ∙ part-differs (omega arith) e
 
-module _ (t : List ℕ) (p q n : ℕ) where
-  -- Nothing compared yet.
-  pub none-compared : sameList (substring t (p + 0) (n - 0)) (substring t (q + 0) (n - 0)) ≡ sameList (substring t p n) (substring t q n)
-  none-compared =
-      let x : p + 0 ≡ p = omega arith in
-      let y : q + 0 ≡ q = omega arith in
-      let z : n - 0 ≡ n = omega arith in
-      rw (x, y, z)
-
-  -- eight more
-  pub eight-more : (i : ℕ) → 8 ≤ n - i → p + n ≤ length t → q + n ≤ length t → ((k : ℕ) → getD t k 0 < 256) → eightAt t (p + i) ≡ eightAt t (q + i)
-      → sameList (substring t (p + (i + 8)) (n - (i + 8))) (substring t (q + (i + 8)) (n - (i + 8)))
-      ≡ sameList (substring t (p + i) (n - i)) (substring t (q + i) (n - i))
-  eight-more i long hp hq below e =
-      let x : p + (i + 8) ≡ p + i + 8 = omega arith in
-      let y : q + (i + 8) ≡ q + i + 8 = omega arith in
-      let z : n - (i + 8) ≡ n - i - 8 = omega arith in
-      rw (x, y, z) (eight-agree t (p + i) (q + i) (n - i) long (omega arith) (omega arith) below e)
+-- Of no bytes all are equal.
+pub none-differ : (t : List ℕ) (p q : ℕ) → sameList (substring t p 0) (substring t q 0) ≡ true
+unfolding sameList substring
+none-differ t p q = refl

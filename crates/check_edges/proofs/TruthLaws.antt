@@ -18,7 +18,7 @@ use Rattle.format.specs.WordLaws.{wordAt-lt}
 use Rattle.format.specs.LayoutLaws.{Readable, full-last, size-high, edges-inside, leaf-start-inside}
 use Rattle.theory_paths.specs.Links.{Linked, linked-facts}
 use Rattle.theory_paths.specs.BlockStarts.{len-pos, len-small, last-kept, leaf-below}
-use Rattle.theory_paths.specs.PlacesLand.{kept-block}
+use Rattle.theory_paths.specs.PlacesResolved.{kept-block}
 use Rattle.theory_edges.specs.SpanSteps.{last-step}
 use Rattle.theory_edges.specs.ChildEdges.{Full, full-facts, Part, part}
 use Rattle.theory_edges.specs.EdgesLocal.{edgeIs, ownBytes, walkedEdges, childEdges, hasFullChildren, edgesLocal, levelEdges, allEdges}

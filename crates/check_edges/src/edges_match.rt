@@ -7,9 +7,9 @@ use layout::place::BlockPlace;
 use layout::record;
 use layout::settings::Settings;
 use walk_short::gather;
+use walk_short::gather::BlockSpan;
 use walk_short::gather::Gathered;
 use walk_short::gather::Parts;
-use walk_short::gather::Stretch;
 use walk_steps::position::BlockOffset;
 use walk_steps::position::LevelAt;
 ghost use mathlib.Core.Bool.{true};
@@ -55,7 +55,7 @@ fn walked_right(t: &[u8], h: Header, level: u32, b: u32, block: BlockNumber) -> 
         first: block,
         steps: 0,
     };
-    let front = Stretch {
+    let front = BlockSpan {
         place: BlockPlace(0),
         len: own,
     };
@@ -63,7 +63,7 @@ fn walked_right(t: &[u8], h: Header, level: u32, b: u32, block: BlockNumber) -> 
     if !edge_right(t, m, at, own, first) {
         return false;
     }
-    let back = Stretch {
+    let back = BlockSpan {
         place: BlockPlace(length - own),
         len: own,
     };

@@ -13,10 +13,11 @@ use Rattle.text.specs.ListLaws.{and-left}
 use Rattle.format.specs.Layout.{plainWords, startField, pieces, maxText}
 use Rattle.format.specs.Layout as at
 use Rattle.format.specs.TreeReading.{lastLevel, widthAt, keptRight, pointingRight, blockRight}
-use Rattle.format.specs.LayoutLaws.{full-pos, full-small}
+use Rattle.format.specs.LayoutLaws.{full-small}
 use Rattle.layout.specs.Record.{FieldIn, field-in}
 use Rattle.check_links.specs.declared.level_read.Level.{Level}
 use Rattle.check_links.specs.LevelAsked.{LevelOf, partLength, roomBelow, childAsCut, targetRight, nextRight}
+use Rattle.check_links.proofs.LevelReadLaws.{part-fits}
 
 pub pieces-one : (x : ℕ) → pieces x 1 ≡ x
 unfolding pieces
@@ -51,16 +52,11 @@ module _ (t : List ℕ) (v : Level) (k : LevelOf t v) where
   pub full-high : v .full ≤ maxText
   full-high = omega (arith, k .full-is, full-small t (k .header-read) (v .number))
 
-  part-bounds : (b : Bool) → eqb (v .number) (lastLevel t) ≡ b → (0 < v .part) × (v .part ≤ maxText)
-  unfolding partLength
-  part-bounds true e = rw (k .part-is, e) (omega arith, omega arith)
-  part-bounds false e = rw (k .part-is, e) (full-pos t (k .header-read) (v .number + 1), full-small t (k .header-read) (v .number + 1))
-
   pub part-low : 0 < v .part
-  part-low = part-bounds _ refl .0
+  part-low = part-fits t (k .header-read) (v .number) (v .part) (k .part-is) .0
 
   pub part-high : v .part ≤ maxText
-  part-high = part-bounds _ refl .1
+  part-high = part-fits t (k .header-read) (v .number) (v .part) (k .part-is) .1
 
   pub kept-kind : (i kind : ℕ) → kind ≡ at.kind t (v .number) i → kind ≡ 0 → at.isKept t (v .number) i ≡ true
   unfolding at.isKept
@@ -89,6 +85,10 @@ module _ (t : List ℕ) (v : Level) (k : LevelOf t v) where
       → w ≡ pieces len (v .part) → w ≡ widthAt t (v .number) i
   width-kept i start len w kept s e q =
       q ∙ ap (λ (x : ℕ). pieces x (v .part)) (length-is i start len s e) ∙ width-cases i _ refl kept
+
+  pub width-full : (i start len : ℕ) → at.isKept t (v .number) i ≡ true → start ≡ at.start t (v .number) i → len ≡ min (v .full) (v .length - start)
+      → len ≡ v .full → v .most ≡ widthAt t (v .number) i
+  width-full i start len kept s e q = width-kept i start len (v .most) kept s e (k .most-is ∙ ap (λ (x : ℕ). pieces x (v .part)) (sym q))
 
   -- The children.
   module _ (start link j child : ℕ) (n : v .number ≡ v .last → ⊥) (c : child ≡ at.start t (v .number + 1) (link + j)) where

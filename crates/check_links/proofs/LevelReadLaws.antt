@@ -1,19 +1,30 @@
 -- The header's words as the accessors of `Layout` name them, and the parts of a level.
 use mathlib.Core.List.{List}
 use mathlib.Core.Logic.{_≢_}
-use mathlib.Core.Path.{_≡_, sym, ap, _∙_}
+use mathlib.Core.Bool.{Bool, true, false}
+use mathlib.Core.Path.{_≡_, refl, sym, ap, _∙_}
 use Prim.Native.Nat.{ℕ, _+_, _-_, _/_, _≤_, _<_}
 use native.Mathlib.Nat.{mul-div-cancel}
 use native.Mathlib.Omega.{arith}
 use borrow.Author.Tests.{eq-eqb, ne-eqb}
+use lib.Dec.{eqb}
 use lib.ListN.{length}
-use Rattle.format.specs.Layout.{maxLevels, headerLength}
+use Rattle.format.specs.Layout.{maxLevels, maxText, headerLength}
 use Rattle.format.specs.Layout as at
 use Rattle.format.specs.TreeReading.{lastLevel}
-use Rattle.format.specs.LayoutLaws.{full-step}
+use Rattle.format.specs.LayoutLaws.{Readable, full-pos, full-small, full-step}
 use Rattle.layout.specs.declared.header.Header.{Header}
 use Rattle.layout.specs.HeaderFields.{HeaderOf}
 use Rattle.check_links.specs.LevelAsked.{partLength, roomBelow}
+
+-- The size that the blocks of a level are cut by.
+pub part-fits : (t : List ℕ) → Readable t → (l part : ℕ) → part ≡ partLength t l → (0 < part) × (part ≤ maxText)
+unfolding partLength
+part-fits t k l part part-is = go (eqb l (lastLevel t)) refl
+  where
+    go : (b : Bool) → eqb l (lastLevel t) ≡ b → (0 < part) × (part ≤ maxText)
+    go true e = rw (part-is, e) (omega arith, omega arith)
+    go false e = rw (part-is, e) (full-pos t k (l + 1), full-small t k (l + 1))
 
 module _ (t : List ℕ) (h : Header) (k : HeaderOf t h) where
   pub levels-is : h .settings .levels ≡ at.settings t .levels

@@ -28,6 +28,7 @@ pub record LevelOf (t : List ℕ) (v : Level) : Type 0 where
   pub count-is : v .count ≡ at.levelCount t (v .number)
   pub full-is : v .full ≡ at.fullLength t (v .number)
   pub part-is : v .part ≡ partLength t (v .number)
+  pub most-is : v .most ≡ at.pieces (v .full) (v .part)
   pub room-is : v .room ≡ roomBelow t (v .number)
 
 -- Parts of question 8, as the code tests them.

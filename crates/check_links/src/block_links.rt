@@ -22,7 +22,11 @@ pub fn width(t: &[u8], v: Level, block: BlockNumber) -> u32
         return 0;
     }
     let start = record::start(t, v.size, v.number, block);
-    settings::pieces(cut::length_from(v.length, start, v.full), v.part)
+    let length = cut::length_from(v.length, start, v.full);
+    if length == v.full {
+        return v.most;
+    }
+    settings::pieces(length, v.part)
 }
 
 // Whether a block is linked correctly. The blocks before it have `before` children, this one has `width`, and the next level has room for them all.

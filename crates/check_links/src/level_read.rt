@@ -1,6 +1,7 @@
 // The figures of a level that its blocks are checked against.
 use layout::header::Header;
 use layout::record;
+use layout::settings;
 ghost use mathlib.Core.Path.{_≡_};
 ghost use Prim.Native.Nat.{_<_};
 ghost use Rattle.format.specs.Layout as at;
@@ -22,6 +23,8 @@ pub struct Level {
     pub full: u32,
     // The block length of the next level; 1 on the last level, whose blocks have leaf bytes.
     pub part: u32,
+    // The number of children, or of leaf bytes, of a full block.
+    pub most: u32,
     // The number of blocks of the next level, or of leaf bytes.
     pub room: u32,
 }
@@ -31,6 +34,7 @@ pub fn level_of(t: &[u8], h: Header, number: u32, full: u32) -> Level
     requires { ⌜ HeaderOf (now t) h × (number < h .settings .levels) × (full ≡ at.fullLength (now t) number) ⌝ }
     ensures { λ r. ⌜ LevelOf (now (t .entry)) r × (r .number ≡ number) ⌝ }
 {
+    let part = part_length(t, h, number, full);
     Level {
         number,
         last: h.settings.levels - 1,
@@ -38,7 +42,8 @@ pub fn level_of(t: &[u8], h: Header, number: u32, full: u32) -> Level
         length: h.text_length,
         count: record::level_count(t, number),
         full,
-        part: part_length(t, h, number, full),
+        part,
+        most: settings::pieces(full, part),
         room: room_below(t, h, number),
     }
 }

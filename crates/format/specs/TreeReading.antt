@@ -56,20 +56,20 @@ module _ (t : List ℕ) where
   targetPlace l i o = cond (ltb (at.gap t l i + o) (at.fullLength t l)) (at.gap t l i + o) (at.gap t l i + o - at.fullLength t l)
 
   -- The kept block of level l that contains the bytes of place o of block i: i itself, or its target.
-  unfoldable pub landBlock : ℕ → ℕ → ℕ → ℕ
-  landBlock l i o = cond (keptBlock l i) i (targetBlock l i o)
+  unfoldable pub resolvedBlock : ℕ → ℕ → ℕ → ℕ
+  resolvedBlock l i o = cond (keptBlock l i) i (targetBlock l i o)
 
   -- The place in that kept block.
-  unfoldable pub landPlace : ℕ → ℕ → ℕ → ℕ
-  landPlace l i o = cond (keptBlock l i) o (targetPlace l i o)
+  unfoldable pub resolvedPlace : ℕ → ℕ → ℕ → ℕ
+  resolvedPlace l i o = cond (keptBlock l i) o (targetPlace l i o)
 
   -- The visits that lead to that kept block.
-  unfoldable pub landVisits : ℕ → ℕ → ℕ → List Visit
-  landVisits l i o = cond (keptBlock l i) (visit l i o ∷ []) (visit l i o ∷ visit l (targetBlock l i o) (targetPlace l i o) ∷ [])
+  unfoldable pub resolvedVisits : ℕ → ℕ → ℕ → List Visit
+  resolvedVisits l i o = cond (keptBlock l i) (visit l i o ∷ []) (visit l i o ∷ visit l (targetBlock l i o) (targetPlace l i o) ∷ [])
 
   -- Whether that kept block exists: i is kept, or i points and its target is kept.
-  unfoldable pub lands : ℕ → ℕ → ℕ → Bool
-  lands l i o = keptBlock l i || (pointingBlock l i && keptBlock l (targetBlock l i o))
+  unfoldable pub resolves : ℕ → ℕ → ℕ → Bool
+  resolves l i o = keptBlock l i || (pointingBlock l i && keptBlock l (targetBlock l i o))
 
   -- The path from place o of block i of level l, with `below` levels under it. There is none if it leaves the tables, meets a kind above 1, a pointing block
   -- after a pointing one or on the last level, or a gap that is not below the block length.
@@ -78,10 +78,10 @@ module _ (t : List ℕ) where
       provided (keptBlock l i && ltb (at.link t l i + o) (at.leafCount t))
       (some (record { visits = visit l i o ∷ []; leaf = at.link t l i + o }))
   pathFrom (suc below) l i o =
-      let j = landBlock l i o in
-      let p = landPlace l i o in
+      let j = resolvedBlock l i o in
+      let p = resolvedPlace l i o in
       let child = at.fullLength t (l + 1) in
-      provided (lands l i o) (entered (landVisits l i o) (pathFrom below (l + 1) (at.link t l j + p / child) (p % child)))
+      provided (resolves l i o) (entered (resolvedVisits l i o) (pathFrom below (l + 1) (at.link t l j + p / child) (p % child)))
 
   -- The path of place p of the text.
   unfoldable pub pathOf : ℕ → Option Path
@@ -130,11 +130,11 @@ module _ (t : List ℕ) where
   shortFrom zero l i o len = cond (leb (o + len) (at.fullLength t l)) (inLeaf l i o len) (byEdges l i o)
   shortFrom (suc below) l i o len =
       let b = at.fullLength t l in
-      let j = landBlock t l i o in
-      let p = landPlace t l i o in
+      let j = resolvedBlock t l i o in
+      let p = resolvedPlace t l i o in
       let child = at.fullLength t (l + 1) in
       let down = shortFrom below (l + 1) (at.link t l j + p / child) (p % child) len in
-      let inside = provided (lands t l i o) (led (landVisits t l i o) down) in
+      let inside = provided (resolves t l i o) (led (resolvedVisits t l i o) down) in
       let between = provided (pointingBlock t l i) (led (visit l i o ∷ []) (byEdges l j p)) in
       cond (leb (o + len) b) (cond (leb (p + len) b) inside between) (byEdges l i o)
 

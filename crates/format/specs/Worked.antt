@@ -13,8 +13,8 @@ use Rattle.format.specs.Layout.{Settings, blockLength, pieces, recordLen
 use Rattle.format.specs.Blocks.{treeOf, header, leafBytes, levelPairs, recordBytes, levelBytes, recordIn, recordOf, target, occurrence, width}
 use Rattle.format.specs.Blocks.{isKept, startsAt, cut, keptByPairs, firstPairAt, pairAt, lengthOf, startOf}
 use Rattle.format.specs.Layout as at
-use Rattle.format.specs.TreeReading.{pathOf, pathFrom, visit, targetPlace, targetBlock, pointingBlock, keptBlock, lands, landBlock, landPlace}
-use Rattle.format.specs.TreeReading.{landVisits}
+use Rattle.format.specs.TreeReading.{pathOf, pathFrom, visit, targetPlace, targetBlock, pointingBlock, keptBlock, resolves, resolvedBlock, resolvedPlace}
+use Rattle.format.specs.TreeReading.{resolvedVisits}
 use Rattle.format.specs.TreeReading.{shortOf, shortFrom, byEdges, inLeaf}
 use Rattle.format.specs.TreeReading.{linksOk, textOf, countsTrue, edgesTrue, blockEdgesTrue, lastLevel, widthAt, keptRight, pointingRight}
 use Rattle.format.specs.FittingText.{fits, blockFits}
@@ -147,15 +147,15 @@ pub record Marked : Type 0 where
 
 pub marked : Marked
 unfolding shape spanned other-kinds other-start pointing-two leaf-two other-end other-first words older older-twelve abcd answered book two plain tabulate
-    concat sumBelow countBelow allBelow sameList setWord wordAt wordsBytes wordBytes substring leftmost firstFrom countIn placeOf placeIn blockLength
-    pieces lengthOk sizesOk countedOk rising risingAfter treeOf header leafBytes levelPairs recordBytes recordLength edgesOf filledOut levelBytes
-    recordIn recordOf target occurrence width isKept startsAt cut keptByPairs firstPairAt pairAt lengthOf startOf pathOf pathFrom targetPlace
-    targetBlock pointingBlock keptBlock lands landBlock landPlace landVisits shortOf shortFrom byEdges inLeaf linksOk textOf fits countsTrue edgesTrue
-    blockEdgesTrue lastLevel widthAt keptRight pointingRight blockRight countBelowRight blockFits blockCountsTrue checkResult headerResult at.leafByte
-    byteAnswer countAnswer runAnswer spanQuestions bufferAfter isShort spanReached spanBytes spanBlocks spanRefusal spanAnswer spanBuffer findRefusal indexOf
-    leftOver pathsHold added addedAfter taken takenAfter lastPlace leavesReached isCounted numberOfByte total found at.blockLengthAt at.levelCount
-    at.levelOffset at.layout at.textLength at.countedCount at.settings at.leafOffset at.leafCount at.recordSize at.field at.start at.kind at.link
-    at.gap at.before at.inside at.skip at.edgesAt at.fullLength at.isKept at.isPointing at.hasEdges at.holdsHeader at.layoutOk at.headerOk
+    concat sumBelow countBelow allBelow sameList setWord wordAt wordsBytes wordBytes substring leftmost firstFrom countIn placeOf placeIn blockLength pieces
+    lengthOk sizesOk countedOk rising risingAfter treeOf header leafBytes levelPairs recordBytes recordLength edgesOf filledOut levelBytes recordIn recordOf
+    target occurrence width isKept startsAt cut keptByPairs firstPairAt pairAt lengthOf startOf pathOf pathFrom targetPlace targetBlock pointingBlock keptBlock
+    resolves resolvedBlock resolvedPlace resolvedVisits shortOf shortFrom byEdges inLeaf linksOk textOf fits countsTrue edgesTrue blockEdgesTrue lastLevel
+    widthAt keptRight pointingRight blockRight countBelowRight blockFits blockCountsTrue checkResult headerResult at.leafByte byteAnswer countAnswer runAnswer
+    spanQuestions bufferAfter isShort spanReached spanBytes spanBlocks spanRefusal spanAnswer spanBuffer findRefusal indexOf leftOver pathsHold added addedAfter
+    taken takenAfter lastPlace leavesReached isCounted numberOfByte total found at.blockLengthAt at.levelCount at.levelOffset at.layout at.textLength
+    at.countedCount at.settings at.leafOffset at.leafCount at.recordSize at.field at.start at.kind at.link at.gap at.before at.inside at.skip at.edgesAt
+    at.fullLength at.isKept at.isPointing at.hasEdges at.holdsHeader at.layoutOk at.headerOk
 marked = record {
   level0 = refl;
   level1 = (refl, refl);
@@ -228,16 +228,14 @@ pub record Empty : Type 0 where
 
 pub empty : Empty
 unfolding spanned no-bytes-tree laid-out answered two tabulate concat sumBelow countBelow allBelow sameList setWord wordAt wordsBytes wordBytes substring
-    leftmost firstFrom countIn placeOf placeIn blockLength pieces lengthOk sizesOk countedOk rising risingAfter treeOf header leafBytes levelPairs
-    recordBytes recordLength edgesOf filledOut levelBytes recordIn recordOf target occurrence width isKept startsAt cut keptByPairs firstPairAt pairAt
-    lengthOf startOf pathOf pathFrom targetPlace targetBlock pointingBlock keptBlock lands landBlock landPlace landVisits shortOf shortFrom byEdges
-    inLeaf linksOk textOf fits countsTrue edgesTrue blockEdgesTrue lastLevel widthAt keptRight pointingRight blockRight countBelowRight blockFits
-    blockCountsTrue checkResult headerResult at.leafByte byteAnswer countAnswer runAnswer spanQuestions bufferAfter isShort spanReached spanBytes spanBlocks
-    spanRefusal
-    spanAnswer spanBuffer findRefusal indexOf leftOver pathsHold added addedAfter taken takenAfter lastPlace leavesReached isCounted numberOfByte total
-    found at.blockLengthAt at.levelCount at.levelOffset at.layout at.textLength at.countedCount at.settings at.leafOffset at.leafCount at.recordSize
-    at.field at.start at.kind at.link at.gap at.before at.inside at.skip at.edgesAt at.fullLength at.isKept at.isPointing at.hasEdges at.holdsHeader
-    at.layoutOk at.headerOk
+    leftmost firstFrom countIn placeOf placeIn blockLength pieces lengthOk sizesOk countedOk rising risingAfter treeOf header leafBytes levelPairs recordBytes
+    recordLength edgesOf filledOut levelBytes recordIn recordOf target occurrence width isKept startsAt cut keptByPairs firstPairAt pairAt lengthOf startOf
+    pathOf pathFrom targetPlace targetBlock pointingBlock keptBlock resolves resolvedBlock resolvedPlace resolvedVisits shortOf shortFrom byEdges inLeaf linksOk
+    textOf fits countsTrue edgesTrue blockEdgesTrue lastLevel widthAt keptRight pointingRight blockRight countBelowRight blockFits blockCountsTrue checkResult
+    headerResult at.leafByte byteAnswer countAnswer runAnswer spanQuestions bufferAfter isShort spanReached spanBytes spanBlocks spanRefusal spanAnswer
+    spanBuffer findRefusal indexOf leftOver pathsHold added addedAfter taken takenAfter lastPlace leavesReached isCounted numberOfByte total found
+    at.blockLengthAt at.levelCount at.levelOffset at.layout at.textLength at.countedCount at.settings at.leafOffset at.leafCount at.recordSize at.field at.start
+    at.kind at.link at.gap at.before at.inside at.skip at.edgesAt at.fullLength at.isKept at.isPointing at.hasEdges at.holdsHeader at.layoutOk at.headerOk
 empty = record {
   bytes = refl;
   size = refl;

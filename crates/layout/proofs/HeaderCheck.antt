@@ -18,7 +18,7 @@ use Rattle.layout.specs.declared.settings.Settings.{Settings}
 use Rattle.layout.specs.declared.settings.SettingsAnswer.{SettingsAnswer}
 use Rattle.layout.specs.declared.settings.SettingsAnswer.the-variants.{Fine, Refused}
 use Rattle.layout.specs.CheckedSettings as given
-use Rattle.layout.specs.Header.{settingsOf, settingsSay, startRight, follows, tablesMeet, restRight, spareCounted, spareLevels, HasSettings}
+use Rattle.layout.specs.Header.{settingsOf, settingsAnswer, startRight, follows, tablesMeet, restRight, spareCounted, spareLevels, HasSettings}
 
 -- The first conditions of question 7, and the rest of them.
 three-first : (a b c : Bool) → a ≡ false → false ≡ (a && b && c)
@@ -76,8 +76,8 @@ pub settings-are : (t : List ℕ) (s : Settings) → HasSettings t s → s ≡ s
 settings-are t s h = λ i. record { leaf = h .leaf-is i; arity = h .arity-is i; levels = h .levels-is i; counted = h .counted-is i }
 
 -- A header whose first conditions fail has no settings.
-pub wrong : (t : List ℕ) → false ≡ startRight t → Refused 7 ≡ settingsSay t
-unfolding settingsSay
+pub wrong : (t : List ℕ) → false ≡ startRight t → Refused 7 ≡ settingsAnswer t
+unfolding settingsAnswer
 wrong t e = rw (← e)
 
 module _ (t : List ℕ) (n : ℕ) (n-is : n ≡ wordAt t textLengthAt) where
@@ -163,10 +163,10 @@ module _ (t : List ℕ) (m r H k : ℕ)
     header-refused q x e f = ⊎-elim header-sizes header-counted (refused-is q sizes-fit (at.countedOk part) there (sym f ∙ e))
 
     module _ (n : ℕ) (n-is : n ≡ wordAt t textLengthAt)
-        (high : n ≤ maxText) (s : Settings) (x : SettingsAnswer) (said : x ≡ given.checked m r H part) (is : x ≡ Fine s) where
+        (high : n ≤ maxText) (s : Settings) (x : SettingsAnswer) (x-is : x ≡ given.checked m r H part) (is : x ≡ Fine s) where
       fine : Fine s ≡ cond sizes-fit (cond (at.countedOk part) (Fine there) (Refused 3)) (Refused 2)
       unfolding given.checked
-      fine = sym is ∙ said
+      fine = sym is ∙ x-is
 
       fit : sizes-fit ≡ true
       fit = fine-sizes s sizes-fit (at.countedOk part) there fine
@@ -188,6 +188,6 @@ module _ (t : List ℕ) (m r H k : ℕ)
             bounds = rw (← n-is) (within-bounds n (length part) (sizes m r H) high fit (rw size few));
           })
 
-      pub settings-fine : headerLength ≤ length t → Fine s ≡ settingsSay t
-      unfolding settingsSay
+      pub settings-fine : headerLength ≤ length t → Fine s ≡ settingsAnswer t
+      unfolding settingsAnswer
       settings-fine long = rw (start-right, settings-are t s (has-settings long))

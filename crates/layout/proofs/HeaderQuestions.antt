@@ -18,7 +18,7 @@ use Rattle.layout.specs.declared.header.HeaderAnswer.the-variants.{Good,
 use Rattle.layout.specs.declared.settings.Settings.{Settings}
 use Rattle.layout.specs.declared.settings.SettingsAnswer.{SettingsAnswer}
 use Rattle.layout.specs.declared.settings.SettingsAnswer.the-variants as settings
-use Rattle.layout.specs.Header.{headerAnswer, settingsOf, settingsSay, startRight, restRight, HasSettings, fieldsOf}
+use Rattle.layout.specs.Header.{headerAnswer, settingsOf, settingsAnswer, startRight, restRight, HasSettings, fieldsOf}
 use Rattle.layout.proofs.HeaderCheck.{counted, header-both}
 
 -- What the settings of a header tell of question 7.
@@ -30,12 +30,12 @@ refused-cases : (b : Bool) (q : ℕ) (r : Settings) → settings.Refused q ≡ c
 refused-cases true q r e = absurd (let z : _≡_ {A = ℕ} 0 1 = cc in omega arith)
 refused-cases false q r e = refl
 
-settings-within : (t : List ℕ) (s : Settings) → settings.Fine s ≡ settingsSay t → (startRight t ≡ true) × (s ≡ settingsOf t)
-unfolding settingsSay
+settings-within : (t : List ℕ) (s : Settings) → settings.Fine s ≡ settingsAnswer t → (startRight t ≡ true) × (s ≡ settingsOf t)
+unfolding settingsAnswer
 settings-within t s e = fine-cases (startRight t) s (settingsOf t) e
 
-settings-refused : (t : List ℕ) (q : ℕ) → settings.Refused q ≡ settingsSay t → headerOk t ≡ false
-unfolding settingsSay
+settings-refused : (t : List ℕ) (q : ℕ) → settings.Refused q ≡ settingsAnswer t → headerOk t ≡ false
+unfolding settingsAnswer
 settings-refused t q e = header-both t ∙ rw (refused-cases (startRight t) q (settingsOf t) e)
 
 -- The settings that were checked are within their bounds.
@@ -73,7 +73,7 @@ module _ (t : List ℕ) where
     unfolding headerAnswer headerResult holdsHeader
     asked-6 h = rw (le-leb headerLength (length t) long, sym layout-is ∙ h)
 
-    module _ (l : (eqb v 1 || eqb v 2) ≡ true) (x : SettingsAnswer) (says : x ≡ settingsSay t) where
+    module _ (l : (eqb v 1 || eqb v 2) ≡ true) (x : SettingsAnswer) (says : x ≡ settingsAnswer t) where
       pub asked-7 : (q : ℕ) → x ≡ settings.Refused q → Refused 7 ≡ headerAnswer t
       unfolding headerAnswer headerResult holdsHeader
       asked-7 q e = rw (le-leb headerLength (length t) long, sym layout-is ∙ l, settings-refused t q (sym e ∙ says))

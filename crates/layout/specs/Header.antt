@@ -30,8 +30,8 @@ startRight t =
     && (leb (at.countedCount t) maxCounted && at.countedOk (at.settings t .counted))
 
 -- The settings, if these conditions hold.
-unfoldable pub settingsSay : List ℕ → SettingsAnswer
-settingsSay t = cond (startRight t) (Fine (settingsOf t)) (settings.Refused 7)
+unfoldable pub settingsAnswer : List ℕ → SettingsAnswer
+settingsAnswer t = cond (startRight t) (Fine (settingsOf t)) (settings.Refused 7)
 
 -- The words of the header, and the lengths of a level 0 block and of a record.
 abbrev pub fieldsOf : List ℕ → Header

@@ -10,7 +10,7 @@ ghost use lib.ListN.{length};
 ghost use lib.Dec.{eqb};
 ghost use Rattle.format.specs.Layout.{maxLevels, maxCounted, headerLength, recordSize};
 ghost use Rattle.format.specs.SizeLaws.{maxRecord};
-ghost use Rattle.layout.specs.Header.{headerAnswer, restRight, spareCounted, spareLevels, tablesMeet, HasSettings, settingsSay, fieldsOf};
+ghost use Rattle.layout.specs.Header.{headerAnswer, restRight, spareCounted, spareLevels, tablesMeet, HasSettings, settingsAnswer, fieldsOf};
 
 // Offsets in the header. Six words and the bytes for counted bytes.
 pub const LAYOUT_AT: usize = 0;
@@ -117,7 +117,7 @@ fn fields(t: &[u8], settings: Settings) -> Header
 // The first conditions of question 7: the length of the text and the settings, if they are within their bounds.
 fn header_settings(t: &[u8]) -> SettingsAnswer
     requires { ⌜ headerLength ≤ length (now t) ⌝ }
-    ensures { λ r. ⌜ r ≡ settingsSay (now (t .entry)) ⌝ }
+    ensures { λ r. ⌜ r ≡ settingsAnswer (now (t .entry)) ⌝ }
 {
     let n = word::read(t, TEXT_LENGTH_AT);
     if Settings::MAX_TEXT < n {

@@ -9,25 +9,25 @@ use lib.Dec.{ltb, leb}
 use borrow.Author.Tests.{lt-ltb, le-ltb}
 use Rattle.licence.specs.declared.calendar.Date.{Date}
 use Rattle.licence.specs.declared.OpenOnAnswer.{OpenOnAnswer}
-use Rattle.licence.specs.declared.OpenOnAnswer.the-variants as opened
-use Rattle.licence.specs.declared.DaysLeftAnswer.the-variants as left
+use Rattle.licence.specs.declared.OpenOnAnswer.the-variants as open-on
+use Rattle.licence.specs.declared.DaysLeftAnswer.the-variants as days-left
 use Rattle.licence.specs.Licence.{renewed, isDay, dateIn, written, numberIn, openOnRefusal, openOn, daysLeftRefusal, daysLeft, renewRefusal, renewBuffer}
 use Rattle.licence.specs.Licence.{IsOpenOnAnswer, IsDaysLeftAnswer}
 use Rattle.licence.specs.TermSteps.{licence-between}
 
 -- Open.
 module _ (first last today : List ℕ) where
-  open-22 : (a : (isDay first && isDay last && isDay today) ≡ false) → IsOpenOnAnswer first last today (opened.Refused 22)
+  open-22 : (a : (isDay first && isDay last && isDay today) ≡ false) → IsOpenOnAnswer first last today (open-on.Refused 22)
   unfolding openOnRefusal openOn
   open-22 a = record { number-is = rw a; open-is = rw a; numbered = omega arith }
 
-  pub first-bad : isDay first ≡ false → IsOpenOnAnswer first last today (opened.Refused 22)
+  pub first-bad : isDay first ≡ false → IsOpenOnAnswer first last today (open-on.Refused 22)
   first-bad f = open-22 (rw f)
 
-  pub last-bad : isDay first ≡ true → isDay last ≡ false → IsOpenOnAnswer first last today (opened.Refused 22)
+  pub last-bad : isDay first ≡ true → isDay last ≡ false → IsOpenOnAnswer first last today (open-on.Refused 22)
   last-bad f l = open-22 (rw (f, l))
 
-  pub today-bad : isDay first ≡ true → isDay last ≡ true → isDay today ≡ false → IsOpenOnAnswer first last today (opened.Refused 22)
+  pub today-bad : isDay first ≡ true → isDay last ≡ true → isDay today ≡ false → IsOpenOnAnswer first last today (open-on.Refused 22)
   today-bad f l t = open-22 (rw (f, l, t))
 
   module _ (f : isDay first ≡ true) (l : isDay last ≡ true) (t : isDay today ≡ true) where
@@ -36,7 +36,7 @@ module _ (first last today : List ℕ) where
     number-of = rw (f, l, t)
 
     by : (x y : Bool) → ltb (numberIn last) (numberIn first) ≡ x → (leb (numberIn first) (numberIn today) && leb (numberIn today) (numberIn last)) ≡ y
-        → IsOpenOnAnswer first last today (cond x (opened.Refused 23) (cond y opened.Open opened.Closed))
+        → IsOpenOnAnswer first last today (cond x (open-on.Refused 23) (cond y open-on.Open open-on.Closed))
     unfolding openOn
     by true y e g = let n : openOnRefusal first last today ≡ 23 = number-of ∙ rw e in record { number-is = sym n; open-is = rw n; numbered = omega arith }
     by false true e g = let n : openOnRefusal first last today ≡ 0 = number-of ∙ rw e in record { number-is = sym n; open-is = rw n (sym g); numbered = tt }
@@ -51,18 +51,18 @@ module _ (first last today : List ℕ) where
 
 -- Days left.
 module _ (last today : List ℕ) where
-  left-22 : (isDay last && isDay today) ≡ false → IsDaysLeftAnswer last today (left.Refused 22)
+  left-22 : (isDay last && isDay today) ≡ false → IsDaysLeftAnswer last today (days-left.Refused 22)
   unfolding daysLeftRefusal daysLeft
   left-22 a = record { number-is = rw a; days-is = rw a; numbered = omega arith }
 
-  pub left-last : isDay last ≡ false → IsDaysLeftAnswer last today (left.Refused 22)
+  pub left-last : isDay last ≡ false → IsDaysLeftAnswer last today (days-left.Refused 22)
   left-last l = left-22 (rw l)
 
-  pub left-today : isDay last ≡ true → isDay today ≡ false → IsDaysLeftAnswer last today (left.Refused 22)
+  pub left-today : isDay last ≡ true → isDay today ≡ false → IsDaysLeftAnswer last today (days-left.Refused 22)
   left-today l t = left-22 (rw (l, t))
 
   pub left-days : isDay last ≡ true → isDay today ≡ true → (a b : ℕ) → a ≡ numberIn last → b ≡ numberIn today → (z : ℤ) → z ≡ pos a -ℤ pos b
-      → IsDaysLeftAnswer last today (left.Days z)
+      → IsDaysLeftAnswer last today (days-left.Days z)
   unfolding daysLeftRefusal daysLeft
   left-days l t a b p q z is = record { number-is = rw (l, t); days-is = is ∙ rw (l, t, p, q); numbered = tt }
 

@@ -16,9 +16,9 @@ use Rattle.theory_adequacy.specs.TotalCorrectness.{TotallyCorrect}
 use Rattle.theory_adequacy.specs.Preconditions.{NoPrecondition, Call, call, Each, each-ends, each-asks-nothing}
 use Rattle.text.specs.ListLaws.{and-left, and-right, and-false, bool-clash, lt-or-ge}
 use Rattle.licence.specs.declared.OpenOnAnswer.{OpenOnAnswer}
-use Rattle.licence.specs.declared.OpenOnAnswer.the-variants as opened
+use Rattle.licence.specs.declared.OpenOnAnswer.the-variants as open-on-answer
 use Rattle.licence.specs.declared.DaysLeftAnswer.{DaysLeftAnswer}
-use Rattle.licence.specs.declared.DaysLeftAnswer.the-variants as left
+use Rattle.licence.specs.declared.DaysLeftAnswer.the-variants as days-left-answer
 use Rattle.licence.specs.Licence.{dayNumber, renewed, isDay, dateIn, written, numberIn}
 use Rattle.licence.specs.Licence.{openOnRefusal, openOn, daysLeftRefusal, daysLeft, renewRefusal, renewBuffer}
 use Rattle.licence.specs.CalendarDays.{earlier}
@@ -87,21 +87,22 @@ module _ (xs ys : List ℕ) (a : isDay xs ≡ true) (b : isDay ys ≡ true) wher
   order-is = order-by (earlier (dateIn ys) (dateIn xs)) refl
 
 -- An answer of `open_on` by its number and figure.
-refused-open : (r : OpenOnAnswer) (n : ℕ) → openOnReplyRefusal r ≡ suc n → r ≡ opened.Refused (suc n)
-refused-open opened.Open n e = absurd (let x : ⊥ = omega arith in x)
-refused-open opened.Closed n e = absurd (let x : ⊥ = omega arith in x)
-refused-open (opened.Refused number) n e = ap opened.Refused e
+refused-open : (r : OpenOnAnswer) (n : ℕ) → openOnReplyRefusal r ≡ suc n → r ≡ open-on-answer.Refused (suc n)
+refused-open open-on-answer.Open n e = absurd (let x : ⊥ = omega arith in x)
+refused-open open-on-answer.Closed n e = absurd (let x : ⊥ = omega arith in x)
+refused-open (open-on-answer.Refused number) n e = ap open-on-answer.Refused e
 
-answered-open : (r : OpenOnAnswer) (b : Bool) → OpenedNumbered r → openOnReplyRefusal r ≡ 0 → openOnReply r ≡ b → r ≡ cond b opened.Open opened.Closed
-answered-open opened.Open true k e g = refl
-answered-open opened.Open false k e g = bool-clash true refl g
-answered-open opened.Closed true k e g = bool-clash false g refl
-answered-open opened.Closed false k e g = refl
-answered-open (opened.Refused number) b k e g = absurd (let x : ⊥ = omega arith in x)
+answered-open : (r : OpenOnAnswer) (b : Bool) → OpenedNumbered r → openOnReplyRefusal r ≡ 0 → openOnReply r ≡ b
+    → r ≡ cond b open-on-answer.Open open-on-answer.Closed
+answered-open open-on-answer.Open true k e g = refl
+answered-open open-on-answer.Open false k e g = bool-clash true refl g
+answered-open open-on-answer.Closed true k e g = bool-clash false g refl
+answered-open open-on-answer.Closed false k e g = refl
+answered-open (open-on-answer.Refused number) b k e g = absurd (let x : ⊥ = omega arith in x)
 
 module _ (κs : Lfts 3) (first last today : LicenceLent) (r : OpenOnAnswer) (a : OpenOn κs first last today r) where
   -- Refused with 22: one of the three days is no date.
-  pub open-no-date : (isDay (now first) && isDay (now last) && isDay (now today)) ≡ false → r ≡ opened.Refused 22
+  pub open-no-date : (isDay (now first) && isDay (now last) && isDay (now today)) ≡ false → r ≡ open-on-answer.Refused 22
   unfolding openOnRefusal
   open-no-date h = refused-open r 21 (a .number-is ∙ rw h)
 
@@ -111,7 +112,7 @@ module _ (κs : Lfts 3) (first last today : LicenceLent) (r : OpenOnAnswer) (a :
     number-is = rw (f, l, t, order-is (now first) (now last) f l .0)
 
     -- Refused with 23 after it: the last day is earlier than the first.
-    pub open-turned : earlier (dateIn (now last)) (dateIn (now first)) ≡ true → r ≡ opened.Refused 23
+    pub open-turned : earlier (dateIn (now last)) (dateIn (now first)) ≡ true → r ≡ open-on-answer.Refused 23
     open-turned h = refused-open r 22 (a .number-is ∙ number-is ∙ rw h)
 
     -- today is neither before the first day nor after the last
@@ -119,7 +120,7 @@ module _ (κs : Lfts 3) (first last today : LicenceLent) (r : OpenOnAnswer) (a :
     fromTo = not (earlier (dateIn (now today)) (dateIn (now first))) && not (earlier (dateIn (now last)) (dateIn (now today)))
 
     -- Open on the first day, on the last and on those between, closed on others.
-    pub open-from-to : earlier (dateIn (now last)) (dateIn (now first)) ≡ false → r ≡ cond fromTo opened.Open opened.Closed
+    pub open-from-to : earlier (dateIn (now last)) (dateIn (now first)) ≡ false → r ≡ cond fromTo open-on-answer.Open open-on-answer.Closed
     unfolding openOn
     open-from-to h =
         let n : openOnRefusal (now first) (now last) (now today) ≡ 0 = number-is ∙ rw h in
@@ -128,13 +129,13 @@ module _ (κs : Lfts 3) (first last today : LicenceLent) (r : OpenOnAnswer) (a :
         answered-open r fromTo (a .numbered) (a .number-is ∙ n) (a .open-is ∙ e)
 
 -- An answer of `days_left` by its number and figure.
-refused-left : (r : DaysLeftAnswer) (n : ℕ) → daysLeftReplyRefusal r ≡ suc n → r ≡ left.Refused (suc n)
-refused-left (left.Days z) n e = absurd (let x : ⊥ = omega arith in x)
-refused-left (left.Refused number) n e = ap left.Refused e
+refused-left : (r : DaysLeftAnswer) (n : ℕ) → daysLeftReplyRefusal r ≡ suc n → r ≡ days-left-answer.Refused (suc n)
+refused-left (days-left-answer.Days z) n e = absurd (let x : ⊥ = omega arith in x)
+refused-left (days-left-answer.Refused number) n e = ap days-left-answer.Refused e
 
-answered-left : (r : DaysLeftAnswer) (z : ℤ) → LeftNumbered r → daysLeftReplyRefusal r ≡ 0 → daysLeftReply r ≡ z → r ≡ left.Days z
-answered-left (left.Days y) z k e g = ap left.Days g
-answered-left (left.Refused number) z k e g = absurd (let x : ⊥ = omega arith in x)
+answered-left : (r : DaysLeftAnswer) (z : ℤ) → LeftNumbered r → daysLeftReplyRefusal r ≡ 0 → daysLeftReply r ≡ z → r ≡ days-left-answer.Days z
+answered-left (days-left-answer.Days y) z k e g = ap days-left-answer.Days g
+answered-left (days-left-answer.Refused number) z k e g = absurd (let x : ⊥ = omega arith in x)
 
 minus-le : (a b : ℕ) → b ≤ a → pos a -ℤ pos b ≡ pos (a - b)
 minus-le a zero h = ap pos (omega arith)
@@ -145,28 +146,28 @@ minus-lt a zero h = absurd (let x : ⊥ = omega arith in x)
 minus-lt a (suc b) h = rw (lt-ltb a (suc b) h) (ap negsuc (omega arith))
 
 module _ (κs : Lfts 2) (last today : LicenceLent) (r : DaysLeftAnswer) (a : DaysLeft κs last today r) where
-  pub left-no-date : (isDay (now last) && isDay (now today)) ≡ false → r ≡ left.Refused 22
+  pub left-no-date : (isDay (now last) && isDay (now today)) ≡ false → r ≡ days-left-answer.Refused 22
   unfolding daysLeftRefusal
   left-no-date h = refused-left r 21 (a .number-is ∙ rw h)
 
   module _ (l : isDay (now last) ≡ true) (t : isDay (now today) ≡ true) where
     -- The days left are the number of the last day minus the number of today.
-    pub days-minus : r ≡ left.Days (pos (numberIn (now last)) -ℤ pos (numberIn (now today)))
+    pub days-minus : r ≡ days-left-answer.Days (pos (numberIn (now last)) -ℤ pos (numberIn (now today)))
     unfolding daysLeft daysLeftRefusal
     days-minus = answered-left r _ (a .numbered) (a .number-is ∙ rw (l, t)) (a .days-is ∙ rw (l, t))
 
-    pub days-before : numberIn (now today) ≤ numberIn (now last) → r ≡ left.Days (pos (numberIn (now last) - numberIn (now today)))
-    days-before h = days-minus ∙ ap left.Days (minus-le (numberIn (now last)) (numberIn (now today)) h)
+    pub days-before : numberIn (now today) ≤ numberIn (now last) → r ≡ days-left-answer.Days (pos (numberIn (now last) - numberIn (now today)))
+    days-before h = days-minus ∙ ap days-left-answer.Days (minus-le (numberIn (now last)) (numberIn (now today)) h)
 
     -- On the last day they are 0.
-    pub days-last : dateIn (now today) ≡ dateIn (now last) → r ≡ left.Days (pos 0)
+    pub days-last : dateIn (now today) ≡ dateIn (now last) → r ≡ days-left-answer.Days (pos 0)
     days-last e =
         let z : numberIn (now today) ≡ numberIn (now last) = ap dayNumber e in
-        days-before (omega (arith, z)) ∙ ap (λ (k : ℕ). left.Days (pos k)) (omega (arith, z))
+        days-before (omega (arith, z)) ∙ ap (λ (k : ℕ). days-left-answer.Days (pos k)) (omega (arith, z))
 
     -- After the last day they are negative, by the days since then; `negsuc k` is -(k + 1).
-    pub days-after : numberIn (now last) < numberIn (now today) → r ≡ left.Days (negsuc (numberIn (now today) - numberIn (now last) - 1))
-    days-after h = days-minus ∙ ap left.Days (minus-lt (numberIn (now last)) (numberIn (now today)) h)
+    pub days-after : numberIn (now last) < numberIn (now today) → r ≡ days-left-answer.Days (negsuc (numberIn (now today) - numberIn (now last) - 1))
+    days-after h = days-minus ∙ ap days-left-answer.Days (minus-lt (numberIn (now last)) (numberIn (now today)) h)
 
 module _ (κs : Lfts 1) (day after : LicenceLent) where
   -- Renew leaves the renewed day (a year later, 28 for 29 February) in the buffer, and it is 365 or 366 days later.

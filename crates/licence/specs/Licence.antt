@@ -10,9 +10,9 @@ use Rattle.licence.specs.declared.calendar.Date.{Date}
 use lib.IntN.{ℤ, pos, _-ℤ_}
 use mathlib.Core.Path.{_≡_}
 use Rattle.licence.specs.declared.OpenOnAnswer.{OpenOnAnswer}
-use Rattle.licence.specs.declared.OpenOnAnswer.the-variants as opened
+use Rattle.licence.specs.declared.OpenOnAnswer.the-variants as open-on
 use Rattle.licence.specs.declared.DaysLeftAnswer.{DaysLeftAnswer}
-use Rattle.licence.specs.declared.DaysLeftAnswer.the-variants as left
+use Rattle.licence.specs.declared.DaysLeftAnswer.the-variants as days-left
 
 -- The Gregorian calendar: a date has a year, a month and a day of the month; days are numbered from 1 January 2000, which is 0.
 -- docs/FORMAT.md: "Licence dates".
@@ -125,21 +125,21 @@ module _ (day : List ℕ) where
 
 -- An answer's refusal, and whether the book is open.
 abbrev pub openOnReplyRefusal : OpenOnAnswer → ℕ
-openOnReplyRefusal opened.Open = 0
-openOnReplyRefusal opened.Closed = 0
-openOnReplyRefusal (opened.Refused number) = number
+openOnReplyRefusal open-on.Open = 0
+openOnReplyRefusal open-on.Closed = 0
+openOnReplyRefusal (open-on.Refused number) = number
 
 -- Whether an answer is open.
 abbrev pub openOnReply : OpenOnAnswer → Bool
-openOnReply opened.Open = true
-openOnReply opened.Closed = false
-openOnReply (opened.Refused number) = false
+openOnReply open-on.Open = true
+openOnReply open-on.Closed = false
+openOnReply (open-on.Refused number) = false
 
 -- A refusal is not 0.
 abbrev pub OpenedNumbered : OpenOnAnswer → Type 0
-OpenedNumbered opened.Open = Unit {0}
-OpenedNumbered opened.Closed = Unit {0}
-OpenedNumbered (opened.Refused number) = 1 ≤ number
+OpenedNumbered open-on.Open = Unit {0}
+OpenedNumbered open-on.Closed = Unit {0}
+OpenedNumbered (open-on.Refused number) = 1 ≤ number
 
 -- The answer of open_on.
 pub record IsOpenOnAnswer (first last today : List ℕ) (r : OpenOnAnswer) : Type 0 where
@@ -149,18 +149,18 @@ pub record IsOpenOnAnswer (first last today : List ℕ) (r : OpenOnAnswer) : Typ
 
 -- An answer's number, and the days that are left, below zero where they are past.
 abbrev pub daysLeftReplyRefusal : DaysLeftAnswer → ℕ
-daysLeftReplyRefusal (left.Days z) = 0
-daysLeftReplyRefusal (left.Refused number) = number
+daysLeftReplyRefusal (days-left.Days z) = 0
+daysLeftReplyRefusal (days-left.Refused number) = number
 
 -- The days that are left, negative after the last day.
 abbrev pub daysLeftReply : DaysLeftAnswer → ℤ
-daysLeftReply (left.Days z) = z
-daysLeftReply (left.Refused number) = pos 0
+daysLeftReply (days-left.Days z) = z
+daysLeftReply (days-left.Refused number) = pos 0
 
 -- A refusal is not 0.
 abbrev pub LeftNumbered : DaysLeftAnswer → Type 0
-LeftNumbered (left.Days z) = Unit {0}
-LeftNumbered (left.Refused number) = 1 ≤ number
+LeftNumbered (days-left.Days z) = Unit {0}
+LeftNumbered (days-left.Refused number) = 1 ≤ number
 
 -- The answer of days_left.
 pub record IsDaysLeftAnswer (last today : List ℕ) (r : DaysLeftAnswer) : Type 0 where

@@ -6,7 +6,7 @@ use lib.Dec.{ltb, leb}
 use Rattle.licence.specs.declared.days.DayRead.{DayRead}
 use Rattle.licence.specs.declared.days.DayRead.the-variants as read
 use Rattle.licence.specs.declared.OpenOnAnswer.{OpenOnAnswer}
-use Rattle.licence.specs.declared.OpenOnAnswer.the-variants as opened
+use Rattle.licence.specs.declared.OpenOnAnswer.the-variants as open-on
 use Rattle.licence.specs.Licence.{isDay, dateIn}
 
 -- The date that is written, where one is.
@@ -16,5 +16,5 @@ dayRead xs = cond (isDay xs) (read.Good (dateIn xs)) read.Bad
 -- A day by its number, between those of the first and the last.
 unfoldable pub licence-between : ℕ → ℕ → ℕ → OpenOnAnswer
 licence-between first last day =
-    cond (ltb last first) (opened.Refused 23)
-    (cond (leb first day && leb day last) opened.Open opened.Closed)
+    cond (ltb last first) (open-on.Refused 23)
+    (cond (leb first day && leb day last) open-on.Open open-on.Closed)

@@ -9,7 +9,8 @@ use Rattle.format.specs.Layout.{edgesOf, filledOut}
 use Rattle.format.specs.Blocks.{treeOf, header, leafBytes, levelPairs, recordBytes, levelBytes, recordIn, recordOf, target, occurrence, width, isKept}
 use Rattle.format.specs.Blocks.{startsAt, cut, keptByPairs, firstPairAt, pairAt, lengthOf, startOf}
 use Rattle.format.specs.Layout as at
-use Rattle.format.specs.TreeReading.{pathOf, pathFrom, targetPlace, targetBlock, pointingBlock, keptBlock, lands, landBlock, landPlace, landVisits}
+use Rattle.format.specs.TreeReading.{pathOf, pathFrom, targetPlace, targetBlock, pointingBlock, keptBlock, resolves, resolvedBlock, resolvedPlace}
+use Rattle.format.specs.TreeReading.{resolvedVisits}
 use Rattle.format.specs.TreeReading.{linksOk, textOf, countsTrue, edgesTrue, blockEdgesTrue, lastLevel, widthAt, keptRight, pointingRight, blockRight}
 use Rattle.format.specs.FittingText.{fits, blockFits}
 use Rattle.format.specs.TreeReading.{countBelowRight, blockCountsTrue, checkResult, headerResult}
@@ -34,7 +35,7 @@ pub list-shown : Printed
 unfolding list-book list-two tabulate concat sumBelow countBelow allBelow sameList wordAt wordsBytes wordBytes substring leftmost firstFrom countIn placeOf
     placeIn blockLength pieces lengthOk sizesOk countedOk rising risingAfter treeOf header leafBytes levelPairs recordBytes recordLength edgesOf
     filledOut levelBytes recordIn recordOf target occurrence width isKept startsAt cut keptByPairs firstPairAt pairAt lengthOf startOf pathOf pathFrom
-    targetPlace targetBlock pointingBlock keptBlock lands landBlock landPlace landVisits linksOk textOf fits countsTrue edgesTrue blockEdgesTrue
+    targetPlace targetBlock pointingBlock keptBlock resolves resolvedBlock resolvedPlace resolvedVisits linksOk textOf fits countsTrue edgesTrue blockEdgesTrue
     lastLevel widthAt keptRight pointingRight blockRight countBelowRight blockFits blockCountsTrue checkResult headerResult at.leafByte at.blockLengthAt
     at.levelCount at.levelOffset digitsWithin decimal figure line levelLine linesBelow refusedLine inputRefusal printed at.layout at.textLength
     at.countedCount at.settings at.leafOffset at.leafCount at.recordSize at.field at.start at.kind at.link at.gap at.before at.inside at.skip

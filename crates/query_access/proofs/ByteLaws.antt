@@ -16,12 +16,12 @@ use Rattle.layout.specs.declared.header.HeaderAnswer.the-variants.{Refused}
 use Rattle.layout.specs.Header.{headerAnswer}
 use Rattle.query_access.specs.declared.read_by_header.TreeRange.{TreeRange}
 use Rattle.query_access.specs.declared.read_by_header.RunRangeAnswer.{RunRangeAnswer}
-use Rattle.query_access.specs.declared.read_by_header.RunRangeAnswer.the-variants as ran
+use Rattle.query_access.specs.declared.read_by_header.RunRangeAnswer.the-variants as run
 use Rattle.layout.specs.HeaderFields.{HeaderOf, header-refused}
 use Rattle.query_access.specs.ReadAnswers.{IsRunAnswer}
 
 -- A number other than 0 has no run.
-pub run-none : (t : List ℕ) (p k q : ℕ) → q ≡ suc k → refused q ≡ byteAnswer t p → IsRunAnswer t p (ran.Refused q)
+pub run-none : (t : List ℕ) (p k q : ℕ) → q ≡ suc k → refused q ≡ byteAnswer t p → IsRunAnswer t p (run.Refused q)
 unfolding runAnswer
 run-none t p k q q-is e =
     let n = ap (λ (y : Answer). y .number) e in
@@ -39,7 +39,7 @@ module _ (t : List ℕ) (p : ℕ) where
     unfolding byteAnswer
     byte-past past = rw (k .passes, le-ltb p (at.textLength t) (omega (arith, k .length-is)))
 
-    pub run-past : h .«text_length» ≤ p → IsRunAnswer t p (ran.Refused 10)
+    pub run-past : h .«text_length» ≤ p → IsRunAnswer t p (run.Refused 10)
     run-past past = run-none t p 9 10 refl (byte-past past)
 
 -- A tree that does not pass questions 5 to 7.
@@ -50,22 +50,22 @@ module _ (t : List ℕ) (p : ℕ) (x : HeaderAnswer) (x-is : x ≡ headerAnswer 
       let z = header-refused t x x-is q e in
       unless-refused (headerResult t) (z .0) q _ (z .1) (z .2)
 
-  pub run-unread : IsRunAnswer t p (ran.Refused q)
+  pub run-unread : IsRunAnswer t p (run.Refused q)
   run-unread =
       let z = header-refused t x x-is q e in
       run-none t p (z .0) q (z .2) byte-unread
 
 -- The returned slice.
 module _ (t : List ℕ) (p : ℕ) (r : RunRangeAnswer) (k : IsRunAnswer t p r) where
-  pub part-answered : (part : TreeRange) → r ≡ ran.At part → IsRunAnswer t p (ran.At part)
+  pub part-answered : (part : TreeRange) → r ≡ run.At part → IsRunAnswer t p (run.At part)
   part-answered part e = rw e at k
 
-  pub part-refused : (q : ℕ) → r ≡ ran.Refused q → IsRunAnswer t p (ran.Refused q)
+  pub part-refused : (q : ℕ) → r ≡ run.Refused q → IsRunAnswer t p (run.Refused q)
   part-refused q e = rw e at k
 
 pub part-list : (t : List ℕ) (p : ℕ) (r : TreeRange)
-    → IsRunAnswer t p (ran.At r) → take (r .from + r .length - r .from) (drop (r .from) t) ≡ take (runAnswer t p .1) (drop (runAnswer t p .0) t)
+    → IsRunAnswer t p (run.At r) → take (r .from + r .length - r .from) (drop (r .from) t) ≡ take (runAnswer t p .1) (drop (runAnswer t p .0) t)
 part-list t p r k = rw (add-sub-cancel-left, k .from-is, k .length-is)
 
-pub part-empty : (t : List ℕ) (p q : ℕ) → IsRunAnswer t p (ran.Refused q) → [] ≡ take (runAnswer t p .1) (drop (runAnswer t p .0) t)
+pub part-empty : (t : List ℕ) (p q : ℕ) → IsRunAnswer t p (run.Refused q) → [] ≡ take (runAnswer t p .1) (drop (runAnswer t p .0) t)
 part-empty t p q k = rw (← k .length-is)

@@ -25,19 +25,19 @@ use Rattle.query_access.specs.declared.SpanAnswer.{SpanAnswer}
 use Rattle.query_access.specs.declared.SpanAnswer.the-variants as span
 use Rattle.query_access.specs.declared.read_by_header.LeafRun.{LeafRun}
 use Rattle.query_access.specs.declared.read_by_header.LeafRunAnswer.{LeafRunAnswer}
-use Rattle.query_access.specs.declared.read_by_header.LeafRunAnswer.the-variants as found
+use Rattle.query_access.specs.declared.read_by_header.LeafRunAnswer.the-variants as leaf-run
 use Rattle.query_access.specs.declared.read_by_header.TreeRange.{TreeRange}
 use Rattle.query_access.specs.declared.read_by_header.RunRangeAnswer.{RunRangeAnswer}
 use Rattle.query_access.specs.declared.read_by_header.RunRangeAnswer.the-variants as run
-use Rattle.query_access.specs.declared.leaf_end.LeafEnd.{LeafEnd}
-use Rattle.query_access.specs.declared.leaf_end.LeafEndAnswer.{LeafEndAnswer}
-use Rattle.query_access.specs.declared.leaf_end.LeafEndAnswer.the-variants as end
+use Rattle.walk_ranges.specs.declared.leaf_end.LeafEnd.{LeafEnd}
+use Rattle.walk_ranges.specs.declared.leaf_end.LeafEndAnswer.{LeafEndAnswer}
+use Rattle.walk_ranges.specs.declared.leaf_end.LeafEndAnswer.the-variants as leaf-end
 use Rattle.query_access.specs.ReadAnswers.{byteReply, IsRunAnswer}
-use Rattle.query_access.specs.LeafEnds.{LeafEndAt, LeafEndOf, Joined}
+use Rattle.walk_ranges.specs.LeafEnds.{LeafEndAt, LeafEndOf, Joined}
 use Rattle.query_access.specs.ReadByRuns.{ReadsOn, LeafRunAt, LeafRunOf, LeafRangeAt, ReadsFrom, LeafRangeOf, IsRangeAnswer, placesWritten, RunCopied}
 use Rattle.query_access.proofs.ByteLaws as bytes
 use Rattle.query_access.proofs.RunLaws.{run-answers, run-from, run-size, run-some}
-use Rattle.query_access.proofs.LeafEndLaws.{end-is, end-left, end-entered, left-min, joined-answers}
+use Rattle.walk_ranges.proofs.LeafEndLaws.{end-is, end-left, end-entered, left-min, joined-answers}
 
 -- The walk of a place of the text can start.
 pub walk-ready : (t : List ℕ) (h : Header) → HeaderOf t h → (p : ℕ) → p < h .«text_length» → (top : TopLevel)
@@ -48,10 +48,10 @@ walk-ready t h k p low top is =
 
 -- The answer of `end_of`.
 module _ (t : List ℕ) (p : ℕ) (x : LeafEndAnswer) (x-is : LeafEndOf t p x) where
-  pub end-found : (r : LeafEnd) → x ≡ end.At r → LeafEndAt t p r
+  pub end-found : (r : LeafEnd) → x ≡ leaf-end.At r → LeafEndAt t p r
   end-found r e = rw e at x-is
 
-  pub end-refused : x ≡ end.Broken → byteAnswer t p ≡ refused 14
+  pub end-refused : x ≡ leaf-end.Broken → byteAnswer t p ≡ refused 14
   end-refused e = rw e at x-is
 
 -- A range has a byte.
@@ -148,16 +148,16 @@ module _ (t : List ℕ) (p : ℕ) (h : Header) (k : HeaderOf t h) (low : p < h .
 
 -- The answer of `leaf_run`.
 module _ (t : List ℕ) (p : ℕ) (x : LeafRunAnswer) (x-is : LeafRunOf t p x) where
-  pub run-found : (r : LeafRun) → x ≡ found.At r → LeafRunAt t p r
+  pub run-found : (r : LeafRun) → x ≡ leaf-run.At r → LeafRunAt t p r
   run-found r e = rw e at x-is
 
-  pub run-refused : x ≡ found.Broken → byteAnswer t p ≡ refused 14
+  pub run-refused : x ≡ leaf-run.Broken → byteAnswer t p ≡ refused 14
   run-refused e = rw e at x-is
 
-  pub broken-part : x ≡ found.Broken → IsRunAnswer t p (run.Refused 14)
+  pub broken-part : x ≡ leaf-run.Broken → IsRunAnswer t p (run.Refused 14)
   broken-part e = bytes.run-none t p 13 14 refl (sym (run-refused e))
 
-  pub found-part : (r : LeafRun) → x ≡ found.At r → IsRunAnswer t p (run.At (record { from = r .from; length = r .length }))
+  pub found-part : (r : LeafRun) → x ≡ leaf-run.At r → IsRunAnswer t p (run.At (record { from = r .from; length = r .length }))
   found-part r e =
       let k = run-found r e in
       let z : p + 0 ≡ p = omega arith in record {
@@ -170,15 +170,15 @@ module _ (t : List ℕ) (p : ℕ) (x : LeafRunAnswer) (x-is : LeafRunOf t p x) w
 
 -- The answer of `leaf_range`.
 module _ (t : List ℕ) (p most : ℕ) (x : LeafRunAnswer) (x-is : LeafRangeOf t p most x) where
-  pub range-found : (r : LeafRun) → x ≡ found.At r → LeafRangeAt t p most r
+  pub range-found : (r : LeafRun) → x ≡ leaf-run.At r → LeafRangeAt t p most r
   range-found r e = rw e at x-is
 
-  pub range-refused : x ≡ found.Broken → byteAnswer t p .number ≡ 14
+  pub range-refused : x ≡ leaf-run.Broken → byteAnswer t p .number ≡ 14
   range-refused e =
       let z : byteAnswer t p ≡ refused 14 = rw e at x-is in
       ap (λ (s : Answer). s .number) z
 
-  pub found-range : headerResult t ≡ 0 → (r : LeafRun) → x ≡ found.At r → IsRangeAnswer t p most (run.At (record { from = r .from; length = r .length }))
+  pub found-range : headerResult t ≡ 0 → (r : LeafRun) → x ≡ leaf-run.At r → IsRangeAnswer t p most (run.At (record { from = r .from; length = r .length }))
   found-range passes r e =
       let k = range-found r e in
       let number : (y : ℕ) → y < r .length → byteAnswer t (p + y) .number ≡ 0 = λ y l. ap (λ (s : Answer). s .number) (k .answers y l) in (

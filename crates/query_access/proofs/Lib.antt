@@ -3,8 +3,6 @@ pub mod SpanLaws
 pub mod CopyLaws
 pub mod ShortLaws
 pub mod RunLaws
-pub mod LeafEndLaws
 pub mod LeafRunLaws
-pub mod DescentLaws
 pub mod SegmentLaws
 pub mod Theorems

@@ -14,7 +14,7 @@ use Rattle.format.specs.TreeReading.{Path, pathOf, textOf, headerResult}
 use Rattle.format.specs.LayoutLaws.{Readable, header-facts}
 use Rattle.format.specs.Answers.{Answer, byteAnswer, leftOver, runAnswer}
 use Rattle.theory_paths.specs.OneText.{text-length}
-use Rattle.theory_paths.specs.Shift.{length-further, left-most, left-within, path-further}
+use Rattle.theory_paths.specs.Shift.{length-further, left-most, left-in-blocks, path-further}
 use Rattle.theory_paths.specs.Reads as reads
 use Rattle.theory_paths.specs.PlaceBytes.{path-there, byte-broken}
 use Rattle.layout.specs.declared.header.Header.{Header}
@@ -69,7 +69,7 @@ module _ (t : List ℕ) (r : headerResult t ≡ 0) (p : ℕ) (low : p < at.textL
         let most = min (at.textLength t - p) (at.leafCount t - q .leaf) in
         let short : d < leftOver t (q .visits) most = rw run-size at h in
         let less : d < most = omega (arith, left-most t (q .visits) most) in
-        let on = path-further t p d q e (left-within t (q .visits) most d short) (omega arith) in
+        let on = path-further t p d q e (left-in-blocks t (q .visits) most d short) (omega arith) in
         reads.byte-of-path t k r (p + d) (omega arith) _ on
         ∙ ap (λ (n : ℕ). record { number = 0; value = at.leafByte t (q .leaf + d); entered = n }) (length-further d (q .visits))
 

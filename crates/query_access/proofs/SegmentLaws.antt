@@ -23,10 +23,10 @@ use Rattle.byte_slices.specs.ByteSlices.{bytesWritten}
 use Rattle.layout.specs.declared.header.Header.{Header}
 use Rattle.layout.specs.HeaderFields.{HeaderOf}
 use Rattle.query_access.specs.ReadByRuns.{placesWritten}
-use Rattle.query_access.specs.declared.descent.Segment.{Segment}
-use Rattle.query_access.specs.declared.descent.Piece.{Piece}
-use Rattle.query_access.specs.declared.descent.Piece.the-variants as piece
-use Rattle.query_access.specs.Segments.{leafNumber, hasLeaf, leafFrom, leafIn, leafValue, leavesWritten, Copied, SegmentCopied, SegmentAt, NextAt, IsNext}
+use Rattle.walk_ranges.specs.declared.segments.Segment.{Segment}
+use Rattle.walk_ranges.specs.declared.segments.Piece.{Piece}
+use Rattle.walk_ranges.specs.declared.segments.Piece.the-variants as piece
+use Rattle.walk_ranges.specs.Segments.{leafNumber, hasLeaf, leafFrom, leafIn, leafValue, leavesWritten, Copied, SegmentCopied, SegmentAt, NextAt, IsNext}
 use Rattle.query_access.proofs.SpanLaws.{ByPaths, values, span-broken}
 use Rattle.query_access.proofs.CopyLaws.{copy-known, copy-end}
 

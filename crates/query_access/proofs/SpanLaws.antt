@@ -14,7 +14,7 @@ use Rattle.format.specs.Answers.{Answer, refused, unless, NeverZero, replied}
 use Rattle.format.specs.Answers.{byteAnswer, pathsHold, spanQuestions, bufferAfter, isShort, spanReached, spanBytes, spanBlocks, spanRefusal, spanAnswer}
 use Rattle.format.specs.Answers.{spanBuffer, copyRefusal, copyAnswer, copyBuffer}
 use Rattle.layout.specs.declared.header.HeaderAnswer.{HeaderAnswer}
-use Rattle.layout.specs.declared.header.HeaderAnswer.the-variants as read
+use Rattle.layout.specs.declared.header.HeaderAnswer.the-variants as header
 use Rattle.layout.specs.Header.{headerAnswer}
 use Rattle.layout.specs.HeaderFields.{header-refused, header-small}
 use Rattle.query_access.specs.declared.SpanAnswer.{SpanAnswer}
@@ -64,7 +64,7 @@ module _ (t : List ℕ) (p len : ℕ) (d : List ℕ) (reached : Bool) (bytes : L
   number-leaves q e other = record { answers = rw e; leaves = rw (e, ne-eqb (suc q) 0 (λ z. omega arith), ne-eqb (suc q) 14 other) }
 
   -- A tree that does not pass questions 5 to 7.
-  pub span-unread : (x : HeaderAnswer) → x ≡ headerAnswer t → (q : ℕ) → x ≡ read.Refused q → (1 ≤ q) × Spanned t p len d reached bytes blocks (refused q) d
+  pub span-unread : (x : HeaderAnswer) → x ≡ headerAnswer t → (q : ℕ) → x ≡ header.Refused q → (1 ≤ q) × Spanned t p len d reached bytes blocks (refused q) d
   unfolding spanQuestions
   span-unread x x-is q e =
       let z = header-refused t x x-is q e in

@@ -22,7 +22,7 @@ use Rattle.theory_paths.specs.Theorems as paths
 use Rattle.query_access.specs.declared.ByteAnswer.{ByteAnswer}
 use Rattle.query_access.specs.declared.ByteAnswer.the-variants.{Byte, Refused}
 use Rattle.query_access.specs.declared.SpanAnswer.{SpanAnswer}
-use Rattle.query_access.specs.declared.SpanAnswer.the-variants as copied
+use Rattle.query_access.specs.declared.SpanAnswer.the-variants as span
 use Rattle.query_access.specs.ReadAnswers.{byteReply, spanReply}
 use Rattle.theory_paths.specs.Visits.{path-long}
 use Rattle.query_access.proofs.byte.Reads as byte-reads
@@ -50,16 +50,16 @@ access-byte-is (Byte w m) v n low e =
 access-byte-is (Refused q) v n low e = absurd (let z : 0 ≡ n = ap (λ (s : Answer). s .entered) e in omega arith)
 
 pub copied-is : (r : SpanAnswer) (len n : ℕ) → NeverZero (spanReply r) → replied (spanReply r) ≡ record { number = 0; value = len; entered = n }
-    → r ≡ copied.Bytes len n
-copied-is (copied.Bytes m b) len n k e =
+    → r ≡ span.Bytes len n
+copied-is (span.Bytes m b) len n k e =
     let z : m ≡ len = ap (λ (s : Answer). s .value) e in
     let y : b ≡ n = ap (λ (s : Answer). s .entered) e in
     cc
-copied-is (copied.Refused q) len n k e = absurd (let z : q ≡ 0 = ap (λ (s : Answer). s .number) e in omega arith)
+copied-is (span.Refused q) len n k e = absurd (let z : q ≡ 0 = ap (λ (s : Answer). s .number) e in omega arith)
 
-pub copied-no : (r : SpanAnswer) (n : ℕ) → replied (spanReply r) ≡ refused (suc n) → r ≡ copied.Refused (suc n)
-copied-no (copied.Bytes m e) n s = absurd (let z : _≡_ {A = ℕ} 0 (suc n) = ap (λ (x : Answer). x .number) s in omega arith)
-copied-no (copied.Refused m) n s = ap (λ (x : Answer). copied.Refused (x .number)) s
+pub copied-no : (r : SpanAnswer) (n : ℕ) → replied (spanReply r) ≡ refused (suc n) → r ≡ span.Refused (suc n)
+copied-no (span.Bytes m e) n s = absurd (let z : _≡_ {A = ℕ} 0 (suc n) = ap (λ (x : Answer). x .number) s in omega arith)
+copied-no (span.Refused m) n s = ap (λ (x : Answer). span.Refused (x .number)) s
 
 -- For any bytes.
 
@@ -96,8 +96,8 @@ module _ (t : RefT (List ℕ)) (pass : headerResult (t .now) ≡ 0) (links : lin
   pub text-fits : fits (textOf (t .now)) (t .now) ≡ true
   text-fits = paths.text-fits (t .now) pass links
 
-  -- A run is a part of the tree, of one byte or more, and the text from the place on.
-  pub record Stretches (p : ℕ) (r : RefT (List ℕ)) : Type 0 where
+  -- A run is a slice of the tree, of one byte or more, and equals the text from the place on.
+  pub record RunIsSlice (p : ℕ) (r : RefT (List ℕ)) : Type 0 where
     pub from : ℕ
     pub size : ℕ
     pub some-byte : 1 ≤ size
@@ -107,7 +107,7 @@ module _ (t : RefT (List ℕ)) (pass : headerResult (t .now) ≡ 0) (links : lin
     pub of-tree : r .now ≡ take size (drop from (t .now))
     pub of-text : r .now ≡ substring (textOf (t .now)) p size
 
-  pub run-slices : (κs : Lfts 1) (p : TextPlace) (r : RefT (List ℕ)) → p .0 < at.textLength (t .now) → Run κs t p r → Stretches (p .0) r
+  pub run-slices : (κs : Lfts 1) (p : TextPlace) (r : RefT (List ℕ)) → p .0 < at.textLength (t .now) → Run κs t p r → RunIsSlice (p .0) r
   run-slices κs p r low a =
       let k = paths.run-of-text (t .now) pass links (p .0) low in record {
         from = runAnswer (t .now) (p .0) .0;
@@ -125,7 +125,7 @@ module _ (t : RefT (List ℕ)) (pass : headerResult (t .now) ≡ 0) (links : lin
 pub span-copies :
     (t : RefT (List ℕ)) → checkResult (t .now) ≡ 0 → (κs : Lfts 2) (p : TextPlace) (len : ℕ) (buffer after : RefT (List ℕ)) (r : SpanAnswer)
     → p .0 + len ≤ at.textLength (t .now) → len ≤ length (buffer .now) → Span κs t p len buffer after r
-    → (r ≡ copied.Bytes len (spanBlocks (t .now) (p .0) len)) × (spanBlocks (t .now) (p .0) len ≤ 2 * at.settings (t .now) .levels)
+    → (r ≡ span.Bytes len (spanBlocks (t .now) (p .0) len)) × (spanBlocks (t .now) (p .0) len ≤ 2 * at.settings (t .now) .levels)
     × (after .now ≡ substring (textOf (t .now)) (p .0) len ++ drop len (buffer .now))
 unfolding spanAnswer
 span-copies t v κs p len buffer after r low room a =

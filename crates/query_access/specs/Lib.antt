@@ -1,4 +1,2 @@
 pub mod ReadAnswers
-pub mod LeafEnds
 pub mod ReadByRuns
-pub mod Segments

@@ -12,7 +12,7 @@ use Rattle.query_access.specs.declared.read_by_header.RunRangeAnswer.{Ru
 use Rattle.query_access.specs.declared.read_by_header.RunRangeAnswer.the-variants as run
 use Rattle.query_access.specs.declared.read_by_header.LeafRun.{LeafRun}
 use Rattle.query_access.specs.declared.read_by_header.LeafRunAnswer.{LeafRunAnswer}
-use Rattle.query_access.specs.declared.read_by_header.LeafRunAnswer.the-variants as found
+use Rattle.query_access.specs.declared.read_by_header.LeafRunAnswer.the-variants as leaf-run
 use Rattle.query_access.specs.ReadAnswers.{spanReply}
 
 -- The same of bytes that are copied by their paths.
@@ -36,8 +36,8 @@ pub record LeafRunAt (t : List ℕ) (p : ℕ) (r : LeafRun) : Type 0 where
 
 -- The answer of `leaf_run`.
 abbrev pub LeafRunOf : List ℕ → ℕ → LeafRunAnswer → Type 0
-LeafRunOf t p (found.At r) = LeafRunAt t p r
-LeafRunOf t p found.Broken = byteAnswer t p ≡ refused 14
+LeafRunOf t p (leaf-run.At r) = LeafRunAt t p r
+LeafRunOf t p leaf-run.Broken = byteAnswer t p ≡ refused 14
 
 -- r is a range of at most `most` bytes of the tree that are the answers of byte at the places from p on, each with the same number of blocks entered.
 pub record LeafRangeAt (t : List ℕ) (p most : ℕ) (r : LeafRun) : Type 0 where
@@ -54,8 +54,8 @@ pub record ReadsFrom (t : List ℕ) (p : ℕ) (r : LeafRun) : Type 0 where
 
 -- The answer of `leaf_range`.
 abbrev pub LeafRangeOf : List ℕ → ℕ → ℕ → LeafRunAnswer → Type 0
-LeafRangeOf t p most (found.At r) = LeafRangeAt t p most r
-LeafRangeOf t p most found.Broken = byteAnswer t p ≡ refused 14
+LeafRangeOf t p most (leaf-run.At r) = LeafRangeAt t p most r
+LeafRangeOf t p most leaf-run.Broken = byteAnswer t p ≡ refused 14
 
 -- The answer of `range_at`: some bytes of the tree, at most `most`, that are those of its text from place p on; or 14, the refusal of byte.
 abbrev pub IsRangeAnswer : List ℕ → ℕ → ℕ → RunRangeAnswer → Type 0

@@ -1,6 +1,5 @@
 // Byte, run and span: any bytes may be given as a tree, and each call checks questions 5 to 7 first.
 pub mod descent;
-pub mod leaf_end;
 pub mod read_by_header;
 
 use crate::read_by_header::RunRangeAnswer;
@@ -41,8 +40,8 @@ pub fn run(t: &[u8], at: TextPlace) -> &[u8]
     ensures { λ r. ⌜ now r ≡ take (runAnswer (now (t .entry)) (at .0) .1) (drop (runAnswer (now (t .entry)) (at .0) .0) (now (t .entry))) ⌝ }
     ensures { λ r. ⌜ r .ptr ≡ (t .entry .ptr .0, t .entry .ptr .1 + runAnswer (now (t .entry)) (at .0) .0) ⌝ }
 {
-    let ran = run_range(t, at);
-    let RunRangeAnswer::At(part) = ran else {
+    let range = run_range(t, at);
+    let RunRangeAnswer::At(part) = range else {
         return &t[0..0];
     };
     let from = part.from;

@@ -19,7 +19,7 @@ use Rattle.format.specs.Layout as at
 use Rattle.format.specs.TreeReading.{ask, headerResult}
 use Rattle.layout.specs.declared.header.Header.{Header}
 use Rattle.layout.specs.declared.header.HeaderAnswer.{HeaderAnswer}
-use Rattle.layout.specs.declared.header.HeaderAnswer.the-variants as read
+use Rattle.layout.specs.declared.header.HeaderAnswer.the-variants as header
 use Rattle.layout.specs.Header.{headerAnswer}
 use Rattle.layout.specs.HeaderFields.{HeaderOf, header-refused, header-small}
 use Rattle.query_access.specs.declared.ByteAnswer.{ByteAnswer}
@@ -41,7 +41,7 @@ module _ (t : List ℕ) (w a : ℕ) (d : List ℕ) where
   unfolding rowByColumnsAnswer rowByColumnsBuffer
   stays n e other = (record { answers = rw e; numbered = omega arith }, rw (e, ne-eqb (suc n) 0 (λ z. omega arith), ne-eqb (suc n) 14 other))
 
-  pub read-unread : (x : HeaderAnswer) → x ≡ headerAnswer t → (q : ℕ) → x ≡ read.Refused q → Read (span.Refused q) d
+  pub read-unread : (x : HeaderAnswer) → x ≡ headerAnswer t → (q : ℕ) → x ≡ header.Refused q → Read (span.Refused q) d
   unfolding rowByColumnsRefusal
   read-unread x is q e =
       let z = header-refused t x is q e in

@@ -11,7 +11,7 @@ use Rattle.format.specs.Blocks.{startsAt, cut, keptByPairs, firstPairAt, pairAt
 use Rattle.format.specs.Layout.{edgesOf, filledOut}
 use Rattle.format.specs.Layout as at
 use Rattle.format.specs.TreeReading.{pathOf, pathFrom, targetPlace, targetBlock, pointingBlock}
-use Rattle.format.specs.TreeReading.{keptBlock, lands, landBlock, landPlace, landVisits, headerResult}
+use Rattle.format.specs.TreeReading.{keptBlock, resolves, resolvedBlock, resolvedPlace, resolvedVisits, headerResult}
 use Rattle.format.specs.Answers.{Answer, byteAnswer}
 use Rattle.query_columns.specs.ColumnRows.{cell, cellsHold, rowByColumnsRefusal, rowByColumnsBuffer, rowByColumnsAnswer}
 
@@ -61,10 +61,10 @@ unfolding column-row-book column-row-tree setWord column-row-broken lent column-
     rowByColumnsRefusal rowByColumnsBuffer rowByColumnsAnswer tabulate concat sumBelow
     countBelow allBelow sameList wordAt wordsBytes wordBytes substring leftmost firstFrom countIn blockLength pieces recordLength lengthOk sizesOk
     countedOk rising risingAfter treeOf header leafBytes levelPairs recordBytes edgesOf filledOut levelBytes recordIn recordOf target occurrence width
-    isKept startsAt cut keptByPairs firstPairAt pairAt lengthOf startOf pathOf pathFrom targetPlace targetBlock pointingBlock keptBlock lands
-    landBlock landPlace landVisits headerResult at.leafByte byteAnswer at.blockLengthAt at.levelCount at.levelOffset at.layout at.textLength at.countedCount
-    at.settings at.leafOffset at.leafCount at.recordSize at.field at.start at.kind at.link at.gap at.before at.inside at.skip at.edgesAt at.fullLength
-    at.isKept at.isPointing at.hasEdges at.holdsHeader at.layoutOk at.headerOk
+    isKept startsAt cut keptByPairs firstPairAt pairAt lengthOf startOf pathOf pathFrom targetPlace targetBlock pointingBlock keptBlock resolves
+    resolvedBlock resolvedPlace resolvedVisits headerResult at.leafByte byteAnswer at.blockLengthAt at.levelCount at.levelOffset at.layout at.textLength
+    at.countedCount at.settings at.leafOffset at.leafCount at.recordSize at.field at.start at.kind at.link at.gap at.before at.inside at.skip at.edgesAt
+    at.fullLength at.isKept at.isPointing at.hasEdges at.holdsHeader at.layoutOk at.headerOk
 column-row-marked = record {
   rows = (refl, refl);
   copied = (refl, refl);

@@ -11,26 +11,27 @@ use lib.ListN.{length, getD}
 use lib.Dec.{ltb}
 use Rattle.text.specs.ListLaws.{lt-or-ge, below-suc}
 use Rattle.format.specs.Answers.{Answer, refused, replied, unless, byteAnswer}
+use Rattle.format.specs.AnswerLaws.{unless-refused}
 use Rattle.format.specs.Layout as at
 use Rattle.format.specs.TreeReading.{headerResult}
 use Rattle.format.specs.LayoutLaws.{header-facts}
 use Rattle.theory_paths.specs.PlaceBytes.{byte-text}
 use Rattle.layout.specs.declared.header.Header.{Header}
 use Rattle.layout.specs.declared.header.HeaderAnswer.{HeaderAnswer}
-use Rattle.layout.specs.declared.header.HeaderAnswer.the-variants as read
+use Rattle.layout.specs.declared.header.HeaderAnswer.the-variants as header
 use Rattle.layout.specs.Header.{headerAnswer}
 use Rattle.layout.specs.HeaderFields.{HeaderOf, header-refused}
 use Rattle.query_access.specs.declared.read_by_header.TreeRange.{TreeRange}
 use Rattle.query_access.specs.declared.read_by_header.RunRangeAnswer.{RunRangeAnswer}
-use Rattle.query_access.specs.declared.read_by_header.RunRangeAnswer.the-variants as ran
+use Rattle.query_access.specs.declared.read_by_header.RunRangeAnswer.the-variants as run
 use Rattle.query_access.specs.ReadByRuns.{ReadsOn, IsRangeAnswer}
 use Rattle.query_access.proofs.RunLaws.{reads-none, reads-rest}
 use Rattle.query_compare.specs.declared.CompareAnswer.{CompareAnswer}
-use Rattle.query_compare.specs.declared.CompareAnswer.the-variants as compared
+use Rattle.query_compare.specs.declared.CompareAnswer.the-variants as compare
 use Rattle.query_compare.specs.declared.side_by_side.Progress.{Progress}
 use Rattle.query_compare.specs.declared.side_by_side.Round.{Round}
 use Rattle.query_compare.specs.declared.side_by_side.Round.the-variants as round
-use Rattle.query_compare.specs.OrderAnswers.{before, after, stands, byLength, comparedFrom, compareAnswer, compareReply, IsCompareAnswer}
+use Rattle.query_compare.specs.OrderAnswers.{before, after, orderAnswer, byLength, comparedFrom, compareAnswer, compareReply, IsCompareAnswer}
 use Rattle.query_compare.specs.Compared.{CompareReadsFrom, Agrees, byByte, shortest, Comparing, RoundAnswer}
 
 -- A byte of a part that is read is the one that byte answers.
@@ -55,8 +56,8 @@ module _ (t u : List ℕ) where
   -- A place that is not the shorter end.
   module _ (p : ℕ) (low : p < shortest t u) where
     open-place : From p ≡ unless (byteAnswer t p .number) (unless (byteAnswer u p .number)
-        (cond (ltb (byteAnswer t p .value) (byteAnswer u p .value)) (stands before p)
-        (cond (ltb (byteAnswer u p .value) (byteAnswer t p .value)) (stands after p) (From (p + 1)))))
+        (cond (ltb (byteAnswer t p .value) (byteAnswer u p .value)) (orderAnswer before p)
+        (cond (ltb (byteAnswer u p .value) (byteAnswer t p .value)) (orderAnswer after p) (From (p + 1)))))
     unfolding comparedFrom
     open-place =
         let s : shortest t u - p ≡ suc (shortest t u - (p + 1)) = omega arith in
@@ -87,8 +88,8 @@ module _ (t u : List ℕ) where
 
             go : (x < y) ⊎ (y ≤ x)
                 → unless (byteAnswer t p .number) (unless (byteAnswer u p .number)
-                (cond (ltb x y) (stands before p) (cond (ltb y x) (stands after p) (From (p + 1)))))
-                ≡ cond (ltb x y) (stands before p) (stands after p)
+                (cond (ltb x y) (orderAnswer before p) (cond (ltb y x) (orderAnswer after p) (From (p + 1)))))
+                ≡ cond (ltb x y) (orderAnswer before p) (orderAnswer after p)
             go (inl h) = rw (a, b, lt-ltb x y h)
             go (inr h) = rw (a, b, le-ltb x y h, lt-ltb y x (omega arith))
 
@@ -137,27 +138,27 @@ module _ (t u : List ℕ) (m : Progress) (c : Comparing t u m) where
 
   module _ (low : m .place .0 < shortest t u) (v : RunRangeAnswer) (first : CompareReadsFrom t (m .place .0) v) where
     -- The first tree's path breaks.
-    pub compare-broken : (q : ℕ) → v ≡ ran.Refused q → IsCompareAnswer t u (compared.Refused 14)
+    pub compare-broken : (q : ℕ) → v ≡ run.Refused q → IsCompareAnswer t u (compare.Refused 14)
     compare-broken q e =
-        let z : CompareReadsFrom t (m .place .0) (ran.Refused q) = rw e at first in
+        let z : CompareReadsFrom t (m .place .0) (run.Refused q) = rw e at first in
         record { answers = sym (first-broken t u (m .place .0) low z) ∙ c .left }
 
-    module _ (x : TreeRange) (x-is : v ≡ ran.At x) (w : RunRangeAnswer) (second : CompareReadsFrom u (m .place .0) w) where
-      here : CompareReadsFrom t (m .place .0) (ran.At x)
+    module _ (x : TreeRange) (x-is : v ≡ run.At x) (w : RunRangeAnswer) (second : CompareReadsFrom u (m .place .0) w) where
+      here : CompareReadsFrom t (m .place .0) (run.At x)
       here = rw x-is at first
 
       -- The first tree's path holds and the second's breaks.
-      pub compare-broken-2 : (q : ℕ) → w ≡ ran.Refused q → IsCompareAnswer t u (compared.Refused 14)
+      pub compare-broken-2 : (q : ℕ) → w ≡ run.Refused q → IsCompareAnswer t u (compare.Refused 14)
       compare-broken-2 q e =
-          let z : CompareReadsFrom u (m .place .0) (ran.Refused q) = rw e at second in
+          let z : CompareReadsFrom u (m .place .0) (run.Refused q) = rw e at second in
           let holds = first-holds t (m .place .0) (x .from) (x .length) (here .0) (here .1) in
           record { answers = sym (second-broken t u (m .place .0) low holds z) ∙ c .left }
 
       -- Both hold: there is a byte of each.
-      pub compare-runs : (y : TreeRange) → w ≡ ran.At y
+      pub compare-runs : (y : TreeRange) → w ≡ run.At y
           → Comparing t u (record { place = m .place; one = x; other = y }) × (1 ≤ x .length) × (1 ≤ y .length)
       compare-runs y e =
-          let z : CompareReadsFrom u (m .place .0) (ran.At y) = rw e at second in
+          let z : CompareReadsFrom u (m .place .0) (run.At y) = rw e at second in
           (record { passes = c .passes; other-passes = c .other-passes; low = c .low; reads = here .0; other-reads = z .0; left = c .left }, here .1, z .1)
 
 -- Two runs; n bytes of each are compared.
@@ -238,25 +239,22 @@ module _ (t u : List ℕ) (p : ℕ) (r : Round) (a : RoundAnswer t u p r) where
 
 -- A range from a place.
 pub read-anew : (t : List ℕ) (p most : ℕ) (r : RunRangeAnswer) → IsRangeAnswer t p most r → CompareReadsFrom t p r
-read-anew t p most (ran.At part) a = (a .0, a .1)
-read-anew t p most (ran.Refused q) a = a .1
+read-anew t p most (run.At part) a = (a .0, a .1)
+read-anew t p most (run.Refused q) a = a .1
 
 -- A tree that does not pass questions 5 to 7, the first or the second.
-handed-on : (n k q : ℕ) (rest : Answer) → n ≡ suc k → q ≡ suc k → refused q ≡ unless n rest
-handed-on n k q rest e f = rw (e, f)
-
-module _ (t u : List ℕ) (x : HeaderAnswer) (q : ℕ) (e : x ≡ read.Refused q) where
-  pub first-unread : x ≡ headerAnswer t → IsCompareAnswer t u (compared.Refused q)
+module _ (t u : List ℕ) (x : HeaderAnswer) (q : ℕ) (e : x ≡ header.Refused q) where
+  pub first-unread : x ≡ headerAnswer t → IsCompareAnswer t u (compare.Refused q)
   unfolding compareAnswer
   first-unread x-is =
       let z = header-refused t x x-is q e in
-      record { answers = handed-on (headerResult t) (z .0) q _ (z .1) (z .2) }
+      record { answers = unless-refused (headerResult t) (z .0) q _ (z .1) (z .2) }
 
-  pub second-unread : headerResult t ≡ 0 → x ≡ headerAnswer u → IsCompareAnswer t u (compared.Refused q)
+  pub second-unread : headerResult t ≡ 0 → x ≡ headerAnswer u → IsCompareAnswer t u (compare.Refused q)
   unfolding compareAnswer
   second-unread r x-is =
       let z = header-refused u x x-is q e in
-      record { answers = rw r (handed-on (headerResult u) (z .0) q _ (z .1) (z .2)) }
+      record { answers = rw r (unless-refused (headerResult u) (z .0) q _ (z .1) (z .2)) }
 
 -- One place more agrees.
 pub agree-more : (s : List ℕ) (a : ℕ) (t : List ℕ) (b i : ℕ)

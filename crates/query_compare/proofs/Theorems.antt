@@ -18,10 +18,11 @@ use Rattle.format.specs.TreeReading.{linksOk, textOf, headerResult}
 use Rattle.format.specs.Answers.{Answer, refused, replied, unless, byteAnswer}
 use Rattle.theory_paths.specs.Theorems as paths
 use Rattle.query_compare.specs.declared.CompareAnswer.{CompareAnswer}
-use Rattle.query_compare.specs.declared.CompareAnswer.the-variants as compared
-use Rattle.query_compare.specs.OrderAnswers.{Ordering, before, same, after, code, stands, byLength, comparedFrom, compareAnswer, compareReply, Handed}
-use Rattle.query_compare.specs.TextOrder.{standing, shared, outcome, firstOf}
-use Rattle.query_compare.specs.OrderLaws.{Which, below, equal, above, which, standing-below, standing-equal, standing-above, shared-equal, shared-other}
+use Rattle.query_compare.specs.declared.CompareAnswer.the-variants as compare
+use Rattle.query_compare.specs.OrderAnswers.{Ordering, before, same, after, code, orderAnswer, byLength, comparedFrom, compareAnswer, compareReply}
+use Rattle.query_compare.specs.OrderAnswers.{IsFirstAnswer}
+use Rattle.query_compare.specs.TextOrder.{textOrdering, shared, outcome, firstOf}
+use Rattle.query_compare.specs.OrderLaws.{Which, below, equal, above, which, ordering-below, ordering-equal, ordering-above, shared-equal, shared-other}
 use Rattle.query_compare.specs.Compared.{shortest, byByte}
 use Rattle.query_compare.proofs.SideBySideLaws.{SameAt, From, first-broken, second-broken, place-differs, places-same}
 use Rattle.query_compare.proofs.compare.Reads as compare-reads
@@ -32,17 +33,20 @@ abbrev pub Compare : (κs : Lfts 2) → RefT (List ℕ) → RefT (List ℕ) → 
 Compare κs t u r = compare-reads.Post κs (t, (u, tt)) r (t, (u, tt))
 
 -- One byte of each, at place p: these bytes decide the order, or what follows them does.
-by-first : (x y : ℕ) (A B : List ℕ) (p : ℕ) (rest : Answer) → rest ≡ stands (standing A B) (suc p + shared A B)
-    → cond (ltb x y) (stands before p) (cond (ltb y x) (stands after p) rest) ≡ stands (standing (x ∷ A) (y ∷ B)) (p + shared (x ∷ A) (y ∷ B))
+by-first : (x y : ℕ) (A B : List ℕ) (p : ℕ) (rest : Answer) → rest ≡ orderAnswer (textOrdering A B) (suc p + shared A B)
+    → cond (ltb x y) (orderAnswer before p) (cond (ltb y x) (orderAnswer after p) rest)
+    ≡ orderAnswer (textOrdering (x ∷ A) (y ∷ B)) (p + shared (x ∷ A) (y ∷ B))
 by-first x y A B p rest r = go (which x y)
   where
-    go : Which x y → cond (ltb x y) (stands before p) (cond (ltb y x) (stands after p) rest) ≡ stands (standing (x ∷ A) (y ∷ B)) (p + shared (x ∷ A) (y ∷ B))
-    go (below h) = rw (lt-ltb x y h, standing-below x y A B h, shared-other x y A B (λ e. omega arith), add-zero p)
+    go : Which x y
+        → cond (ltb x y) (orderAnswer before p) (cond (ltb y x) (orderAnswer after p) rest)
+        ≡ orderAnswer (textOrdering (x ∷ A) (y ∷ B)) (p + shared (x ∷ A) (y ∷ B))
+    go (below h) = rw (lt-ltb x y h, ordering-below x y A B h, shared-other x y A B (λ e. omega arith), add-zero p)
     go (above h) =
-        rw (le-ltb x y (omega arith), lt-ltb y x h, standing-above x y A B h, shared-other x y A B (λ e. omega arith), add-zero p)
+        rw (le-ltb x y (omega arith), lt-ltb y x h, ordering-above x y A B h, shared-other x y A B (λ e. omega arith), add-zero p)
     go (equal h) =
         let z : p + (shared A B + 1) ≡ suc p + shared A B = omega arith in
-        rw (le-ltb x y (omega arith), le-ltb y x (omega arith), standing-equal x y A B h, shared-equal x y A B h, z) r
+        rw (le-ltb x y (omega arith), le-ltb y x (omega arith), ordering-equal x y A B h, shared-equal x y A B h, z) r
 
 -- Both trees pass questions 5 to 8.
 module _ (t u : List ℕ) (rt : headerResult t ≡ 0) (ru : headerResult u ≡ 0) (lt : linksOk t ≡ true) (lu : linksOk u ≡ true) where
@@ -60,7 +64,7 @@ module _ (t u : List ℕ) (rt : headerResult t ≡ 0) (ru : headerResult u ≡ 0
 
   -- What is left of both from place p on.
   abbrev Left : ℕ → Answer
-  Left p = stands (standing (drop p T) (drop p U)) (p + shared (drop p T) (drop p U))
+  Left p = orderAnswer (textOrdering (drop p T) (drop p U)) (p + shared (drop p T) (drop p U))
 
   -- At the shorter end.
   module _ (p : ℕ) (end : p ≡ shortest t u) where
@@ -71,7 +75,7 @@ module _ (t u : List ℕ) (rt : headerResult t ≡ 0) (ru : headerResult u ≡ 0
     none-left-2 h = drop-of-length-le U {i = p} (omega (arith, m-is))
 
     at-end : byLength (at.textLength t) (at.textLength u) p ≡ Left p
-    unfolding byLength standing shared
+    unfolding byLength textOrdering shared
     at-end = go (which (at.textLength t) (at.textLength u))
       where
         go : Which (at.textLength t) (at.textLength u) → byLength (at.textLength t) (at.textLength u) p ≡ Left p
@@ -94,8 +98,8 @@ module _ (t u : List ℕ) (rt : headerResult t ≡ 0) (ru : headerResult u ≡ 0
 
     at-place : (rest : Answer) → rest ≡ Left (p + 1)
         → unless (byteAnswer t p .number) (unless (byteAnswer u p .number)
-        (cond (ltb (byteAnswer t p .value) (byteAnswer u p .value)) (stands before p)
-        (cond (ltb (byteAnswer u p .value) (byteAnswer t p .value)) (stands after p) rest)))
+        (cond (ltb (byteAnswer t p .value) (byteAnswer u p .value)) (orderAnswer before p)
+        (cond (ltb (byteAnswer u p .value) (byteAnswer t p .value)) (orderAnswer after p) rest)))
         ≡ Left p
     at-place rest r =
         let a = drop-cons T p 0 (omega (arith, n-is)) in
@@ -109,51 +113,51 @@ module _ (t u : List ℕ) (rt : headerResult t ≡ 0) (ru : headerResult u ≡ 0
   from-place (suc more) p e = at-place p (omega arith) (omega arith) (comparedFrom t u more (p + 1)) (from-place more (p + 1) (omega arith))
 
   -- The comparison is not refused, and returns the order of the first text and the length of the longest common prefix.
-  pub order-of-texts : compareAnswer t u ≡ stands (standing (textOf t) (textOf u)) (shared (textOf t) (textOf u))
+  pub order-of-texts : compareAnswer t u ≡ orderAnswer (textOrdering (textOf t) (textOf u)) (shared (textOf t) (textOf u))
   unfolding compareAnswer
   order-of-texts = rw (rt, ru) (from-place (shortest t u) 0 (omega arith) ∙ start)
     where
-      start : stands (standing T U) (0 + shared T U) ≡ stands (standing T U) (shared T U)
+      start : orderAnswer (textOrdering T U) (0 + shared T U) ≡ orderAnswer (textOrdering T U) (shared T U)
       start = let z : 0 + shared T U ≡ shared T U = omega arith in rw z
 
 -- The answer in each case.
-outcome-is : (r : CompareAnswer) (s : Ordering) (n : ℕ) → replied (compareReply r) ≡ stands s n → r ≡ outcome s n
+outcome-is : (r : CompareAnswer) (s : Ordering) (n : ℕ) → replied (compareReply r) ≡ orderAnswer s n → r ≡ outcome s n
 outcome-is r s n e = go r s (ap (λ (x : Answer). x .value) e) (ap (λ (x : Answer). x .entered) e)
   where
     go : (r : CompareAnswer) (s : Ordering) → replied (compareReply r) .value ≡ code s → replied (compareReply r) .entered ≡ n → r ≡ outcome s n
-    go (compared.Before k) before o l = ap compared.Before l
-    go (compared.Before k) same o l = absurd (let z : ⊥ = omega arith in z)
-    go (compared.Before k) after o l = absurd (let z : ⊥ = omega arith in z)
-    go (compared.Same k) before o l = absurd (let z : ⊥ = omega arith in z)
-    go (compared.Same k) same o l = ap compared.Same l
-    go (compared.Same k) after o l = absurd (let z : ⊥ = omega arith in z)
-    go (compared.After k) before o l = absurd (let z : ⊥ = omega arith in z)
-    go (compared.After k) same o l = absurd (let z : ⊥ = omega arith in z)
-    go (compared.After k) after o l = ap compared.After l
-    go (compared.Refused q) before o l = absurd (let z : ⊥ = omega arith in z)
-    go (compared.Refused q) same o l = absurd (let z : ⊥ = omega arith in z)
-    go (compared.Refused q) after o l = absurd (let z : ⊥ = omega arith in z)
+    go (compare.Before k) before o l = ap compare.Before l
+    go (compare.Before k) same o l = absurd (let z : ⊥ = omega arith in z)
+    go (compare.Before k) after o l = absurd (let z : ⊥ = omega arith in z)
+    go (compare.Same k) before o l = absurd (let z : ⊥ = omega arith in z)
+    go (compare.Same k) same o l = ap compare.Same l
+    go (compare.Same k) after o l = absurd (let z : ⊥ = omega arith in z)
+    go (compare.After k) before o l = absurd (let z : ⊥ = omega arith in z)
+    go (compare.After k) same o l = absurd (let z : ⊥ = omega arith in z)
+    go (compare.After k) after o l = ap compare.After l
+    go (compare.Refused q) before o l = absurd (let z : ⊥ = omega arith in z)
+    go (compare.Refused q) same o l = absurd (let z : ⊥ = omega arith in z)
+    go (compare.Refused q) after o l = absurd (let z : ⊥ = omega arith in z)
 
 -- A refusal has no order.
-refusal-is : (r : CompareAnswer) (q : ℕ) → replied (compareReply r) ≡ refused q → r ≡ compared.Refused q
+refusal-is : (r : CompareAnswer) (q : ℕ) → replied (compareReply r) ≡ refused q → r ≡ compare.Refused q
 refusal-is r q e = go r (ap (λ (x : Answer). x .value) e) (ap (λ (x : Answer). x .number) e)
   where
-    go : (r : CompareAnswer) → replied (compareReply r) .value ≡ 0 → replied (compareReply r) .number ≡ q → r ≡ compared.Refused q
-    go (compared.Before k) o n = absurd (let z : ⊥ = omega arith in z)
-    go (compared.Same k) o n = absurd (let z : ⊥ = omega arith in z)
-    go (compared.After k) o n = absurd (let z : ⊥ = omega arith in z)
-    go (compared.Refused k) o n = ap compared.Refused n
+    go : (r : CompareAnswer) → replied (compareReply r) .value ≡ 0 → replied (compareReply r) .number ≡ q → r ≡ compare.Refused q
+    go (compare.Before k) o n = absurd (let z : ⊥ = omega arith in z)
+    go (compare.Same k) o n = absurd (let z : ⊥ = omega arith in z)
+    go (compare.After k) o n = absurd (let z : ⊥ = omega arith in z)
+    go (compare.Refused k) o n = ap compare.Refused n
 
 -- For any bytes.
 module _ (κs : Lfts 2) (t u : RefT (List ℕ)) (r : CompareAnswer) (a : Compare κs t u r) where
   -- Questions 5 to 7 of the first tree come first.
-  pub order-unread : (q : ℕ) → headerResult (now t) ≡ suc q → r ≡ compared.Refused (suc q)
+  pub order-unread : (q : ℕ) → headerResult (now t) ≡ suc q → r ≡ compare.Refused (suc q)
   unfolding compareAnswer
   order-unread q e = refusal-is r (suc q) (a .answers ∙ rw e)
 
   module _ (rt : headerResult (now t) ≡ 0) where
     -- Those of the second tree are next.
-    pub order-unread-2 : (q : ℕ) → headerResult (now u) ≡ suc q → r ≡ compared.Refused (suc q)
+    pub order-unread-2 : (q : ℕ) → headerResult (now u) ≡ suc q → r ≡ compare.Refused (suc q)
     unfolding compareAnswer
     order-unread-2 q e = refusal-is r (suc q) (a .answers ∙ rw (rt, e))
 
@@ -168,23 +172,23 @@ module _ (κs : Lfts 2) (t u : RefT (List ℕ)) (r : CompareAnswer) (a : Compare
           rw (rt, ru) (rw (z, y) at e)
 
       -- Refused with 14: the path of p breaks in the first tree.
-      pub order-broken : byteAnswer (now t) p .number ≡ 14 → r ≡ compared.Refused 14
+      pub order-broken : byteAnswer (now t) p .number ≡ 14 → r ≡ compare.Refused 14
       order-broken e = refusal-is r 14 (a .answers ∙ from-there ∙ first-broken (now t) (now u) p low e)
 
       module _ (there : byteAnswer (now t) p .number ≡ 0) where
         -- Refused with 14: the path of p holds in the first tree and breaks in the second.
-        pub order-broken-2 : byteAnswer (now u) p .number ≡ 14 → r ≡ compared.Refused 14
+        pub order-broken-2 : byteAnswer (now u) p .number ≡ 14 → r ≡ compare.Refused 14
         order-broken-2 e = refusal-is r 14 (a .answers ∙ from-there ∙ second-broken (now t) (now u) p low there e)
 
         -- A difference is the answer, whatever comes after it.
         module _ (there-2 : byteAnswer (now u) p .number ≡ 0) where
-          pub order-below : byteAnswer (now t) p .value < byteAnswer (now u) p .value → r ≡ compared.Before p
+          pub order-below : byteAnswer (now t) p .value < byteAnswer (now u) p .value → r ≡ compare.Before p
           unfolding byByte
           order-below h =
               let e = place-differs (now t) (now u) p low there there-2 (λ z. omega arith) in
               outcome-is r before p (a .answers ∙ from-there ∙ e ∙ rw (lt-ltb _ _ h))
 
-          pub order-above : byteAnswer (now u) p .value < byteAnswer (now t) p .value → r ≡ compared.After p
+          pub order-above : byteAnswer (now u) p .value < byteAnswer (now t) p .value → r ≡ compare.After p
           unfolding byByte
           order-above h =
               let e = place-differs (now t) (now u) p low there there-2 (λ z. omega arith) in
@@ -199,7 +203,7 @@ CompareFirst κs t u number order length number′ order′ length′ r =
 module _ (t u : RefT (List ℕ)) (rt : headerResult (now t) ≡ 0) (ru : headerResult (now u) ≡ 0) (lt : linksOk (now t) ≡ true) (lu : linksOk (now u) ≡ true) where
   -- The order of the first text, and the length of the longest common prefix.
   abbrev s : Ordering
-  s = standing (textOf (now t)) (textOf (now u))
+  s = textOrdering (textOf (now t)) (textOf (now u))
 
   abbrev n : ℕ
   n = shared (textOf (now t)) (textOf (now u))
@@ -211,12 +215,12 @@ module _ (t u : RefT (List ℕ)) (rt : headerResult (now t) ≡ 0) (ru : headerR
   -- `first` returns the tree whose text comes first, the first argument if the texts are equal, with the figures of the comparison.
   pub first-texts : (κs : Lfts 4) (number order length number′ order′ length′ : RefT ℕ) (r : RefT (List ℕ))
       → CompareFirst κs t u number order length number′ order′ length′ r
-      → (r ≡ firstOf s t u) × (record { number = now number′; value = now order′; entered = now length′ } ≡ stands s n)
+      → (r ≡ firstOf s t u) × (record { number = now number′; value = now order′; entered = now length′ } ≡ orderAnswer s n)
   first-texts κs number order length number′ order′ length′ r a =
       let e = order-of-texts (now t) (now u) rt ru lt lu in
       (whole s n (rw e at (a .1)), a .0 ∙ e)
     where
-      whole : (s : Ordering) (n : ℕ) → Handed (stands s n) t u r → r ≡ firstOf s t u
+      whole : (s : Ordering) (n : ℕ) → IsFirstAnswer (orderAnswer s n) t u r → r ≡ firstOf s t u
       whole before n h = h .given refl
       whole same n h = h .given refl
       whole after n h = h .given refl

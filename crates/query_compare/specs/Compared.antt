@@ -14,7 +14,7 @@ use Rattle.query_access.specs.ReadByRuns.{ReadsOn}
 use Rattle.query_compare.specs.declared.side_by_side.Progress.{Progress}
 use Rattle.query_compare.specs.declared.side_by_side.Round.{Round}
 use Rattle.query_compare.specs.declared.side_by_side.Round.the-variants as round
-use Rattle.query_compare.specs.OrderAnswers.{before, after, stands, comparedFrom, compareAnswer, IsCompareAnswer}
+use Rattle.query_compare.specs.OrderAnswers.{before, after, orderAnswer, comparedFrom, compareAnswer, IsCompareAnswer}
 
 -- Bytes of the text from place p, at least one, or none because the path of p breaks.
 abbrev pub CompareReadsFrom : List ℕ → ℕ → RunRangeAnswer → Type 0
@@ -29,7 +29,7 @@ pub record Agrees (s : List ℕ) (a : ℕ) (t : List ℕ) (b n r : ℕ) : Type 0
 
 -- The order by the first byte that differs, at place p.
 unfoldable pub byByte : ℕ → ℕ → ℕ → Answer
-byByte x y p = cond (ltb x y) (stands before p) (stands after p)
+byByte x y p = cond (ltb x y) (orderAnswer before p) (orderAnswer after p)
 
 -- The length of the shorter text.
 abbrev pub shortest : List ℕ → List ℕ → ℕ

@@ -10,7 +10,7 @@ use Rattle.format.specs.TreeReading.{headerResult}
 use mathlib.Core.Path.{_≡_}
 use denote.Ref.{RefT, now}
 use Rattle.query_compare.specs.declared.CompareAnswer.{CompareAnswer}
-use Rattle.query_compare.specs.declared.CompareAnswer.the-variants as compared
+use Rattle.query_compare.specs.declared.CompareAnswer.the-variants as compare
 
 -- The lexicographic order of texts, and what compare returns for any bytes given as two trees.
 -- docs/FORMAT.md: "The order of books".
@@ -27,12 +27,12 @@ code same = 2
 code after = 3
 
 -- An order with the length of the longest common prefix.
-abbrev pub stands : Ordering → ℕ → Answer
-stands s n = record { number = 0; value = code s; entered = n }
+abbrev pub orderAnswer : Ordering → ℕ → Answer
+orderAnswer s n = record { number = 0; value = code s; entered = n }
 
 -- Two texts of n and m bytes whose shared beginning is the whole of the shorter.
 unfoldable pub byLength : ℕ → ℕ → ℕ → Answer
-byLength n m p = cond (ltb n m) (stands before p) (cond (ltb m n) (stands after p) (stands same p))
+byLength n m p = cond (ltb n m) (orderAnswer before p) (cond (ltb m n) (orderAnswer after p) (orderAnswer same p))
 
 module _ (t u : List ℕ) where
   -- From place p on, with this many places left in the shorter text: each is read in the first tree and then in the second.
@@ -42,7 +42,7 @@ module _ (t u : List ℕ) where
       let rest = comparedFrom more (p + 1) in
       let x = byteAnswer t p .value in
       let y = byteAnswer u p .value in
-      unless (byteAnswer t p .number) (unless (byteAnswer u p .number) (cond (ltb x y) (stands before p) (cond (ltb y x) (stands after p) rest)))
+      unless (byteAnswer t p .number) (unless (byteAnswer u p .number) (cond (ltb x y) (orderAnswer before p) (cond (ltb y x) (orderAnswer after p) rest)))
 
   -- The answer of compare: questions 5 to 7 for the first tree, then for the second, then the places.
   unfoldable pub compareAnswer : Answer
@@ -51,17 +51,17 @@ module _ (t u : List ℕ) where
 -- The answers of compare and first by their refusals and figures (docs/FORMAT.md, "The order of books").
 
 abbrev pub compareReply : CompareAnswer → Reply
-compareReply (compared.Before n) = figures (code before) n
-compareReply (compared.Same n) = figures (code same) n
-compareReply (compared.After n) = figures (code after) n
-compareReply (compared.Refused q) = refusal q
+compareReply (compare.Before n) = figures (code before) n
+compareReply (compare.Same n) = figures (code same) n
+compareReply (compare.After n) = figures (code after) n
+compareReply (compare.Refused q) = refusal q
 
 -- The answer of compare for two trees; the first figure is never 0, so a refusal is distinct from every answer.
 pub record IsCompareAnswer (t u : List ℕ) (r : CompareAnswer) : Type 0 where
   pub answers : replied (compareReply r) ≡ compareAnswer t u
 
 -- What first returns: the one of the two given references whose text comes first, the first one if the texts are equal; an empty slice if refused.
-pub record Handed (s : Answer) (one other r : RefT (List ℕ)) : Type 0 where
+pub record IsFirstAnswer (s : Answer) (one other r : RefT (List ℕ)) : Type 0 where
   pub given : s .number ≡ 0 → r ≡ cond (eqb (s .value) 3) other one
   pub absent : 1 ≤ s .number → now r ≡ []
 

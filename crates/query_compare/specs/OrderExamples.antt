@@ -11,9 +11,9 @@ use Rattle.format.specs.Blocks.{startsAt, cut, keptByPairs, firstPairAt, pairAt
 use Rattle.format.specs.Layout.{edgesOf, filledOut, risingAfter}
 use Rattle.format.specs.Layout as at
 use Rattle.format.specs.TreeReading.{pathOf, pathFrom, targetPlace, targetBlock, pointingBlock}
-use Rattle.format.specs.TreeReading.{keptBlock, lands, landBlock, landPlace, landVisits, headerResult}
-use Rattle.query_compare.specs.OrderAnswers.{before, same, after, stands, byLength, comparedFrom, compareAnswer}
-use Rattle.query_compare.specs.TextOrder.{standing, shared}
+use Rattle.format.specs.TreeReading.{keptBlock, resolves, resolvedBlock, resolvedPlace, resolvedVisits, headerResult}
+use Rattle.query_compare.specs.OrderAnswers.{before, same, after, orderAnswer, byLength, comparedFrom, compareAnswer}
+use Rattle.query_compare.specs.TextOrder.{textOrdering, shared}
 
 nine : List ℕ
 nine = 81 ∷ 65 ∷ 66 ∷ 67 ∷ 68 ∷ 65 ∷ 66 ∷ 67 ∷ 68 ∷ []
@@ -69,34 +69,34 @@ early : List ℕ
 early = setWord w 104 2
 
 pub record CompareMarked : Type 0 where
-  texts : (standing nine compare-book ≡ before) × (standing compare-book nine ≡ after) × (standing compare-book compare-book ≡ same)
+  texts : (textOrdering nine compare-book ≡ before) × (textOrdering compare-book nine ≡ after) × (textOrdering compare-book compare-book ≡ same)
       × (shared nine compare-book ≡ 9)
-  settings : compareAnswer w w′ ≡ stands same 20
-  layouts : (compareAnswer w compare-older ≡ stands same 20) × (compareAnswer compare-older p ≡ stands after 9)
-  beginning : (compareAnswer w p ≡ stands after 9) × (compareAnswer p w ≡ stands before 9)
-  unsigned : (compareAnswer high low ≡ stands after 0) × (compareAnswer low high ≡ stands before 0)
-  differ : (compareAnswer p x ≡ stands before 8) × (compareAnswer x p ≡ stands after 8)
-      × (compareAnswer w x ≡ stands before 8) × (compareAnswer x w ≡ stands after 8)
+  settings : compareAnswer w w′ ≡ orderAnswer same 20
+  layouts : (compareAnswer w compare-older ≡ orderAnswer same 20) × (compareAnswer compare-older p ≡ orderAnswer after 9)
+  beginning : (compareAnswer w p ≡ orderAnswer after 9) × (compareAnswer p w ≡ orderAnswer before 9)
+  unsigned : (compareAnswer high low ≡ orderAnswer after 0) × (compareAnswer low high ≡ orderAnswer before 0)
+  differ : (compareAnswer p x ≡ orderAnswer before 8) × (compareAnswer x p ≡ orderAnswer after 8)
+      × (compareAnswer w x ≡ orderAnswer before 8) × (compareAnswer x w ≡ orderAnswer after 8)
   -- The empty text comes before every other, and no place is read.
-  empties : (compareAnswer compare-empty w ≡ stands before 0) × (compareAnswer compare-older compare-empty ≡ stands after 0)
-      × (compareAnswer compare-empty empty′ ≡ stands same 0) × (compareAnswer early compare-empty ≡ stands after 0)
+  empties : (compareAnswer compare-empty w ≡ orderAnswer before 0) × (compareAnswer compare-older compare-empty ≡ orderAnswer after 0)
+      × (compareAnswer compare-empty empty′ ≡ orderAnswer same 0) × (compareAnswer early compare-empty ≡ orderAnswer after 0)
   -- A path that breaks, and one that breaks past the first difference or the shorter end, which is not read.
   broken : (compareAnswer late w ≡ refused 14) × (compareAnswer w late ≡ refused 14) × (compareAnswer late late ≡ refused 14)
       × (compareAnswer early high ≡ refused 14)
-  unseen : (compareAnswer late x ≡ stands before 8) × (compareAnswer x late ≡ stands after 8) × (compareAnswer late p ≡ stands after 9)
+  unseen : (compareAnswer late x ≡ orderAnswer before 8) × (compareAnswer x late ≡ orderAnswer after 8) × (compareAnswer late p ≡ orderAnswer after 9)
   -- 5 to 7 of the first, then of the second, before any 14
   unread : (compareAnswer (take 99 w) [] ≡ refused 5) × (compareAnswer w (take 99 w) ≡ refused 5)
       × (compareAnswer (setWord w 0 9) (take 99 w) ≡ refused 6)
       × (compareAnswer early (setWord w 4 21) ≡ refused 7) × (compareAnswer (setWord w 4 21) (setWord w 0 9) ≡ refused 7)
 
 pub compare-marked : CompareMarked
-unfolding nine compare-book compare-two w w′ p x high low compare-empty empty′ compare-words compare-older setWord late early standing shared byLength
+unfolding nine compare-book compare-two w w′ p x high low compare-empty empty′ compare-words compare-older setWord late early textOrdering shared byLength
     comparedFrom compareAnswer tabulate concat
     sumBelow countBelow allBelow sameList wordAt wordsBytes wordBytes substring leftmost firstFrom countIn blockLength pieces recordLength lengthOk
     sizesOk countedOk rising risingAfter treeOf header leafBytes levelPairs recordBytes edgesOf filledOut levelBytes recordIn recordOf target
     occurrence width isKept startsAt cut keptByPairs firstPairAt pairAt lengthOf startOf pathOf pathFrom targetPlace targetBlock pointingBlock
-    keptBlock lands landBlock landPlace landVisits headerResult at.leafByte byteAnswer at.blockLengthAt at.levelCount at.levelOffset at.layout at.textLength
-    at.countedCount at.settings at.leafOffset at.leafCount at.recordSize at.field at.start at.kind at.link at.gap at.before at.inside at.skip
+    keptBlock resolves resolvedBlock resolvedPlace resolvedVisits headerResult at.leafByte byteAnswer at.blockLengthAt at.levelCount at.levelOffset at.layout
+    at.textLength at.countedCount at.settings at.leafOffset at.leafCount at.recordSize at.field at.start at.kind at.link at.gap at.before at.inside at.skip
     at.edgesAt at.fullLength at.isKept at.isPointing at.hasEdges at.holdsHeader at.layoutOk at.headerOk
 compare-marked = record {
   texts = (refl, refl, refl, refl);

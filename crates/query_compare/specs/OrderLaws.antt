@@ -11,7 +11,7 @@ use lib.ListN.{length, getD}
 use lib.Dec.{ltb}
 use Rattle.text.specs.ListLaws.{lt-or-ge}
 use Rattle.query_compare.specs.OrderAnswers.{Ordering, before, same, after}
-use Rattle.query_compare.specs.TextOrder.{standing, shared}
+use Rattle.query_compare.specs.TextOrder.{textOrdering, shared}
 
 -- One byte of each.
 
@@ -30,17 +30,17 @@ which x y = go (lt-or-ge x y) (lt-or-ge y x)
     go (inr h) (inr k) = equal (omega arith)
 
 module _ (x y : ℕ) (T U : List ℕ) where
-  pub standing-below : x < y → standing (x ∷ T) (y ∷ U) ≡ before
-  unfolding standing
-  standing-below h = rw (lt-ltb x y h)
+  pub ordering-below : x < y → textOrdering (x ∷ T) (y ∷ U) ≡ before
+  unfolding textOrdering
+  ordering-below h = rw (lt-ltb x y h)
 
-  pub standing-above : y < x → standing (x ∷ T) (y ∷ U) ≡ after
-  unfolding standing
-  standing-above h = rw (le-ltb x y (omega arith), lt-ltb y x h)
+  pub ordering-above : y < x → textOrdering (x ∷ T) (y ∷ U) ≡ after
+  unfolding textOrdering
+  ordering-above h = rw (le-ltb x y (omega arith), lt-ltb y x h)
 
-  pub standing-equal : x ≡ y → standing (x ∷ T) (y ∷ U) ≡ standing T U
-  unfolding standing
-  standing-equal e = rw (e, le-ltb y y (omega arith))
+  pub ordering-equal : x ≡ y → textOrdering (x ∷ T) (y ∷ U) ≡ textOrdering T U
+  unfolding textOrdering
+  ordering-equal e = rw (e, le-ltb y y (omega arith))
 
   pub shared-equal : x ≡ y → shared (x ∷ T) (y ∷ U) ≡ shared T U + 1
   unfolding shared
@@ -66,66 +66,66 @@ flip same = same
 flip after = before
 
 -- The other way round the outcome is turned.
-pub standing-flip : (T U : List ℕ) → standing U T ≡ flip (standing T U)
-unfolding standing
-standing-flip [] [] = refl
-standing-flip [] (y ∷ U) = refl
-standing-flip (x ∷ T) [] = refl
-standing-flip (x ∷ T) (y ∷ U) = go (which x y) (standing-flip T U)
+pub ordering-flip : (T U : List ℕ) → textOrdering U T ≡ flip (textOrdering T U)
+unfolding textOrdering
+ordering-flip [] [] = refl
+ordering-flip [] (y ∷ U) = refl
+ordering-flip (x ∷ T) [] = refl
+ordering-flip (x ∷ T) (y ∷ U) = go (which x y) (ordering-flip T U)
   where
-    go : Which x y → standing U T ≡ flip (standing T U) → standing (y ∷ U) (x ∷ T) ≡ flip (standing (x ∷ T) (y ∷ U))
-    go (below h) r = standing-above y x U T h ∙ ap flip (sym (standing-below x y T U h))
-    go (equal e) r = standing-equal y x U T (sym e) ∙ r ∙ ap flip (sym (standing-equal x y T U e))
-    go (above h) r = standing-below y x U T h ∙ ap flip (sym (standing-above x y T U h))
+    go : Which x y → textOrdering U T ≡ flip (textOrdering T U) → textOrdering (y ∷ U) (x ∷ T) ≡ flip (textOrdering (x ∷ T) (y ∷ U))
+    go (below h) r = ordering-above y x U T h ∙ ap flip (sym (ordering-below x y T U h))
+    go (equal e) r = ordering-equal y x U T (sym e) ∙ r ∙ ap flip (sym (ordering-equal x y T U e))
+    go (above h) r = ordering-below y x U T h ∙ ap flip (sym (ordering-above x y T U h))
 
 -- A text compares as same with itself.
-pub standing-refl : (T : List ℕ) → standing T T ≡ same
-unfolding standing
-standing-refl [] = refl
-standing-refl (x ∷ T) = standing-equal x x T T refl ∙ standing-refl T
+pub ordering-refl : (T : List ℕ) → textOrdering T T ≡ same
+unfolding textOrdering
+ordering-refl [] = refl
+ordering-refl (x ∷ T) = ordering-equal x x T T refl ∙ ordering-refl T
 
 -- Only equal texts compare as same.
-pub standing-same : (T U : List ℕ) → standing T U ≡ same → T ≡ U
-unfolding standing
-standing-same [] [] e = refl
-standing-same [] (y ∷ U) e = clash before same (λ z. omega arith) e
-standing-same (x ∷ T) [] e = clash after same (λ z. omega arith) e
-standing-same (x ∷ T) (y ∷ U) e = go (which x y) (standing-same T U)
+pub ordering-same : (T U : List ℕ) → textOrdering T U ≡ same → T ≡ U
+unfolding textOrdering
+ordering-same [] [] e = refl
+ordering-same [] (y ∷ U) e = clash before same (λ z. omega arith) e
+ordering-same (x ∷ T) [] e = clash after same (λ z. omega arith) e
+ordering-same (x ∷ T) (y ∷ U) e = go (which x y) (ordering-same T U)
   where
-    go : Which x y → (standing T U ≡ same → T ≡ U) → x ∷ T ≡ y ∷ U
-    go (below h) r = clash before same (λ z. omega arith) (sym (standing-below x y T U h) ∙ e)
-    go (equal z) r = rw (z, r (sym (standing-equal x y T U z) ∙ e))
-    go (above h) r = clash after same (λ z. omega arith) (sym (standing-above x y T U h) ∙ e)
+    go : Which x y → (textOrdering T U ≡ same → T ≡ U) → x ∷ T ≡ y ∷ U
+    go (below h) r = clash before same (λ z. omega arith) (sym (ordering-below x y T U h) ∙ e)
+    go (equal z) r = rw (z, r (sym (ordering-equal x y T U z) ∙ e))
+    go (above h) r = clash after same (λ z. omega arith) (sym (ordering-above x y T U h) ∙ e)
 
 -- The order is transitive.
-pub standing-trans : (A B C : List ℕ) → standing A B ≡ before → standing B C ≡ before → standing A C ≡ before
-unfolding standing
-standing-trans [] [] C e f = clash same before (λ z. omega arith) e
-standing-trans [] (y ∷ B) [] e f = clash after before (λ z. omega arith) f
-standing-trans [] (y ∷ B) (z ∷ C) e f = refl
-standing-trans (x ∷ A) [] C e f = clash after before (λ z. omega arith) e
-standing-trans (x ∷ A) (y ∷ B) [] e f = clash after before (λ z. omega arith) f
-standing-trans (x ∷ A) (y ∷ B) (z ∷ C) e f = go (which x y) (which y z) (standing-trans A B C)
+pub ordering-trans : (A B C : List ℕ) → textOrdering A B ≡ before → textOrdering B C ≡ before → textOrdering A C ≡ before
+unfolding textOrdering
+ordering-trans [] [] C e f = clash same before (λ z. omega arith) e
+ordering-trans [] (y ∷ B) [] e f = clash after before (λ z. omega arith) f
+ordering-trans [] (y ∷ B) (z ∷ C) e f = refl
+ordering-trans (x ∷ A) [] C e f = clash after before (λ z. omega arith) e
+ordering-trans (x ∷ A) (y ∷ B) [] e f = clash after before (λ z. omega arith) f
+ordering-trans (x ∷ A) (y ∷ B) (z ∷ C) e f = go (which x y) (which y z) (ordering-trans A B C)
   where
-    go : Which x y → Which y z → (standing A B ≡ before → standing B C ≡ before → standing A C ≡ before) → standing (x ∷ A) (z ∷ C) ≡ before
-    go (below h) (below k) r = standing-below x z A C (omega arith)
-    go (below h) (equal k) r = standing-below x z A C (omega arith)
-    go (equal h) (below k) r = standing-below x z A C (omega arith)
-    go (equal h) (equal k) r = standing-equal x z A C (h ∙ k) ∙ r (sym (standing-equal x y A B h) ∙ e) (sym (standing-equal y z B C k) ∙ f)
-    go (above h) w r = clash after before (λ v. omega arith) (sym (standing-above x y A B h) ∙ e)
-    go (below h) (above k) r = clash after before (λ v. omega arith) (sym (standing-above y z B C k) ∙ f)
-    go (equal h) (above k) r = clash after before (λ v. omega arith) (sym (standing-above y z B C k) ∙ f)
+    go : Which x y → Which y z → (textOrdering A B ≡ before → textOrdering B C ≡ before → textOrdering A C ≡ before) → textOrdering (x ∷ A) (z ∷ C) ≡ before
+    go (below h) (below k) r = ordering-below x z A C (omega arith)
+    go (below h) (equal k) r = ordering-below x z A C (omega arith)
+    go (equal h) (below k) r = ordering-below x z A C (omega arith)
+    go (equal h) (equal k) r = ordering-equal x z A C (h ∙ k) ∙ r (sym (ordering-equal x y A B h) ∙ e) (sym (ordering-equal y z B C k) ∙ f)
+    go (above h) w r = clash after before (λ v. omega arith) (sym (ordering-above x y A B h) ∙ e)
+    go (below h) (above k) r = clash after before (λ v. omega arith) (sym (ordering-above y z B C k) ∙ f)
+    go (equal h) (above k) r = clash after before (λ v. omega arith) (sym (ordering-above y z B C k) ∙ f)
 
 -- The empty text comes before every other.
-pub empty-first : (T : List ℕ) → (T ≡ [] → ⊥) → standing [] T ≡ before
-unfolding standing
+pub empty-first : (T : List ℕ) → (T ≡ [] → ⊥) → textOrdering [] T ≡ before
+unfolding textOrdering
 empty-first [] n = absurd (n refl)
 empty-first (y ∷ T) n = refl
 
 -- The total order: before or same.
 
 abbrev pub Upto : List ℕ → List ℕ → Type 0
-Upto T U = standing T U ≡ after → ⊥
+Upto T U = textOrdering T U ≡ after → ⊥
 
 pub record TotalOrder (R : List ℕ → List ℕ → Type 0) : Type 0 where
   pub reflexive : (T : List ℕ) → R T T
@@ -135,33 +135,33 @@ pub record TotalOrder (R : List ℕ → List ℕ → Type 0) : Type 0 where
 
 module _ (T U : List ℕ) where
   -- At or before is before or the same.
-  upto : (s : Ordering) → standing T U ≡ s → Upto T U → (standing T U ≡ before) ⊎ (T ≡ U)
+  upto : (s : Ordering) → textOrdering T U ≡ s → Upto T U → (textOrdering T U ≡ before) ⊎ (T ≡ U)
   upto before e n = inl e
-  upto same e n = inr (standing-same T U e)
+  upto same e n = inr (ordering-same T U e)
   upto after e n = absurd (n e)
 
 pub text-order : TotalOrder Upto
 text-order = record {
-  reflexive = λ T e. clash same after (λ z. omega arith) (sym (standing-refl T) ∙ e);
-  antisymmetric = λ T U a b. anti T U (upto T U (standing T U) refl a) b;
-  transitive = λ A B C a b. trans A B C (upto A B (standing A B) refl a) (upto B C (standing B C) refl b);
-  total = λ T U. either T U (standing T U) refl;
+  reflexive = λ T e. clash same after (λ z. omega arith) (sym (ordering-refl T) ∙ e);
+  antisymmetric = λ T U a b. anti T U (upto T U (textOrdering T U) refl a) b;
+  transitive = λ A B C a b. trans A B C (upto A B (textOrdering A B) refl a) (upto B C (textOrdering B C) refl b);
+  total = λ T U. either T U (textOrdering T U) refl;
 }
   where
-    anti : (T U : List ℕ) → (standing T U ≡ before) ⊎ (T ≡ U) → Upto U T → T ≡ U
-    anti T U (inl e) b = absurd (b (standing-flip T U ∙ ap flip e))
+    anti : (T U : List ℕ) → (textOrdering T U ≡ before) ⊎ (T ≡ U) → Upto U T → T ≡ U
+    anti T U (inl e) b = absurd (b (ordering-flip T U ∙ ap flip e))
     anti T U (inr e) b = e
 
-    trans : (A B C : List ℕ) → (standing A B ≡ before) ⊎ (A ≡ B) → (standing B C ≡ before) ⊎ (B ≡ C) → standing A C ≡ after → ⊥
-    trans A B C (inl e) (inl f) z = clash before after (λ v. omega arith) (sym (standing-trans A B C e f) ∙ z)
+    trans : (A B C : List ℕ) → (textOrdering A B ≡ before) ⊎ (A ≡ B) → (textOrdering B C ≡ before) ⊎ (B ≡ C) → textOrdering A C ≡ after → ⊥
+    trans A B C (inl e) (inl f) z = clash before after (λ v. omega arith) (sym (ordering-trans A B C e f) ∙ z)
     trans A B C (inl e) (inr f) z = clash before after (λ v. omega arith) (sym e ∙ rw (← f) at z)
     trans A B C (inr e) (inl f) z = clash before after (λ v. omega arith) (sym f ∙ rw e at z)
-    trans A B C (inr e) (inr f) z = clash same after (λ v. omega arith) (sym (standing-refl C) ∙ rw (e ∙ f) at z)
+    trans A B C (inr e) (inr f) z = clash same after (λ v. omega arith) (sym (ordering-refl C) ∙ rw (e ∙ f) at z)
 
-    either : (T U : List ℕ) (s : Ordering) → standing T U ≡ s → Upto T U ⊎ Upto U T
+    either : (T U : List ℕ) (s : Ordering) → textOrdering T U ≡ s → Upto T U ⊎ Upto U T
     either T U before e = inl (λ z. clash before after (λ v. omega arith) (sym e ∙ z))
     either T U same e = inl (λ z. clash same after (λ v. omega arith) (sym e ∙ z))
-    either T U after e = inr (λ z. clash before after (λ v. omega arith) (sym (standing-flip T U ∙ ap flip e) ∙ z))
+    either T U after e = inr (λ z. clash before after (λ v. omega arith) (sym (ordering-flip T U ∙ ap flip e) ∙ z))
 
 -- The longest common prefix: its bytes are equal, and those after it are not.
 pub record Beginning (T U : List ℕ) (n : ℕ) : Type 0 where
@@ -216,37 +216,37 @@ shared-itself [] = refl
 shared-itself (x ∷ T) = shared-equal x x T T refl ∙ add-one (shared T T) ∙ ap suc (shared-itself T)
 
 -- The order is decided by the byte after the longest common prefix, or by the end of the shorter text.
-pub record StandsBy (T U : List ℕ) : Type 0 where
+pub record OrderedBy (T U : List ℕ) : Type 0 where
   -- At the first difference the smaller byte decides.
-  pub by-byte : shared T U < length T → shared T U < length U → standing T U ≡ cond (ltb (getD T (shared T U) 0) (getD U (shared T U) 0)) before after
+  pub by-byte : shared T U < length T → shared T U < length U → textOrdering T U ≡ cond (ltb (getD T (shared T U) 0) (getD U (shared T U) 0)) before after
   -- A proper prefix comes first.
-  pub by-end : length T ≤ shared T U → shared T U < length U → standing T U ≡ before
-  pub by-other-end : shared T U < length T → length U ≤ shared T U → standing T U ≡ after
-  pub by-both : length T ≤ shared T U → length U ≤ shared T U → standing T U ≡ same
+  pub by-end : length T ≤ shared T U → shared T U < length U → textOrdering T U ≡ before
+  pub by-other-end : shared T U < length T → length U ≤ shared T U → textOrdering T U ≡ after
+  pub by-both : length T ≤ shared T U → length U ≤ shared T U → textOrdering T U ≡ same
 
-pub stands-by : (T U : List ℕ) → StandsBy T U
-unfolding standing shared
-stands-by [] [] = record {
+pub ordered-by : (T U : List ℕ) → OrderedBy T U
+unfolding textOrdering shared
+ordered-by [] [] = record {
   by-byte = λ h. absurd (let z : ⊥ = omega arith in z);
   by-end = λ h k. absurd (let z : ⊥ = omega arith in z);
   by-other-end = λ h. absurd (let z : ⊥ = omega arith in z);
   by-both = λ h k. refl;
 }
-stands-by [] (y ∷ U) = record {
+ordered-by [] (y ∷ U) = record {
   by-byte = λ h. absurd (let z : ⊥ = omega arith in z);
   by-end = λ h k. refl;
   by-other-end = λ h. absurd (let z : ⊥ = omega arith in z);
   by-both = λ h k. absurd (let z : ⊥ = omega arith in z);
 }
-stands-by (x ∷ T) [] = record {
+ordered-by (x ∷ T) [] = record {
   by-byte = λ h k. absurd (let z : ⊥ = omega arith in z);
   by-end = λ h. absurd (let z : ⊥ = omega arith in z);
   by-other-end = λ h k. refl;
   by-both = λ h. absurd (let z : ⊥ = omega arith in z);
 }
-stands-by (x ∷ T) (y ∷ U) = go (which x y) (stands-by T U)
+ordered-by (x ∷ T) (y ∷ U) = go (which x y) (ordered-by T U)
   where
-    none : (s : Ordering) → standing (x ∷ T) (y ∷ U) ≡ s → s ≡ cond (ltb x y) before after → (x ≡ y → ⊥) → StandsBy (x ∷ T) (y ∷ U)
+    none : (s : Ordering) → textOrdering (x ∷ T) (y ∷ U) ≡ s → s ≡ cond (ltb x y) before after → (x ≡ y → ⊥) → OrderedBy (x ∷ T) (y ∷ U)
     none s e f other =
         let z : shared (x ∷ T) (y ∷ U) ≡ 0 = shared-other x y T U other in record {
           by-byte = λ h k. rw z (e ∙ f);
@@ -255,12 +255,12 @@ stands-by (x ∷ T) (y ∷ U) = go (which x y) (stands-by T U)
           by-both = λ h. absurd (let w : ⊥ = omega arith in w);
         }
 
-    go : Which x y → StandsBy T U → StandsBy (x ∷ T) (y ∷ U)
-    go (below h) r = none before (standing-below x y T U h) (rw (lt-ltb x y h)) (λ e. omega arith)
-    go (above h) r = none after (standing-above x y T U h) (rw (le-ltb x y (omega arith))) (λ e. omega arith)
+    go : Which x y → OrderedBy T U → OrderedBy (x ∷ T) (y ∷ U)
+    go (below h) r = none before (ordering-below x y T U h) (rw (lt-ltb x y h)) (λ e. omega arith)
+    go (above h) r = none after (ordering-above x y T U h) (rw (le-ltb x y (omega arith))) (λ e. omega arith)
     go (equal e) r =
         let z : shared (x ∷ T) (y ∷ U) ≡ suc (shared T U) = shared-equal x y T U e ∙ add-one (shared T U) in
-        let s = standing-equal x y T U e in record {
+        let s = ordering-equal x y T U e in record {
           by-byte = λ h k. rw z (s ∙ r .by-byte (omega arith) (omega arith));
           by-end = λ h k. s ∙ r .by-end (omega arith) (omega arith);
           by-other-end = λ h k. s ∙ r .by-other-end (omega arith) (omega arith);

@@ -6,13 +6,13 @@ use Prim.Native.Nat.{ℕ, _+_}
 use lib.Dec.{ltb, eqb}
 use Rattle.query_compare.specs.OrderAnswers.{Ordering, before, same, after}
 use Rattle.query_compare.specs.declared.CompareAnswer.{CompareAnswer}
-use Rattle.query_compare.specs.declared.CompareAnswer.the-variants as compared
+use Rattle.query_compare.specs.declared.CompareAnswer.the-variants as compare
 
 -- The answer for each outcome, with the length of the shared beginning.
 abbrev pub outcome : Ordering → ℕ → CompareAnswer
-outcome before n = compared.Before n
-outcome same n = compared.Same n
-outcome after n = compared.After n
+outcome before n = compare.Before n
+outcome same n = compare.Same n
+outcome after n = compare.After n
 
 -- The value of the text that comes first; the first value for equal texts.
 abbrev pub firstOf {ℓ} : {A : Type ℓ} → Ordering → A → A → A
@@ -21,12 +21,12 @@ firstOf same x y = x
 firstOf after x y = y
 
 -- lexicographic order of bytes as unsigned numbers; a proper prefix comes before the longer text
-unfoldable pub standing : List ℕ → List ℕ → Ordering
-standing [] [] = same
-standing [] (y ∷ U) = before
-standing (x ∷ T) [] = after
-standing (x ∷ T) (y ∷ U) =
-    let rest = standing T U in
+unfoldable pub textOrdering : List ℕ → List ℕ → Ordering
+textOrdering [] [] = same
+textOrdering [] (y ∷ U) = before
+textOrdering (x ∷ T) [] = after
+textOrdering (x ∷ T) (y ∷ U) =
+    let rest = textOrdering T U in
     cond (ltb x y) before (cond (ltb y x) after rest)
 
 -- The length of the shared beginning.

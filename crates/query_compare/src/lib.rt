@@ -6,7 +6,7 @@ use layout::header::Header;
 use layout::header::HeaderAnswer;
 ghost use mathlib.Core.Path.{_≡_};
 ghost use Rattle.layout.specs.HeaderFields.{HeaderOf};
-ghost use Rattle.query_compare.specs.OrderAnswers.{compareAnswer, IsCompareAnswer, Handed};
+ghost use Rattle.query_compare.specs.OrderAnswers.{compareAnswer, IsCompareAnswer, IsFirstAnswer};
 
 // The order of the first text, with the length of the longest common prefix; or the refusal.
 pub enum CompareAnswer {
@@ -50,7 +50,7 @@ pub fn first<'a>(
 ) -> &'a [u8]
     ensures { λ _. ⌜ record { number = now (number .exit); value = now (order .exit); entered = now (shared .exit) }
         ≡ compareAnswer (now (one .entry)) (now (other .entry)) ⌝ }
-    ensures { λ r. ⌜ Handed (compareAnswer (now (one .entry)) (now (other .entry))) (one .entry) (other .entry) r ⌝ }
+    ensures { λ r. ⌜ IsFirstAnswer (compareAnswer (now (one .entry)) (now (other .entry))) (one .entry) (other .entry) r ⌝ }
 {
     let compared = compare(one, other);
     match compared {

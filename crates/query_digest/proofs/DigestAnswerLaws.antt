@@ -11,7 +11,7 @@ use Rattle.format.specs.Layout as at
 use Rattle.format.specs.TreeReading.{textOf, ask, headerResult}
 use Rattle.format.specs.Answers.{pathsHold, bufferAfter}
 use Rattle.layout.specs.declared.header.HeaderAnswer.{HeaderAnswer}
-use Rattle.layout.specs.declared.header.HeaderAnswer.the-variants as read
+use Rattle.layout.specs.declared.header.HeaderAnswer.the-variants as header
 use Rattle.layout.specs.Header.{headerAnswer}
 use Rattle.layout.specs.HeaderFields.{header-refused, header-small}
 use Rattle.sha256.specs.declared.HashState.{HashState}
@@ -31,7 +31,7 @@ module _ (t out : List ℕ) where
   unfolding digestBuffer bufferAfter
   stays n e other = (sym e, rw (e, ne-eqb (suc n) 0 (λ z. omega arith), ne-eqb (suc n) 14 other))
 
-  pub unread : (x : HeaderAnswer) → x ≡ headerAnswer t → (q : ℕ) → x ≡ read.Refused q → DigestResult q out
+  pub unread : (x : HeaderAnswer) → x ≡ headerAnswer t → (q : ℕ) → x ≡ header.Refused q → DigestResult q out
   unfolding digestRefusal
   unread x is q e =
       let z = header-refused t x is q e in

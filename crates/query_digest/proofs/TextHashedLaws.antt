@@ -43,14 +43,14 @@ module _ (t : List ℕ) (h : Header) (k : HeaderOf t h) (p len : ℕ) (low : p +
   unfolding copyRefusal spanQuestions
   number-is = rw (k .passes, le-leb (p + len) (at.textLength t) (omega (arith, k .length-is)), le-leb len (length d) room)
 
-  said-is : replied (spanReply r) .number ≡ ask 14 (pathsHold t p len) 0
+  answer-number : replied (spanReply r) .number ≡ ask 14 (pathsHold t p len) 0
   unfolding copyAnswer
-  said-is = ap (λ (s : Answer). s .number) (a .answers)
+  answer-number = ap (λ (s : Answer). s .number) (a .answers)
       ∙ unless-number (copyRefusal t p len (length d)) (record { number = 0; value = len; entered = 0 }) refl ∙ number-is
 
   module _ (n e : ℕ) (is : r ≡ Bytes n e) where
     hold : pathsHold t p len ≡ true
-    hold = asked-good (pathsHold t p len) (sym (ap (λ (x : SpanAnswer). replied (spanReply x) .number) is) ∙ said-is)
+    hold = asked-good (pathsHold t p len) (sym (ap (λ (x : SpanAnswer). replied (spanReply x) .number) is) ∙ answer-number)
 
     left : after ≡ tabulate len (λ x. byteAnswer t (p + x) .value) ++ drop len d
     unfolding copyBuffer bufferAfter
@@ -68,7 +68,7 @@ module _ (t : List ℕ) (h : Header) (k : HeaderOf t h) (p len : ℕ) (low : p +
   pub part-broken : (q : ℕ) → r ≡ Refused q → PartRead t p len false after
   part-broken q is =
       let pos : 1 ≤ q = rw is at (a .numbered) in
-      let b = asked-broken (pathsHold t p len) q pos (sym (ap (λ (x : SpanAnswer). replied (spanReply x) .number) is) ∙ said-is) in
+      let b = asked-broken (pathsHold t p len) q pos (sym (ap (λ (x : SpanAnswer). replied (spanReply x) .number) is) ∙ answer-number) in
       record { holds = sym b; bytes = λ y. bool-clash false y refl }
 
 -- Parts hashed one after the other.

@@ -9,7 +9,8 @@ use Rattle.format.specs.Blocks.{treeOf, header, leafBytes, levelPairs, recordBy
 use Rattle.format.specs.Blocks.{startsAt, cut, keptByPairs, firstPairAt, pairAt, lengthOf, startOf}
 use Rattle.format.specs.Layout.{edgesOf, filledOut}
 use Rattle.format.specs.Layout as at
-use Rattle.format.specs.TreeReading.{pathOf, pathFrom, targetPlace, targetBlock, pointingBlock, keptBlock, lands, landBlock, landPlace, landVisits, textOf}
+use Rattle.format.specs.TreeReading.{pathOf, pathFrom, targetPlace, targetBlock, pointingBlock, keptBlock, resolves, resolvedBlock, resolvedPlace}
+use Rattle.format.specs.TreeReading.{resolvedVisits, textOf}
 use Rattle.format.specs.TreeReading.{headerResult}
 use Rattle.format.specs.Answers.{byteAnswer, pathsHold, bufferAfter}
 use Rattle.sha256.specs.Sha256.{rotr, ch, maj, bigSigma0, bigSigma1, sigma0, sigma1, constants, initialState, lengthBytes, padding, padded, wordBE}
@@ -49,8 +50,8 @@ unfolding digest-book digest-tree setWord digest-broken digest-lent digestRefusa
     countBelow allBelow sameList
     wordAt wordsBytes wordBytes substring leftmost firstFrom countIn blockLength pieces recordLength lengthOk sizesOk countedOk rising risingAfter
     treeOf header leafBytes levelPairs recordBytes edgesOf filledOut levelBytes recordIn recordOf target occurrence width isKept startsAt cut
-    keptByPairs firstPairAt pairAt lengthOf startOf pathOf pathFrom targetPlace targetBlock pointingBlock keptBlock lands landBlock landPlace
-    landVisits headerResult at.leafByte byteAnswer at.blockLengthAt at.levelCount at.levelOffset rotr ch maj bigSigma0 bigSigma1 sigma0 sigma1 constants
+    keptByPairs firstPairAt pairAt lengthOf startOf pathOf pathFrom targetPlace targetBlock pointingBlock keptBlock resolves resolvedBlock resolvedPlace
+    resolvedVisits headerResult at.leafByte byteAnswer at.blockLengthAt at.levelCount at.levelOffset rotr ch maj bigSigma0 bigSigma1 sigma0 sigma1 constants
     initialState lengthBytes padding padded wordBE blockAt schedule round rounds addStates compressed stateAfter bytesBE stateBytes hashOf sha256
     at.layout at.textLength at.countedCount at.settings at.leafOffset at.leafCount at.recordSize at.field at.start at.kind at.link at.gap at.before
     at.inside at.skip at.edgesAt at.fullLength at.isKept at.isPointing at.hasEdges at.holdsHeader at.layoutOk at.headerOk

@@ -63,9 +63,9 @@ module _ (t : List ℕ) where
     entry-below = omega (arith, guide-length, sumBelow-part (at.countedCount t) (entriesOf t) c hc)
 
     -- The occurrence that it lists is in the text.
-    pub entry-stands : listedEvery * e + 1 ≤ total t c
+    pub entry-in-total : listedEvery * e + 1 ≤ total t c
     unfolding entriesOf
-    entry-stands = omega (arith, pieces-start (total t c) listedEvery e he (omega arith))
+    entry-in-total = omega (arith, pieces-start (total t c) listedEvery e he (omega arith))
 
   -- The words of a counted byte end within the guide.
   pub part-ends : (c place count : ℕ) → c < at.countedCount t → place ≡ entriesBefore t c → count ≡ entriesOf t c → place + count ≤ guideWords t
@@ -112,7 +112,7 @@ module _ (t : List ℕ) (v : checkResult t ≡ 0) where
   unfolding entriesBefore guideWords
   entry-few i l =
       let p = placed (at.countedCount t) (entriesOf t) i (rw (guide-length t) at l) in
-      let rank = entry-stands t (p .part) (p .place) (p .part-lt) (p .place-lt) in
+      let rank = entry-in-total t (p .part) (p .place) (p .part-lt) (p .place-lt) in
       rw (p .is, guide-entry t (p .part) (p .place) (p .part-lt) (p .place-lt))
       (block-few t v (p .part) (p .part-lt) (listedEvery * p .place + 1) (omega arith) rank)
 

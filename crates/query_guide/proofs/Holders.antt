@@ -21,7 +21,7 @@ use Rattle.theory_paths.specs.OneText.{text-length}
 use Rattle.theory_counts.specs.CountsLocal.{byteOf}
 use Rattle.theory_counts.specs.LevelTrue.{Level, tally}
 use Rattle.theory_counts.specs.Finds as finds
-use Rattle.theory_counts.specs.Theorems as demands
+use Rattle.theory_counts.specs.Theorems as counts
 use Rattle.query_guide.specs.Guides.{blockOf}
 
 module _ (t : List ℕ) (v : checkResult t ≡ 0) (c : ℕ) (hc : c < at.countedCount t) where
@@ -32,7 +32,7 @@ module _ (t : List ℕ) (v : checkResult t ≡ 0) (c : ℕ) (hc : c < at.counted
   d = linked-facts t (accepted-links t v)
 
   a : (m : ℕ) → m < H t → Level t m
-  a = demands.levels t v
+  a = counts.levels t v
 
   pos : 0 < b t 0
   pos = full-pos t k 0
@@ -44,9 +44,9 @@ module _ (t : List ℕ) (v : checkResult t ≡ 0) (c : ℕ) (hc : c < at.counted
     place : ℕ
     place = placeOf (byteOf t c) j (textOf t)
 
-    stands : Nth (byteOf t c) j (textOf t) 0 place
+    is-nth : Nth (byteOf t c) j (textOf t) 0 place
     unfolding place
-    stands = place-nth (byteOf t c) j (textOf t) low (omega (arith, finds.total-is t k d a c hc))
+    is-nth = place-nth (byteOf t c) j (textOf t) low (omega (arith, finds.total-is t k d a c hc))
 
     block-is-place : blockOf t c j ≡ place / b t 0
     unfolding blockOf byteOf place
@@ -57,10 +57,10 @@ module _ (t : List ℕ) (v : checkResult t ≡ 0) (c : ℕ) (hc : c < at.counted
 
     -- The block is one of level 0.
     pub block-in : blockOf t c j < at.levelCount t 0
-    block-in = rw (block-is-place, k .level0) (lt-pieces (at.textLength t) (b t 0) (place / b t 0) pos (omega (arith, parts, stands .within, text-length t)))
+    block-in = rw (block-is-place, k .level0) (lt-pieces (at.textLength t) (b t 0) (place / b t 0) pos (omega (arith, parts, is-nth .within, text-length t)))
 
     pub block-few : blockOf t c j < maxText
-    block-few = rw block-is-place (omega (arith, div-le-self place (b t 0), stands .within, text-length t, k .bounds .text-high))
+    block-few = rw block-is-place (omega (arith, div-le-self place (b t 0), is-nth .within, text-length t, k .bounds .text-high))
 
     -- Fewer than j occurrences are before it.
     pub block-low : at.before t 0 (blockOf t c j) c < j
@@ -68,7 +68,7 @@ module _ (t : List ℕ) (v : checkResult t ≡ 0) (c : ℕ) (hc : c < at.counted
     block-low =
         let i = place / b t 0 in
         let hi : i < N t 0 = rw block-is-place at block-in in
-        rw block-is-place (omega (arith, finds.top-before t k d a c hc i hi, count-mono (byteOf t c) (textOf t) 0 (i * b t 0) place parts, stands .rank))
+        rw block-is-place (omega (arith, finds.top-before t k d a c hc i hi, count-mono (byteOf t c) (textOf t) 0 (i * b t 0) place parts, is-nth .rank))
 
     -- Fewer than j occurrences are before the first block.
     pub first-low : at.before t 0 0 c < j
@@ -78,14 +78,14 @@ module _ (t : List ℕ) (v : checkResult t ≡ 0) (c : ℕ) (hc : c < at.counted
     pub block-is : (i : ℕ) → i < at.levelCount t 0 → at.before t 0 i c < j → (i + 1 < at.levelCount t 0 → j ≤ at.before t 0 (i + 1) c) → i ≡ blockOf t c j
     unfolding tally
     block-is i hi under next =
-        let from : i * b t 0 ≤ place = nth-past (byteOf t c) j (textOf t) 0 (i * b t 0) place stands (omega (arith, finds.top-before t k d a c hc i hi)) in
+        let from : i * b t 0 ≤ place = nth-past (byteOf t c) j (textOf t) 0 (i * b t 0) place is-nth (omega (arith, finds.top-before t k d a c hc i hi)) in
         let o = place - i * b t 0 in
         let small : o < b t 0 = omega (arith, upto (lt-or-ge (i + 1) (N t 0)), add-mul i 1 (b t 0), one-mul (b t 0)) in
         let e : place ≡ i * b t 0 + o = omega (arith, from) in
         sym (block-is-place ∙ ap (λ (p : ℕ). p / b t 0) e ∙ digits-div i small)
       where
         upto : (i + 1 < N t 0) ⊎ (N t 0 ≤ i + 1) → place < (i + 1) * b t 0
-        upto (inl h) = nth-before (byteOf t c) j (textOf t) 0 ((i + 1) * b t 0) place stands (omega (arith, finds.top-before t k d a c hc (i + 1) h, next h))
+        upto (inl h) = nth-before (byteOf t c) j (textOf t) 0 ((i + 1) * b t 0) place is-nth (omega (arith, finds.top-before t k d a c hc (i + 1) h, next h))
         upto (inr h) =
             let cover = rw (← k .level0) at (pieces-cover (at.textLength t) (b t 0) pos) in
-            omega (arith, cover, mul-le-mul-right (b t 0) h, stands .within, text-length t)
+            omega (arith, cover, mul-le-mul-right (b t 0) h, is-nth .within, text-length t)

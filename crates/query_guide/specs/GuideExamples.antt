@@ -9,7 +9,8 @@ use Rattle.format.specs.Layout.{edgesOf, filledOut}
 use Rattle.format.specs.Blocks.{treeOf, header, leafBytes, levelPairs, recordBytes, levelBytes, recordIn, recordOf, target, occurrence, width, isKept}
 use Rattle.format.specs.Blocks.{startsAt, cut, keptByPairs, firstPairAt, pairAt, lengthOf, startOf}
 use Rattle.format.specs.Layout as at
-use Rattle.format.specs.TreeReading.{pathOf, pathFrom, targetPlace, targetBlock, pointingBlock, keptBlock, lands, landBlock, landPlace, landVisits}
+use Rattle.format.specs.TreeReading.{pathOf, pathFrom, targetPlace, targetBlock, pointingBlock, keptBlock, resolves, resolvedBlock, resolvedPlace}
+use Rattle.format.specs.TreeReading.{resolvedVisits}
 use Rattle.format.specs.TreeReading.{shortOf, shortFrom, byEdges, inLeaf}
 use Rattle.format.specs.TreeReading.{linksOk, textOf, countsTrue, edgesTrue, blockEdgesTrue, lastLevel, widthAt, keptRight, pointingRight, blockRight}
 use Rattle.format.specs.FittingText.{fits, blockFits}
@@ -71,7 +72,7 @@ unfolding guide-book blocks W both guide-answered blockOf entriesOf entriesBefor
     total tabulate concat sumBelow countBelow allBelow sameList setWord wordAt wordsBytes wordBytes substring leftmost firstFrom countIn placeOf placeIn
     blockLength pieces lengthOk sizesOk countedOk rising risingAfter treeOf header leafBytes levelPairs recordBytes recordLength edgesOf filledOut
     levelBytes recordIn recordOf target occurrence width isKept startsAt cut keptByPairs firstPairAt pairAt lengthOf startOf pathOf pathFrom
-    targetPlace targetBlock pointingBlock keptBlock lands landBlock landPlace landVisits shortOf shortFrom byEdges inLeaf linksOk textOf fits
+    targetPlace targetBlock pointingBlock keptBlock resolves resolvedBlock resolvedPlace resolvedVisits shortOf shortFrom byEdges inLeaf linksOk textOf fits
     countsTrue edgesTrue blockEdgesTrue lastLevel widthAt keptRight pointingRight blockRight countBelowRight blockFits blockCountsTrue checkResult
     headerResult at.leafByte at.blockLengthAt at.levelCount at.levelOffset at.fullLength at.countedCount at.before at.inside at.layout at.textLength
     at.settings at.leafOffset at.leafCount at.recordSize at.field at.start at.kind at.link at.gap at.skip at.edgesAt at.isKept at.isPointing

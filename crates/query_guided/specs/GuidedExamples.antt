@@ -8,7 +8,8 @@ use Rattle.format.specs.Layout.{wordAt, wordsBytes, wordBytes, blockLength, pie
 use Rattle.format.specs.Blocks.{treeOf, header, leafBytes, levelPairs, recordBytes, levelBytes, recordIn, recordOf, target, occurrence, width, isKept}
 use Rattle.format.specs.Blocks.{startsAt, cut, keptByPairs, firstPairAt, pairAt, lengthOf, startOf}
 use Rattle.format.specs.Layout as at
-use Rattle.format.specs.TreeReading.{pathOf, pathFrom, targetPlace, targetBlock, pointingBlock, keptBlock, lands, landBlock, landPlace, landVisits, textOf}
+use Rattle.format.specs.TreeReading.{pathOf, pathFrom, targetPlace, targetBlock, pointingBlock, keptBlock, resolves, resolvedBlock, resolvedPlace}
+use Rattle.format.specs.TreeReading.{resolvedVisits, textOf}
 use Rattle.format.specs.Answers.{found}
 use Rattle.query_guide.specs.Guides.{blockOf}
 use Rattle.query_guided.specs.Guided.{stepsTo}
@@ -34,7 +35,7 @@ unfolding guided-book GuidedW long blockOf stepsTo found tabulate concat sumBelo
     placeIn
     wordAt wordsBytes wordBytes blockLength pieces recordLength edgesOf filledOut treeOf header leafBytes levelPairs recordBytes levelBytes recordIn
     recordOf target occurrence width isKept startsAt cut keptByPairs firstPairAt pairAt lengthOf startOf pathOf pathFrom targetPlace targetBlock
-    pointingBlock keptBlock lands landBlock landPlace landVisits textOf at.leafByte at.blockLengthAt at.levelCount at.levelOffset at.fullLength
+    pointingBlock keptBlock resolves resolvedBlock resolvedPlace resolvedVisits textOf at.leafByte at.blockLengthAt at.levelCount at.levelOffset at.fullLength
     at.layout at.textLength at.countedCount at.settings at.leafOffset at.leafCount at.recordSize at.field at.start at.kind at.link at.gap at.before
     at.inside at.skip at.edgesAt at.isKept at.isPointing at.hasEdges at.holdsHeader at.layoutOk at.headerOk
 guided-marked = record { fourth = (refl, refl); steps = (refl, refl, refl, refl) }

@@ -53,9 +53,9 @@ module _ (t : List ℕ) (h : Header) (k : HeaderOf t h) where
   figures-answered figures e = (sym (k .passes), rw (k .passes) e)
 
 -- A tree that does not pass questions 5 to 7.
-pub untold : (t : List ℕ) (x : HeaderAnswer) → x ≡ headerAnswer t → (q : ℕ) → x ≡ header.Refused q → (q ≡ headerResult t)
+pub info-unread : (t : List ℕ) (x : HeaderAnswer) → x ≡ headerAnswer t → (q : ℕ) → x ≡ header.Refused q → (q ≡ headerResult t)
     × (replicate figureCount 0 ≡ infoBuffer t)
 unfolding infoBuffer
-untold t x x-is q e =
+info-unread t x x-is q e =
     let z = header-refused t x x-is q e in
     (z .2 ∙ sym (z .1), rw (ne-eqb (headerResult t) 0 (λ y. omega (arith, z .1))))

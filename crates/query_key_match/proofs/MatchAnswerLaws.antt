@@ -6,7 +6,7 @@ use Prim.Native.Nat.{ℕ}
 use native.Mathlib.Omega.{arith}
 use Rattle.format.specs.TreeReading.{headerResult, checkResult}
 use Rattle.layout.specs.declared.header.HeaderAnswer.{HeaderAnswer}
-use Rattle.layout.specs.declared.header.HeaderAnswer.the-variants as read
+use Rattle.layout.specs.declared.header.HeaderAnswer.the-variants as header
 use Rattle.layout.specs.Header.{headerAnswer}
 use Rattle.keys.specs.Keys.{rangesOk, matches}
 use Rattle.query_row_filter.specs.declared.NextRowAnswer.{NextRowAnswer}
@@ -16,7 +16,7 @@ use Rattle.query_row_filter.proofs.AllowedAnswerLaws.{ask-unread, ask-bad, ask-
 use Rattle.query_key_match.specs.MatchAnswer.{IsMatchAnswer}
 
 module _ (t ranges : List ℕ) (mark : ℕ) where
-  pub match-unread : (x : HeaderAnswer) → x ≡ headerAnswer t → (q : ℕ) → x ≡ read.Refused q → IsMatchAnswer t ranges mark (Refused q)
+  pub match-unread : (x : HeaderAnswer) → x ≡ headerAnswer t → (q : ℕ) → x ≡ header.Refused q → IsMatchAnswer t ranges mark (Refused q)
   match-unread x is q e = ask-unread t (checkResult t) (matches ranges) mark 19 (rangesOk ranges) x is q e
 
   module _ (pass : headerResult t ≡ 0) where

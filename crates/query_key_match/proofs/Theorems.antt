@@ -14,8 +14,8 @@ use Rattle.format.specs.TreeReading.{textOf, headerResult, checkResult}
 use Rattle.format.specs.Answers.{isCounted}
 use Rattle.row_filter.specs.SelectedRowLaws.{In}
 use Rattle.keys.specs.Keys.{rangesOk, matches}
-use Rattle.keys.specs.Matches.{matchesOf, nextMatch, shownFor}
-use Rattle.keys.specs.MatchLaws.{Wider, wider-shown}
+use Rattle.keys.specs.Matches.{matchesOf, nextMatch, matchOutcome}
+use Rattle.keys.specs.MatchLaws.{Wider, wider-matched}
 use Rattle.query_row_filter.specs.declared.NextRowAnswer.{NextRowAnswer}
 use Rattle.query_row_filter.specs.declared.NextRowAnswer.the-variants.{Row, Nothing, Refused}
 use Rattle.query_row_filter.specs.AllowedRows.{maxRows, queryRefusal}
@@ -66,10 +66,10 @@ module _ (t ranges : List ℕ) where
     abbrev T : List ℕ
     T = textOf t
 
-    -- If no question refuses, the next match is returned; or none, and the mark moves to `shownFor`.
+    -- If no question refuses, the next match is returned; or none, and the mark moves to `matchOutcome`.
     pub match-is : (mark : ℕ) (r : NextRowAnswer) → IsMatchAnswer t ranges mark r → queryRefusal t 19 (rangesOk ranges) ≡ 0
-        → r ≡ cond (eqb (nextMatch ranges T mark) 0) (Nothing (shownFor ranges T mark .mark)) (Row (nextMatch ranges T mark))
-    unfolding nextMatch shownFor
+        → r ≡ cond (eqb (nextMatch ranges T mark) 0) (Nothing (matchOutcome ranges T mark .mark)) (Row (nextMatch ranges T mark))
+    unfolding nextMatch matchOutcome
     match-is = next-row.answer-is t (checkResult t) (λ v. v) (queryRefusal t 19 (rangesOk ranges)) (matches ranges) v
 
     -- A returned row is after the mark, which moves to it: so after at most as many calls as there are rows there is none.
@@ -78,8 +78,8 @@ module _ (t ranges : List ℕ) where
 
     -- With none the mark becomes the number of rows, or stays if it was larger.
     pub none-moves : (mark m after : ℕ) → Moved t ranges mark (Nothing m) after
-        → (shownFor ranges T mark .row ≡ 0) × (after ≡ shownFor ranges T mark .mark)
-    unfolding shownFor
+        → (matchOutcome ranges T mark .row ≡ 0) × (after ≡ matchOutcome ranges T mark .mark)
+    unfolding matchOutcome
     none-moves = next-row.none-moves t (checkResult t) (λ v. v) (queryRefusal t 19 (rangesOk ranges)) (matches ranges) v
 
     -- repeated calls with the same ranges, each with the mark that the call before left, return these rows and then none
@@ -109,4 +109,4 @@ module _ (t ranges : List ℕ) where
 pub widening-monotone : (t r s : List ℕ) (v : checkResult t ≡ 0) → Wider r s → (ns ms : List ℕ) → Asked t r v 0 ns → Asked t s v 0 ms → (n : ℕ) → In n ns
     → In n ms
 widening-monotone t r s v w ns ms a b n i =
-    rw (all-matches t s v ms b) (wider-shown r s w (textOf t) n (rw (all-matches t r v ns a) at i))
+    rw (all-matches t s v ms b) (wider-matched r s w (textOf t) n (rw (all-matches t r v ns a) at i))

@@ -33,7 +33,7 @@ pub fn match_at(t: &[u8], h: Header, question: &[u8], mark: u32) -> NextRowAnswe
             from(t, h, question, place, mark + 1),
             tens,
         ),
-        RowsStart::Answered(shown) => shown,
+        RowsStart::Answered(answer) => answer,
     }
 }
 
@@ -46,8 +46,8 @@ fn from(t: &[u8], h: Header, question: &[u8], place: TextPlace, q: u32) -> NextR
     let mut row = q;
     let mut at = place.0;
     while at < h.text_length {
-        let ran = rows_after::next_part(t, h, at);
-        let RunRangeAnswer::At(part) = ran else {
+        let range = rows_after::next_part(t, h, at);
+        let RunRangeAnswer::At(part) = range else {
             return NextRowAnswer::Refused(14);
         };
         let begin = part.from;

@@ -18,10 +18,10 @@ pub fn advance_mark(mark: &mut Mark, t: &[u8], question: &[u8]) -> NextRowAnswer
     ensures { λ r. ⌜ Moved (now (t .entry)) (now (question .entry)) (now (mark .entry) .row) r (now (mark .exit) .row) ⌝ }
 {
     let at = mark.row;
-    let shown = next_match(t, question, at);
-    let next = after(shown, at);
+    let answer = next_match(t, question, at);
+    let next = after(answer, at);
     mark.row = next;
-    shown
+    answer
 }
 
 // The answer of `advance_mark`, and the mark after it.
@@ -52,10 +52,10 @@ pub fn next_match(t: &[u8], question: &[u8], mark: u32) -> NextRowAnswer
 }
 
 // The mark after an answer; a refusal does not move it.
-pub fn after(shown: NextRowAnswer, mark: u32) -> u32
-    ensures { λ r. ⌜ r ≡ outcomeOf mark shown .mark ⌝ }
+pub fn after(answer: NextRowAnswer, mark: u32) -> u32
+    ensures { λ r. ⌜ r ≡ outcomeOf mark answer .mark ⌝ }
 {
-    match shown {
+    match answer {
         NextRowAnswer::Row(q) => q,
         NextRowAnswer::Nothing(m) => m,
         NextRowAnswer::Refused(_) => mark,

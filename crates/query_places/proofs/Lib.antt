@@ -1,7 +1,7 @@
 pub mod FillLaws
 pub mod PatternStepLaws
 pub mod PatternSeekLaws
-pub mod GlideLaws
+pub mod ReadMatchingLaws
 pub mod RoomLaws
 pub mod PlacesAnswerLaws
 pub mod Theorems

@@ -32,9 +32,9 @@ use Rattle.query_places.proofs.FillLaws.{filled-none, filled-length, fi
 
 module _ (P T : List ℕ) (i k : ℕ) (l : Longest P (λ p. getD T p 0) 0 i k) (in-text : i ≤ length T) where
   -- The last bytes read are the whole pattern.
-  stands-full : k ≡ length P → occursAt P T (i - length P) ≡ true
+  occurs-full : k ≡ length P → occursAt P T (i - length P) ≡ true
   unfolding occursAt
-  stands-full e =
+  occurs-full e =
       let room : length P ≤ i = omega (arith, l .ends .room) in
       let long : length (substring T (i - length P) (length P)) ≡ length P = length-substring T (i - length P) (length P) (omega arith) in
       eq-sameList (substring T (i - length P) (length P)) P (ext-getD 0 (substring T (i - length P) (length P)) P long (λ x h.
@@ -43,9 +43,9 @@ module _ (P T : List ℕ) (i k : ℕ) (l : Longest P (λ p. getD T p 0) 0 i k) (
       getD-substring T (i - length P) (length P) x low ∙ same))
 
   -- If the state is not the whole pattern, the pattern does not end here.
-  stands-not : (k ≡ length P → ⊥) → length P ≤ i → occursAt P T (i - length P) ≡ false
+  occurs-not : (k ≡ length P → ⊥) → length P ≤ i → occursAt P T (i - length P) ≡ false
   unfolding occursAt
-  stands-not other room = ne-sameList (substring T (i - length P) (length P)) P (λ e. other (omega (arith, l .ends .short, l .most (length P) (match e))))
+  occurs-not other room = ne-sameList (substring T (i - length P) (length P)) P (λ e. other (omega (arith, l .ends .short, l .most (length P) (match e))))
     where
       match : substring T (i - length P) (length P) ≡ P → Ends P (λ p. getD T p 0) 0 i (length P)
       match e = record {
@@ -55,9 +55,9 @@ module _ (P T : List ℕ) (i k : ℕ) (l : Longest P (λ p. getD T p 0) 0 i k) (
       }
 
 -- After the last place where the pattern fits, it does not occur.
-stands-past : (P T : List ℕ) (p : ℕ) → 1 ≤ length P → length T < p + length P → occursAt P T p ≡ false
+occurs-past : (P T : List ℕ) (p : ℕ) → 1 ≤ length P → length T < p + length P → occursAt P T p ≡ false
 unfolding occursAt substring
-stands-past P T p pos past =
+occurs-past P T p pos past =
     ne-sameList (substring T p (length P)) P (λ e. omega (arith, ap length e, length-take (length P) (drop p T), length-drop p T))
 
 -- Numbers below others.
@@ -106,7 +106,7 @@ module _ (t P : List ℕ) where
     unfolding soFar
     so-far-full e =
         let s : i + 1 + 1 - length P ≡ suc (i + 1 - length P) = omega (arith, l .ends .room) in
-        rw s (below-true (i + 1 - length P) (occursAt P T) (stands-full P T (i + 1) k l in-text e))
+        rw s (below-true (i + 1 - length P) (occursAt P T) (occurs-full P T (i + 1) k l in-text e))
 
     so-far-other : (k ≡ length P → ⊥) → soFar t P (i + 1) ≡ soFar t P i
     unfolding soFar
@@ -119,13 +119,13 @@ module _ (t P : List ℕ) where
             rw (a, b)
         go (inr h) =
             let s : i + 1 + 1 - length P ≡ suc (i + 1 - length P) = omega arith in
-            rw s (below-false (i + 1 - length P) (occursAt P T) (stands-not P T (i + 1) k l in-text other h))
+            rw s (below-false (i + 1 - length P) (occursAt P T) (occurs-not P T (i + 1) k l in-text other h))
 
   -- All was read.
   pub so-far-end : 1 ≤ length P → (i : ℕ) → i ≡ length T → soFar t P i ≡ placesOf t P
   unfolding soFar placesOf placesIn
   so-far-end some-byte i e =
-      rw e (sym (below-same (occursAt P T) (length T + 1 - length P) (length T) (omega arith) (λ x a b. stands-past P T x some-byte (omega arith))))
+      rw e (sym (below-same (occursAt P T) (length T + 1 - length P) (length T) (omega arith) (λ x a b. occurs-past P T x some-byte (omega arith))))
 
   -- The pass.
 

@@ -13,7 +13,7 @@ use Rattle.format.specs.TreeReading.{linksOk, ask, headerResult}
 use Rattle.format.specs.Answers.{Answer, refused, NeverZero, replied, pathsHold}
 use Rattle.theory_paths.specs.Theorems.{paths-all}
 use Rattle.layout.specs.declared.header.HeaderAnswer.{HeaderAnswer}
-use Rattle.layout.specs.declared.header.HeaderAnswer.the-variants as read
+use Rattle.layout.specs.declared.header.HeaderAnswer.the-variants as header
 use Rattle.layout.specs.Header.{headerAnswer}
 use Rattle.layout.specs.HeaderFields.{header-refused}
 use Rattle.query_places.specs.declared.PlacesAnswer.{PlacesAnswer}
@@ -49,7 +49,7 @@ module _ (t P table : List ℕ) where
   number-leaves q e = record { answers = rw e; leaves = rw (e, ne-eqb (suc q) 0 (λ z. omega arith)) }
 
   -- A tree that does not pass questions 5 to 7.
-  pub unread : (x : HeaderAnswer) → x ≡ headerAnswer t → (q : ℕ) → x ≡ read.Refused q → (1 ≤ q) × Listed t P table (refused q) table
+  pub unread : (x : HeaderAnswer) → x ≡ headerAnswer t → (q : ℕ) → x ≡ header.Refused q → (1 ≤ q) × Listed t P table (refused q) table
   unfolding placesRefusal
   unread x x-is q e =
       let z = header-refused t x x-is q e in

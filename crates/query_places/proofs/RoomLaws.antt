@@ -16,11 +16,11 @@ use Rattle.format.specs.LayoutLaws.{ask-test}
 use Rattle.theory_paths.specs.OneText.{text-length}
 use Rattle.layout.specs.declared.header.Header.{Header}
 use Rattle.layout.specs.declared.header.HeaderAnswer.{HeaderAnswer}
-use Rattle.layout.specs.declared.header.HeaderAnswer.the-variants as read
+use Rattle.layout.specs.declared.header.HeaderAnswer.the-variants as header
 use Rattle.layout.specs.Header.{headerAnswer}
 use Rattle.layout.specs.HeaderFields.{HeaderOf, header-refused}
 use Rattle.query_places.specs.declared.PlacesWordsAnswer.{PlacesWordsAnswer}
-use Rattle.query_places.specs.declared.PlacesWordsAnswer.the-variants as room
+use Rattle.query_places.specs.declared.PlacesWordsAnswer.the-variants as places-words
 use Rattle.query_places.specs.Places.{maxPattern, occursAt, placesOf, wordsFor, placesWordsAnswer, placesWordsReply, IsPlacesWordsAnswer}
 use Rattle.query_places.specs.TableFilled.{soFar}
 use Rattle.query_places.proofs.PatternSeekLaws.{below-few, so-far-end}
@@ -47,7 +47,7 @@ module _ (t : List ℕ) (len : ℕ) where
   unfolding placesWordsAnswer
   answered h k r e = record { answers = rw (k .passes) (e .0 ∙ ap (λ (n : ℕ). wordsFor n len) (k .length-is)); numbered = e .1 }
 
-  pub unread : (x : HeaderAnswer) → x ≡ headerAnswer t → (q : ℕ) → x ≡ read.Refused q → IsPlacesWordsAnswer t len (room.Refused q)
+  pub unread : (x : HeaderAnswer) → x ≡ headerAnswer t → (q : ℕ) → x ≡ header.Refused q → IsPlacesWordsAnswer t len (places-words.Refused q)
   unfolding placesWordsAnswer
   unread x x-is q e =
       let z = header-refused t x x-is q e in
@@ -61,21 +61,21 @@ places-few t P some-byte =
     rw (← so-far-end t P some-byte n (sym (text-length t))) (below-few (n + 1 - length P) (occursAt P (textOf t)))
 
 -- What is known where a size is answered.
-pub record Roomy (t : List ℕ) (len words : ℕ) : Type 0 where
+pub record WordsAnswered (t : List ℕ) (len words : ℕ) : Type 0 where
   pub pass : headerResult t ≡ 0
   pub low : 1 ≤ len
   pub high : len ≤ maxPattern
   pub words-are : words ≡ at.textLength t + 1 - len
 
-pub roomy : (t : List ℕ) (len words : ℕ) → record { number = 0; value = words; entered = 0 } ≡ placesWordsAnswer t len → Roomy t len words
+pub words-answered : (t : List ℕ) (len words : ℕ) → record { number = 0; value = words; entered = 0 } ≡ placesWordsAnswer t len → WordsAnswered t len words
 unfolding placesWordsAnswer wordsFor
-roomy t len words e =
-    let told : Answer = record { number = 0; value = at.textLength t + 1 - len; entered = 0 } in
+words-answered t len words e =
+    let reply : Answer = record { number = 0; value = at.textLength t + 1 - len; entered = 0 } in
     let asked = ask 16 (leb 1 len && leb len maxPattern) 0 in
-    let a = unless-passes (headerResult t) (unless asked told) (sym (ap (λ (s : Answer). s .number) e)) in
-    let b = unless-passes asked told (a .1) in
+    let a = unless-passes (headerResult t) (unless asked reply) (sym (ap (λ (s : Answer). s .number) e)) in
+    let b = unless-passes asked reply (a .1) in
     let ok = ask-test 15 (leb 1 len && leb len maxPattern) 0 (b .0) in
-    let is : record { number = 0; value = words; entered = 0 } ≡ told = rw (a .0, b .0) at e in
+    let is : record { number = 0; value = words; entered = 0 } ≡ reply = rw (a .0, b .0) at e in
     record {
       pass = a .0;
       low = leb-true 1 len (and-left (leb 1 len) (leb len maxPattern) ok);

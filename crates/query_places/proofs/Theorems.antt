@@ -21,11 +21,11 @@ use Rattle.format.specs.AnswerLaws.{unless-number}
 use Rattle.theory_paths.specs.Reads.{paths-hold}
 use Rattle.theory_paths.specs.PlaceBytes.{byte-path}
 use Rattle.query_places.specs.declared.PlacesAnswer.{PlacesAnswer}
-use Rattle.query_places.specs.declared.PlacesAnswer.the-variants as written
+use Rattle.query_places.specs.declared.PlacesAnswer.the-variants as places
 use Rattle.query_places.specs.Places.{maxPattern, patternOk, placesIn, placesOf, placesRefusal, placesAnswer, placesBuffer, placesReply}
 use Rattle.query_places.specs.declared.PlacesWordsAnswer.{PlacesWordsAnswer}
-use Rattle.query_places.specs.declared.PlacesWordsAnswer.the-variants as room
-use Rattle.query_places.proofs.RoomLaws.{places-few, roomy}
+use Rattle.query_places.specs.declared.PlacesWordsAnswer.the-variants as places-words
+use Rattle.query_places.proofs.RoomLaws.{places-few, words-answered}
 use Rattle.query_places.proofs.places.Reads as places-reads
 use Rattle.query_places.proofs.places_words.Reads as words-reads
 
@@ -35,13 +35,13 @@ Places κs t P table after r = places-reads.Post κs (t, (P, (table, tt))) r (t,
 
 -- The answer in each case.
 places-number-is : (r : PlacesAnswer) (n : ℕ) → NeverZero (placesReply r) → replied (placesReply r) ≡ record { number = 0; value = n; entered = 0 }
-    → r ≡ written.Number n
-places-number-is (written.Number m) n k e = ap written.Number (ap (λ (s : Answer). s .value) e)
-places-number-is (written.Refused q) n k e = absurd (let z : ⊥ = omega (arith, ap (λ (s : Answer). s .number) e) in z)
+    → r ≡ places.Number n
+places-number-is (places.Number m) n k e = ap places.Number (ap (λ (s : Answer). s .value) e)
+places-number-is (places.Refused q) n k e = absurd (let z : ⊥ = omega (arith, ap (λ (s : Answer). s .number) e) in z)
 
-places-refused-is : (r : PlacesAnswer) (q : ℕ) → replied (placesReply r) ≡ refused (suc q) → r ≡ written.Refused (suc q)
-places-refused-is (written.Number m) q e = absurd (let z : ⊥ = omega (arith, ap (λ (s : Answer). s .number) e) in z)
-places-refused-is (written.Refused p) q e = ap written.Refused (ap (λ (s : Answer). s .number) e)
+places-refused-is : (r : PlacesAnswer) (q : ℕ) → replied (placesReply r) ≡ refused (suc q) → r ≡ places.Refused (suc q)
+places-refused-is (places.Number m) q e = absurd (let z : ⊥ = omega (arith, ap (λ (s : Answer). s .number) e) in z)
+places-refused-is (places.Refused p) q e = ap places.Refused (ap (λ (s : Answer). s .number) e)
 
 -- One path of some places breaks.
 one-breaks : (t : List ℕ) (len p x : ℕ) → x < len → byteAnswer t (p + x) .number ≡ 14 → pathsHold t p len ≡ false
@@ -66,24 +66,24 @@ other-length P wrong = go (bool-cases (leb 1 (length P) && leb (length P) maxPat
 
 module _ (κs : Lfts 3) (t P table after : RefT (List ℕ)) (r : PlacesAnswer) (a : Places κs t P table after r) where
   -- A refusal: its number, and the table as it was.
-  refuses : (q : ℕ) → placesRefusal (now t) (now P) (length (now table)) ≡ suc q → (r ≡ written.Refused (suc q)) × (now after ≡ now table)
+  refuses : (q : ℕ) → placesRefusal (now t) (now P) (length (now table)) ≡ suc q → (r ≡ places.Refused (suc q)) × (now after ≡ now table)
   unfolding placesAnswer placesBuffer
   refuses q e = (places-refused-is r q (a .0 .answers ∙ rw e), a .1 ∙ rw (e, ne-eqb (suc q) 0 (λ z. omega arith)))
 
   -- Questions 5 to 7.
-  pub places-unread : (q : ℕ) → headerResult (now t) ≡ suc q → (r ≡ written.Refused (suc q)) × (now after ≡ now table)
+  pub places-unread : (q : ℕ) → headerResult (now t) ≡ suc q → (r ≡ places.Refused (suc q)) × (now after ≡ now table)
   unfolding placesRefusal
   places-unread q e = refuses q (rw (e, ne-eqb (suc q) 0 (λ z. omega arith)))
 
   module _ (pass : headerResult (now t) ≡ 0) where
     -- Refused with 16: a pattern that does not have 1 to 256 bytes.
-    pub places-length : (1 ≤ length (now P) → length (now P) ≤ maxPattern → ⊥) → (r ≡ written.Refused 16) × (now after ≡ now table)
+    pub places-length : (1 ≤ length (now P) → length (now P) ≤ maxPattern → ⊥) → (r ≡ places.Refused 16) × (now after ≡ now table)
     unfolding placesRefusal
     places-length wrong = refuses 15 (rw (pass, other-length (now P) wrong))
 
     module _ (low : 1 ≤ length (now P)) (high : length (now P) ≤ maxPattern) where
       -- Refused with 14: one of the n paths breaks.
-      pub places-broken : (p : ℕ) → p < at.textLength (now t) → pathOf (now t) p ≡ none → (r ≡ written.Refused 14) × (now after ≡ now table)
+      pub places-broken : (p : ℕ) → p < at.textLength (now t) → pathOf (now t) p ≡ none → (r ≡ places.Refused 14) × (now after ≡ now table)
       unfolding placesRefusal patternOk
       places-broken p below e =
           let z : 0 + p ≡ p = omega arith in
@@ -98,13 +98,13 @@ module _ (κs : Lfts 3) (t P table after : RefT (List ℕ)) (r : PlacesAnswer) (
         hold = paths-hold (now t) (header-facts (now t) pass) pass holds (at.textLength (now t)) 0 (omega arith)
 
         -- Refused with 17: the table has fewer words than there are places.
-        pub places-short : length (now table) < length ps → (r ≡ written.Refused 17) × (now after ≡ now table)
+        pub places-short : length (now table) < length ps → (r ≡ places.Refused 17) × (now after ≡ now table)
         unfolding placesRefusal patternOk placesOf
         places-short short =
             refuses 16 (rw (pass, le-leb 1 (length (now P)) low, le-leb (length (now P)) maxPattern high, hold, lt-leb (length ps) (length (now table)) short))
 
         -- Not refused: the table begins with all places (`AllPlaces`), and their number is returned.
-        pub places-written : length ps ≤ length (now table) → (r ≡ written.Number (length ps)) × (now after ≡ ps ++ drop (length ps) (now table))
+        pub places-written : length ps ≤ length (now table) → (r ≡ places.Number (length ps)) × (now after ≡ ps ++ drop (length ps) (now table))
         unfolding placesRefusal patternOk placesAnswer placesBuffer placesOf
         places-written room =
             let z : placesRefusal (now t) (now P) (length (now table)) ≡ 0 =
@@ -119,13 +119,13 @@ PlacesWords κs t len r = words-reads.Post κs (t, (len, tt)) r (t, (len, tt))
 
 -- On any tree that passes questions 5 to 7, a table of the words that places_words returns for a pattern's length is large enough for all its places.
 module _ (κ : Lfts 1) (t P table : RefT (List ℕ))
-    (words : ℕ) (a : PlacesWords κ t (length (now P)) (room.Words words)) (enough : words ≤ length (now table)) where
+    (words : ℕ) (a : PlacesWords κ t (length (now P)) (places-words.Words words)) (enough : words ≤ length (now table)) where
   pub room-holds : length (placesIn (now P) (textOf (now t))) ≤ length (now table)
   unfolding placesOf
-  room-holds = let k = roomy (now t) (length (now P)) words (a .answers) in omega (arith, k .words-are, places-few (now t) (now P) (k .low))
+  room-holds = let k = words-answered (now t) (length (now P)) words (a .answers) in omega (arith, k .words-are, places-few (now t) (now P) (k .low))
 
   -- With a table of that size the call is not refused with 17.
-  pub room-enough : (κs : Lfts 3) (after : RefT (List ℕ)) → Places κs t P table after (written.Refused 17) → ⊥
+  pub room-enough : (κs : Lfts 3) (after : RefT (List ℕ)) → Places κs t P table after (places.Refused 17) → ⊥
   unfolding placesAnswer placesRefusal patternOk placesOf
   room-enough κs after b = go (pathsHold (now t) 0 (at.textLength (now t))) refl
     where
@@ -139,7 +139,7 @@ module _ (κ : Lfts 1) (t P table : RefT (List ℕ))
 
       go : (holds : Bool) → pathsHold (now t) 0 (at.textLength (now t)) ≡ holds → ⊥
       go holds e =
-          let k = roomy (now t) (length (now P)) words (a .answers) in
+          let k = words-answered (now t) (length (now P)) words (a .answers) in
           let z : placesRefusal (now t) (now P) (length (now table)) ≡ ask 14 holds 0 =
           rw (
             k .pass,

@@ -9,7 +9,8 @@ use Rattle.format.specs.Blocks.{treeOf, header, leafBytes, levelPairs, recordBy
 use Rattle.format.specs.Blocks.{startsAt, cut, keptByPairs, firstPairAt, pairAt, lengthOf, startOf}
 use Rattle.format.specs.Layout.{edgesOf, filledOut}
 use Rattle.format.specs.Layout as at
-use Rattle.format.specs.TreeReading.{pathOf, pathFrom, targetPlace, targetBlock, pointingBlock, keptBlock, lands, landBlock, landPlace, landVisits, textOf}
+use Rattle.format.specs.TreeReading.{pathOf, pathFrom, targetPlace, targetBlock, pointingBlock, keptBlock, resolves, resolvedBlock, resolvedPlace}
+use Rattle.format.specs.TreeReading.{resolvedVisits, textOf}
 use Rattle.format.specs.TreeReading.{headerResult}
 use Rattle.format.specs.Answers.{Answer, byteAnswer, pathsHold}
 use Rattle.query_places.specs.Places.{occursAt, places-below, placesIn, patternOk, placesOf}
@@ -64,13 +65,12 @@ pub record PlacesMarked : Type 0 where
 
 pub places-marked : PlacesMarked
 unfolding places-book places-tree places-twelve with places-abcd places-answered nines occursAt places-below placesIn patternOk placesOf placesRefusal
-    placesAnswer placesBuffer wordsFor placesWordsAnswer
-    tabulate concat sumBelow countBelow allBelow sameList wordAt wordsBytes wordBytes substring leftmost firstFrom countIn blockLength pieces
-    recordLength lengthOk sizesOk countedOk rising risingAfter treeOf header leafBytes levelPairs recordBytes edgesOf filledOut levelBytes recordIn
-    recordOf target occurrence width isKept startsAt cut keptByPairs firstPairAt pairAt lengthOf startOf pathOf pathFrom targetPlace targetBlock
-    pointingBlock keptBlock lands landBlock landPlace landVisits textOf headerResult at.leafByte byteAnswer pathsHold at.blockLengthAt at.levelCount
-    at.levelOffset at.layout at.textLength at.countedCount at.settings at.leafOffset at.leafCount at.recordSize at.field at.start at.kind at.link
-    at.gap at.before at.inside at.skip at.edgesAt at.fullLength at.isKept at.isPointing at.hasEdges at.holdsHeader at.layoutOk at.headerOk
+    placesAnswer placesBuffer wordsFor placesWordsAnswer tabulate concat sumBelow countBelow allBelow sameList wordAt wordsBytes wordBytes substring leftmost
+    firstFrom countIn blockLength pieces recordLength lengthOk sizesOk countedOk rising risingAfter treeOf header leafBytes levelPairs recordBytes edgesOf
+    filledOut levelBytes recordIn recordOf target occurrence width isKept startsAt cut keptByPairs firstPairAt pairAt lengthOf startOf pathOf pathFrom
+    targetPlace targetBlock pointingBlock keptBlock resolves resolvedBlock resolvedPlace resolvedVisits textOf headerResult at.leafByte byteAnswer pathsHold
+    at.blockLengthAt at.levelCount at.levelOffset at.layout at.textLength at.countedCount at.settings at.leafOffset at.leafCount at.recordSize at.field at.start
+    at.kind at.link at.gap at.before at.inside at.skip at.edgesAt at.fullLength at.isKept at.isPointing at.hasEdges at.holdsHeader at.layoutOk at.headerOk
 places-marked = record {
   fragment = (refl, refl);
   room = (refl, refl, refl);

@@ -12,7 +12,7 @@ use Rattle.format.specs.Answers.{Answer, unless, Reply, figures, refusal, Is, p
 use Rattle.query_places.specs.declared.PlacesAnswer.{PlacesAnswer}
 use Rattle.query_places.specs.declared.PlacesAnswer.the-variants as places
 use Rattle.query_places.specs.declared.PlacesWordsAnswer.{PlacesWordsAnswer}
-use Rattle.query_places.specs.declared.PlacesWordsAnswer.the-variants as room
+use Rattle.query_places.specs.declared.PlacesWordsAnswer.the-variants as places-words
 
 -- What places (locate) returns for any bytes given as a tree, and what the caller's table of words contains afterwards.
 -- docs/FORMAT.md: "Places", "Figures and sizes".
@@ -82,8 +82,8 @@ IsPlacesAnswer t P room = Is placesReply (placesAnswer t P room)
 
 -- How many words a table must have.
 abbrev pub placesWordsReply : PlacesWordsAnswer → Reply
-placesWordsReply (room.Words n) = figures n 0
-placesWordsReply (room.Refused number) = refusal number
+placesWordsReply (places-words.Words n) = figures n 0
+placesWordsReply (places-words.Refused number) = refusal number
 
 abbrev pub IsPlacesWordsAnswer : (t : List ℕ) (len : ℕ) → PlacesWordsAnswer → Type 0
 IsPlacesWordsAnswer t len = Is placesWordsReply (placesWordsAnswer t len)

@@ -72,17 +72,17 @@ below-listed (suc n) f = go (f n) refl (below-listed n f)
 
 -- Where the pattern occurs, its bytes are in the text.
 module _ (P T : List ℕ) (p : ℕ) where
-  pub stands-there : occursAt P T p ≡ true → substring T p (length P) ≡ P
+  pub occurs-there : occursAt P T p ≡ true → substring T p (length P) ≡ P
   unfolding occursAt
-  stands-there e = sameList-true (substring T p (length P)) P e
+  occurs-there e = sameList-true (substring T p (length P)) P e
 
-  pub there-stands : substring T p (length P) ≡ P → occursAt P T p ≡ true
+  pub there-occurs : substring T p (length P) ≡ P → occursAt P T p ≡ true
   unfolding occursAt
-  there-stands e = eq-sameList (substring T p (length P)) P e
+  there-occurs e = eq-sameList (substring T p (length P)) P e
 
-  pub stands-within : 1 ≤ length P → occursAt P T p ≡ true → p + length P ≤ length T
+  pub occurs-within : 1 ≤ length P → occursAt P T p ≡ true → p + length P ≤ length T
   unfolding occursAt substring
-  stands-within some-byte e =
+  occurs-within some-byte e =
       omega (arith, ap length (sameList-true (substring T p (length P)) P e), length-take (length P) (drop p T), length-drop p T)
 
 -- ps has exactly the places of P in T, overlapping ones too, in increasing order without repetition
@@ -95,7 +95,7 @@ pub places-all : (P T : List ℕ) → 1 ≤ length P → AllPlaces P T (placesIn
 unfolding placesIn
 places-all P T some-byte =
     let k = below-listed (length T) (occursAt P T) in record {
-      entry = λ x h. stands-there P T _ (k .entry x h .1);
-      all = λ p e. let z = there-stands P T p e in k .all p (omega (arith, stands-within P T p some-byte z)) z;
+      entry = λ x h. occurs-there P T _ (k .entry x h .1);
+      all = λ p e. let z = there-occurs P T p e in k .all p (omega (arith, occurs-within P T p some-byte z)) z;
       rising = k .rising;
     }

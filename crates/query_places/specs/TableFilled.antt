@@ -51,7 +51,7 @@ module _ (t P : List ℕ) where
     pub table-is : table ≡ filled (soFar (m .place .0)) room before
 
   -- Up to n bytes were read without completing a place.
-  pub record Glides (n : ℕ) (m r : Progress) : Type 0 where
+  pub record ReadsMatching (n : ℕ) (m r : Progress) : Type 0 where
     pub least : m .place .0 ≤ r .place .0
     pub most : r .place .0 ≤ m .place .0 + n
     pub even : Even P r

@@ -13,7 +13,7 @@ ghost use lib.Dec.{ltb};
 ghost use Rattle.layout.specs.HeaderFields.{HeaderOf};
 ghost use Rattle.query_access.specs.ReadByRuns.{ReadsOn};
 ghost use Rattle.search_kmp.specs.Borders.{Borders};
-ghost use Rattle.query_places.specs.TableFilled.{Stepped, Skips, Glides, Seeking, Even, SeekAnswer};
+ghost use Rattle.query_places.specs.TableFilled.{Stepped, Skips, ReadsMatching, Seeking, Even, SeekAnswer};
 
 // The largest number of bytes that are read at once.
 const MOST: u32 = 65536;
@@ -89,10 +89,10 @@ fn skip(t: &[u8], from: usize, n: usize, pattern: &[u8], state: usize) -> usize
 }
 
 // Reads on by at most n bytes, as long as each byte continues the pattern and none completes it.
-fn glide(t: &[u8], from: usize, n: usize, pattern: &[u8], m: Progress) -> Progress
+fn read_matching(t: &[u8], from: usize, n: usize, pattern: &[u8], m: Progress) -> Progress
     requires { ⌜ (ReadsOn (now t) (m .place .0) from n) × (m .place .0 + n < 4294967296) × (Even (now pattern) m)
         × (1 ≤ length (now pattern)) × (length (now pattern) ≤ 256) ⌝ }
-    ensures { λ r. ⌜ Glides (now (t .entry)) (now (pattern .entry)) n m r ⌝ }
+    ensures { λ r. ⌜ ReadsMatching (now (t .entry)) (now (pattern .entry)) n m r ⌝ }
 {
     let k = skip(t, from, n, pattern, m.state);
     let d = search_kmp::matching(t, from + k, n - k, pattern, m.state);
@@ -126,7 +126,7 @@ fn feed(
     let mut at = run.before;
     let mut i: usize = 0;
     while i < size {
-        at = glide(t, from + i, size - i, pattern, at);
+        at = read_matching(t, from + i, size - i, pattern, at);
         i = (at.place.0 - start) as usize;
         if size <= i {
             return at;
@@ -156,8 +156,8 @@ pub fn seek(
         found: 0,
     };
     while m.place.0 < h.text_length {
-        let ran = read_by_header::range_at(t, h, m.place, MOST);
-        let RunRangeAnswer::At(part) = ran else {
+        let range = read_by_header::range_at(t, h, m.place, MOST);
+        let RunRangeAnswer::At(part) = range else {
             return Sought::Broken;
         };
         m = feed(t, Unread { part, before: m }, pattern, borders, room, table);

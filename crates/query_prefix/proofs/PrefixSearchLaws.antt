@@ -7,7 +7,7 @@ use lib.ListN.{length}
 use borrow.Author.Tests.{le-leb, lt-leb}
 use Rattle.format.specs.TreeReading.{headerResult}
 use Rattle.layout.specs.declared.header.HeaderAnswer.{HeaderAnswer}
-use Rattle.layout.specs.declared.header.HeaderAnswer.the-variants as read
+use Rattle.layout.specs.declared.header.HeaderAnswer.the-variants as header
 use Rattle.layout.specs.Header.{headerAnswer}
 use Rattle.query_places.specs.Places.{maxPattern, patternOk}
 use Rattle.query_row_filter.specs.declared.NextRowAnswer.{NextRowAnswer}
@@ -17,7 +17,7 @@ use Rattle.query_row_filter.proofs.AllowedAnswerLaws.{ask-unread, ask-bad, ask-
 use Rattle.row_filter.specs.SelectedRows.{startsWith}
 
 module _ (t : List ℕ) (ok : ℕ) (prefix : List ℕ) (mark : ℕ) where
-  pub prefix-unread : (x : HeaderAnswer) → x ≡ headerAnswer t → (q : ℕ) → x ≡ read.Refused q
+  pub prefix-unread : (x : HeaderAnswer) → x ≡ headerAnswer t → (q : ℕ) → x ≡ header.Refused q
       → AllowedAnswer t ok (queryRefusal t 16 (patternOk prefix)) (startsWith prefix) mark (Refused q)
   prefix-unread x is q e = ask-unread t ok (startsWith prefix) mark 16 (patternOk prefix) x is q e
 

@@ -58,8 +58,8 @@ fn from(t: &[u8], h: Header, prefix: &[u8], place: TextPlace, q: u32) -> NextRow
     let mut row = q;
     let mut at = place.0;
     while at < h.text_length {
-        let ran = rows_after::next_part(t, h, at);
-        let RunRangeAnswer::At(part) = ran else {
+        let range = rows_after::next_part(t, h, at);
+        let RunRangeAnswer::At(part) = range else {
             return NextRowAnswer::Refused(14);
         };
         let begin = part.from;

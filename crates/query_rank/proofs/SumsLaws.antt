@@ -15,27 +15,29 @@ use Rattle.format.specs.Layout as at
 use Rattle.format.specs.Layout.{skipField, maxLevels}
 use Rattle.format.specs.TreeReading.{Path, Visit, visit, entered, keptBlock, pointingBlock, targetBlock, pathFrom, pathOf}
 use Rattle.format.specs.Answers.{addedAfter, added, takenAfter, taken, lastPlace, leavesReached, Answer, refused}
-use Rattle.theory_paths.specs.PlacesLand.{from-last, from-kept, from-pointing, target-first, target-second}
+use Rattle.theory_paths.specs.PlacesResolved.{from-last, from-kept, from-pointing, target-first, target-second}
 use Rattle.theory_paths.specs.Visits.{goes}
 use Rattle.layout.specs.declared.place.BlockNumber.{BlockNumber}
 use Rattle.layout.specs.declared.place.BlockPlace.{BlockPlace}
 use Rattle.layout.specs.Record.{FieldIn, field-in}
 use Rattle.walk_steps.specs.declared.BlockKind.{BlockKind}
-use Rattle.walk_steps.specs.declared.BlockKind.the-variants.{Points, Off}
+use Rattle.walk_steps.specs.declared.BlockKind.the-variants.{Kept, Points, Off}
 use Rattle.walk_steps.specs.declared.position.BlockPosition.{BlockPosition}
 use Rattle.walk_steps.specs.declared.BlockAt.{BlockAt}
-use Rattle.walk_steps.specs.declared.BlockAt.the-variants as arrived
-use Rattle.walk_steps.specs.Steps.{OnLevel, nextAt, childAt, landAt}
+use Rattle.walk_steps.specs.declared.BlockAt.the-variants as block-at
+use Rattle.walk_steps.specs.Steps.{OnLevel, blockKindAt, childAt, resolvedTarget}
 use Rattle.walk_path.specs.Walk.{KeptAt, MayPoint, onward as trailed}
 use Rattle.walk_path.specs.declared.WalkState.{WalkState}
-use Rattle.walk_steps.proofs.NextLaws.{next-points, next-off, child-at, child-off, land-at}
+use Rattle.walk_steps.proofs.NextLaws.{next-points, next-off, child-at, child-off, resolved-at}
 use Rattle.walk_steps.proofs.StepLaws.{kept-in}
 use Rattle.walk_path.proofs.WalkLaws as walk
 use Rattle.walk_path.proofs.WalkLaws.{from-off, from-past, from-no-leaf}
 use Rattle.theory_counts.specs.Ranks.{goes-head, added-target, taken-target}
+use Rattle.query_rank.specs.declared.sums.Landing.{Landing}
+use Rattle.query_rank.specs.declared.sums.Landing.the-variants as landing
 use Rattle.query_rank.specs.declared.sums.Sum.{Sum}
 use Rattle.query_rank.specs.declared.sums.Summed.the-variants.{At}
-use Rattle.query_rank.specs.Sums.{settled, answerIn, rank-onward, addedRest, summed, startSum, wholeSum, Carried, Across}
+use Rattle.query_rank.specs.Sums.{settled, answerIn, rank-onward, addedRest, summed, startSum, wholeSum, Carried, Across, settledFrom, LandedSum}
 
 -- A field of a block of a level can be read.
 pub field-on : (t : List ℕ) (size level b i c f : ℕ)
@@ -153,9 +155,12 @@ rank-packed-word s few small low =
     let b : w / 281474976710656 ≡ s .entered = omega arith in
     rw (ne-eqb w 18446744073709551615 (λ e. omega arith), a, b, le-leb (s .minus) (s .plus) low)
 
-pub settled-none : (t : List ℕ) (byte c : ℕ) (s : Sum) (r : Option Path) → r ≡ none → answerIn 18446744073709551615 ≡ settled (summed t byte c s r)
+refused-none : (t : List ℕ) (byte c : ℕ) (s : Sum) (r : Option Path) → r ≡ none → refused 14 ≡ settled (summed t byte c s r)
 unfolding summed settled
-settled-none t byte c s r e = sym rank-broken-word ∙ rw e
+refused-none t byte c s r e = rw e
+
+pub settled-none : (t : List ℕ) (byte c : ℕ) (s : Sum) (r : Option Path) → r ≡ none → answerIn 18446744073709551615 ≡ settled (summed t byte c s r)
+settled-none t byte c s r e = sym rank-broken-word ∙ refused-none t byte c s r e
 
 -- On the last level, as the code reads it.
 
@@ -183,7 +188,7 @@ unfolding rank-onward
 entered-on s on plus minus e = ap (λ (y : Sum). y .entered) e
 
 pub by-last : (t : List ℕ) (size byte c level b i o : ℕ) (s : Sum) (r : Answer) → KeptAt t size level b i o (s .entered) → level + 1 ≡ at.settings t .levels
-    → r ≡ settled (summed t byte c s (pathFrom t 0 level i o)) → r ≡ settled (summed t byte c s (pathFrom t (at.settings t .levels - 1 - level) level i o))
+    → r ≡ settled (summed t byte c s (pathFrom t 0 level i o)) → r ≡ settledFrom t level byte c i o s
 by-last t size byte c level b i o s r k last e =
     let z : at.settings t .levels - 1 - level ≡ 0 = omega arith in
     rw z e
@@ -204,12 +209,12 @@ module _ (t : List ℕ) (size level b i o : ℕ) (s : Sum) (k : KeptAt t size le
       rw (z, lower .b-is) (from-kept t n level i o (k .kept))
 
   pub by-off : (byte c : ℕ)
-      → x ≡ arrived.Off → answerIn 18446744073709551615 ≡ settled (summed t byte c s (pathFrom t (at.settings t .levels - 1 - level) level i o))
+      → x ≡ block-at.Off → answerIn 18446744073709551615 ≡ settledFrom t level byte c i o s
   by-off byte c e =
       let j = at.link t level i + o / below in
       settled-none t byte c s _ (way-child ∙ rw (from-past t n (level + 1) j (o % below) (child-off t (level + 1) j (o % below) x x-is e)))
 
-  module _ (c : ℕ) (j : BlockNumber) (p : BlockPlace) (e : x ≡ arrived.At j p) where
+  module _ (c : ℕ) (j : BlockNumber) (p : BlockPlace) (e : x ≡ block-at.At j p) where
     -- The precondition of reading its count before.
     pub down-asks : Carried t c s
         → (OnLevel t size (level + 1) (at.fullLength t (level + 1))) × (j .0 < at.levelCount t (level + 1)) × (s .entered ≤ 2 * maxLevels) × (Carried t c s)
@@ -221,14 +226,14 @@ module _ (t : List ℕ) (size level b i o : ℕ) (s : Sum) (k : KeptAt t size le
       pub to-child : Carried t c on → (MayPoint t size (level + 1) below (j .0) (p .0) (on .entered)) × (Carried t c on)
       unfolding trailed
       to-child w =
-          let trail : WalkState = record { entered = s .entered; left = 0 } in (
+          let state : WalkState = record { entered = s .entered; left = 0 } in (
             rw (entered-on s on (at.before t (level + 1) (j .0) c) 0 on-is)
-                (walk.child-may t size level b i o trail k more below b-is (trailed trail (b - o)) refl x x-is j p e),
+                (walk.child-may t size level b i o state k more below b-is (trailed state (b - o)) refl x x-is j p e),
             w,
           )
 
       pub by-child : (byte : ℕ) (r : Answer) → r ≡ settled (summed t byte c on (pathFrom t n (level + 1) (j .0) (p .0)))
-          → r ≡ settled (summed t byte c s (pathFrom t (at.settings t .levels - 1 - level) level i o))
+          → r ≡ settledFrom t level byte c i o s
       by-child byte r f =
           let z = child-at t (level + 1) (at.link t level i + o / below) (o % below) x x-is j p e in
           let way : pathFrom t (at.settings t .levels - 1 - level) level i o ≡ entered (visit level i o ∷ []) (pathFrom t n (level + 1) (j .0) (p .0)) =
@@ -244,54 +249,75 @@ link-low t level i o = go (lt-or-ge (at.gap t level i + o) (at.fullLength t leve
     go (inr a) = omega (arith, target-second t level i o a .0)
 
 -- From a block at which a pointer may be followed.
-module _ (t : List ℕ) (size level b i o : ℕ) (s : Sum) (k : MayPoint t size level b i o (s .entered)) (x : BlockKind) (x-is : x ≡ nextAt t level i o) where
-  pub by-none : (byte c : ℕ) → x ≡ Off → answerIn 18446744073709551615 ≡ settled (summed t byte c s (pathFrom t (at.settings t .levels - 1 - level) level i o))
+module _ (t : List ℕ) (size level b i o : ℕ) (s : Sum) (k : MayPoint t size level b i o (s .entered)) (x : BlockKind) (x-is : x ≡ blockKindAt t level i o) where
+  pub by-none : (byte c : ℕ) → x ≡ Off → LandedSum t size level b byte c i o s landing.Off
+  unfolding LandedSum
   by-none byte c e =
       let z = next-off t level i o x x-is e in
-      settled-none t byte c s _ (from-off t (at.settings t .levels - 1 - level) level i o (z .0) (z .1))
+      refused-none t byte c s _ (from-off t (at.settings t .levels - 1 - level) level i o (z .0) (z .1))
 
-  module _ (j : BlockNumber) (p : BlockPlace) (e : x ≡ Points j p) (y : BlockAt) (y-is : y ≡ landAt t level i o) where
+  pub by-itself : (byte c : ℕ) (j : BlockNumber) (p : BlockPlace)
+      → x ≡ Kept j p → Carried t c s → LandedSum t size level b byte c i o s (landing.At (record { 0 = i }) (record { 0 = o }) s)
+  unfolding LandedSum
+  by-itself byte c j p e w = (walk.may-keep t size level b i o (s .entered) k x x-is j p e, w, refl)
+
+  module _ (j : BlockNumber) (p : BlockPlace) (e : x ≡ Points j p) (y : BlockAt) (y-is : y ≡ resolvedTarget t level i o) where
     points : pointingBlock t level i ≡ true
     points = next-points t level i o x x-is j p e .1
 
     apart : keptBlock t level i ≡ false
     apart = next-points t level i o x x-is j p e .0
 
-    abbrev trail : WalkState
-    trail = record { entered = s .entered; left = 0 }
+    abbrev state : WalkState
+    state = record { entered = s .entered; left = 0 }
 
-    pub by-no-land : (byte c : ℕ)
-        → y ≡ arrived.Off → answerIn 18446744073709551615 ≡ settled (summed t byte c s (pathFrom t (at.settings t .levels - 1 - level) level i o))
-    by-no-land byte c f = settled-none t byte c s _ (walk.land-breaks t size level b i o trail k x x-is j p e y y-is f)
+    pub by-no-target : (byte c : ℕ) → y ≡ block-at.Off → LandedSum t size level b byte c i o s landing.Off
+    unfolding LandedSum
+    by-no-target byte c f = refused-none t byte c s _ (walk.land-breaks t size level b i o state k x x-is j p e y y-is f)
 
-    module _ (m : BlockNumber) (q : BlockPlace) (f : y ≡ arrived.At m q) where
-      landed : KeptAt t size level b (m .0) (q .0) (s .entered + 1)
+    module _ (m : BlockNumber) (q : BlockPlace) (f : y ≡ block-at.At m q) where
+      target-kept : KeptAt t size level b (m .0) (q .0) (s .entered + 1)
       unfolding trailed
-      landed = walk.land-to t size level b i o trail k x x-is j p e y y-is (trailed trail (b - o)) refl m q f
+      target-kept = walk.land-to t size level b i o state k x x-is j p e y y-is (trailed state (b - o)) refl m q f
 
       pub target-across : Across t size level i (m .0)
       target-across = record {
         on = rw (← k .on .b-is) (k .on);
         block-in = k .block-in;
-        target-in = kept-in t level (m .0) (landed .kept);
-        link-low = rw (land-at t level i o y y-is m q f .2) (link-low t level i o);
+        target-in = kept-in t level (m .0) (target-kept .kept);
+        link-low = rw (resolved-at t level i o y y-is m q f .2) (link-low t level i o);
       }
 
       module _ (byte c : ℕ) (on : Sum)
           (on-is : on ≡ rank-onward s (cond (eqb (m .0) (at.link t level i)) 0 (at.inside t level (at.link t level i) c)) (at.skip t level i c)) where
-        pub to-target : KeptAt t size level b (m .0) (q .0) (on .entered)
-        to-target = rw (entered-on s on (cond (eqb (m .0) (at.link t level i)) 0 (at.inside t level (at.link t level i) c)) (at.skip t level i c) on-is) landed
-
-        pub by-target : (r : Answer) → r ≡ settled (summed t byte c on (pathFrom t (at.settings t .levels - 1 - level) level (m .0) (q .0)))
-            → r ≡ settled (summed t byte c s (pathFrom t (at.settings t .levels - 1 - level) level i o))
-        by-target r g =
-            let z = land-at t level i o y y-is m q f in
+        same-count : settledFrom t level byte c (m .0) (q .0) on ≡ settledFrom t level byte c i o s
+        same-count =
+            let z = resolved-at t level i o y y-is m q f in
             let n = at.settings t .levels - 1 - (level + 1) in
             let a : at.settings t .levels - 1 - level ≡ suc n = omega (arith, z .0) in
             let way : pathFrom t (at.settings t .levels - 1 - level)
             level i o ≡ entered (visit level i o ∷ []) (pathFrom t (at.settings t .levels - 1 - level) level (m .0) (q .0)) =
             rw (a, z .2, z .3) (from-pointing t n level i o apart points (z .1)) in
-            rw way (rw on-is at g ∙ ap settled (sum-target t byte c s (at.settings t .levels - 1 - level) level i o (m .0) (q .0)))
+            rw (way, on-is) (ap settled (sum-target t byte c s (at.settings t .levels - 1 - level) level i o (m .0) (q .0)))
+
+        pub by-target : Carried t c on → LandedSum t size level b byte c i o s (landing.At m q on)
+        unfolding LandedSum
+        by-target w = (
+          rw (entered-on s on (cond (eqb (m .0) (at.link t level i)) 0 (at.inside t level (at.link t level i) c)) (at.skip t level i c) on-is) target-kept,
+          w,
+          same-count,
+        )
+
+-- From where the count goes on.
+module _ (t : List ℕ) (size level b byte c i o : ℕ) (s : Sum) (y : Landing) (y-is : LandedSum t size level b byte c i o s y) where
+  pub landed-none : y ≡ landing.Off → answerIn 18446744073709551615 ≡ settledFrom t level byte c i o s
+  unfolding LandedSum
+  landed-none e = sym rank-broken-word ∙ rw e at y-is
+
+  pub landed-on : (j : BlockNumber) (p : BlockPlace) (on : Sum) → y ≡ landing.At j p on → (KeptAt t size level b (j .0) (p .0) (on .entered))
+      × (Carried t c on) × (settledFrom t level byte c (j .0) (p .0) on ≡ settledFrom t level byte c i o s)
+  unfolding LandedSum
+  landed-on j p on e = rw e at y-is
 
 -- The whole path.
 

@@ -17,7 +17,7 @@ use Rattle.format.specs.Answers.{isCounted, numberOfByte, total}
 use Rattle.theory_paths.specs.OneText.{text-length}
 use Rattle.theory_counts.specs.RowsOfText.{rows-total}
 use Rattle.layout.specs.declared.header.HeaderAnswer.{HeaderAnswer}
-use Rattle.layout.specs.declared.header.HeaderAnswer.the-variants as read
+use Rattle.layout.specs.declared.header.HeaderAnswer.the-variants as header
 use Rattle.layout.specs.Header.{headerAnswer}
 use Rattle.layout.specs.HeaderFields.{header-refused}
 use Rattle.row_filter.specs.SelectedRows.{NextRowOutcome, firstSelected, nextSelected, outcomeAt, nextOutcome}
@@ -43,7 +43,7 @@ refuses t ok selected mark refusal n e low = record {
 
 -- Questions 5 to 7, the query's own, and 11.
 module _ (t : List ℕ) (settled : ℕ) (selected : List ℕ → Bool) (mark k : ℕ) (ok : Bool) where
-  pub ask-unread : (x : HeaderAnswer) → x ≡ headerAnswer t → (q : ℕ) → x ≡ read.Refused q
+  pub ask-unread : (x : HeaderAnswer) → x ≡ headerAnswer t → (q : ℕ) → x ≡ header.Refused q
       → AllowedAnswer t settled (queryRefusal t k ok) selected mark (Refused q)
   unfolding queryRefusal
   ask-unread x is q e =

@@ -56,10 +56,10 @@ module _ (q R mark : ℕ) where
   unfolding outcomeAt
   next-marks z = go (eqb q 0) refl (leb mark R) refl
     where
-      said : Bool → Bool → NextRowOutcome
-      said none low = cond none (record { refusal = 0; row = 0; mark = cond low R mark }) (record { refusal = 0; row = q; mark = q })
+      expected : Bool → Bool → NextRowOutcome
+      expected none low = cond none (record { refusal = 0; row = 0; mark = cond low R mark }) (record { refusal = 0; row = q; mark = q })
 
-      is : (b c : Bool) → eqb q 0 ≡ b → leb mark R ≡ c → outcomeAt q R mark ≡ said b c
+      is : (b c : Bool) → eqb q 0 ≡ b → leb mark R ≡ c → outcomeAt q R mark ≡ expected b c
       is b c e f = rw (e, f)
 
       go : (b : Bool) → eqb q 0 ≡ b → (c : Bool)
@@ -260,15 +260,15 @@ module _ (t : List ℕ) (ok : ℕ) (sound : ok ≡ 0 → checkResult t ≡ 0) (r
         R : ℕ
         R = length (rowsOf (textOf t))
 
-        said : NextRowOutcome
-        said = nextOutcome selected (rowsOf (textOf t)) mark
+        expected : NextRowOutcome
+        expected = nextOutcome selected (rowsOf (textOf t)) mark
 
         free : FreeOutcome t selected mark (record { refusal = 0; row = 0; mark = m }) → (mark ≤ m) × ((m ≡ mark) ⊎ (m ≤ maxRows t))
         free (inl e) = absurd (let z : ⊥ = omega (arith, ap (λ (s : NextRowOutcome). s .refusal) e) in z)
         free (inr (inl h)) = (h .2, h .3)
         free (inr (inr h)) = absurd (let z : ⊥ = omega (arith, h .1) in z)
 
-        moved : (v : ok ≡ 0) → m ≡ said .mark → (mark ≤ said .mark) × ((said .mark ≡ mark) ⊎ (said .mark ≡ R))
+        moved : (v : ok ≡ 0) → m ≡ expected .mark → (mark ≤ expected .mark) × ((expected .mark ≡ mark) ⊎ (expected .mark ≡ R))
             → (mark ≤ m) × ((m ≡ mark) ⊎ (m ≤ maxRows t))
         moved v e (l, inl s) = (omega arith, inl (e ∙ s))
         moved v e (l, inr s) = (omega arith, inr (omega (arith, rows-total t (sound v) (counted-of through) .1)))
@@ -294,5 +294,5 @@ module _ (t : List ℕ) (ok : ℕ) (sound : ok ≡ 0 → checkResult t ≡ 0) (r
       go (inl l) w = inl (ap (λ (s : NextRowOutcome). s .refusal) (a .answers .asked l))
       go (inr z) (inl w) = inr (free (a .answers .free (omega arith) (λ v. omega arith)), λ v. omega arith)
       go (inr z) (inr w) =
-          let said = a .answers .accepted (omega arith) (omega arith) in
-          absurd (next-only (nextSelected selected (rowsOf (textOf t)) mark) (length (rowsOf (textOf t))) mark n (a .numbered) said)
+          let expected = a .answers .accepted (omega arith) (omega arith) in
+          absurd (next-only (nextSelected selected (rowsOf (textOf t)) mark) (length (rowsOf (textOf t))) mark n (a .numbered) expected)

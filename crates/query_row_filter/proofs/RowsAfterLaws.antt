@@ -26,7 +26,7 @@ use Rattle.row_filter.specs.RowAutomaton.{Automaton, Scan, found, on, at-row, n
 use Rattle.row_filter.specs.RowAutomatonLaws.{scan-append}
 use Rattle.query_access.specs.declared.read_by_header.TreeRange.{TreeRange}
 use Rattle.query_access.specs.declared.read_by_header.RunRangeAnswer.{RunRangeAnswer}
-use Rattle.query_access.specs.declared.read_by_header.RunRangeAnswer.the-variants as ran
+use Rattle.query_access.specs.declared.read_by_header.RunRangeAnswer.the-variants as run
 use Rattle.query_access.specs.ReadByRuns.{ReadsOn, IsRangeAnswer}
 use Rattle.query_access.proofs.RunLaws.{reads-substring}
 use Rattle.query_row_filter.specs.declared.NextRowAnswer.{NextRowAnswer}
@@ -76,7 +76,7 @@ start-broken t ok mark never = record {
 pub start-past : (t : List ℕ) (ok mark p : ℕ) → (ok ≡ 0 → checkResult t ≡ 0)
     → Selected t 10 mark → p < at.textLength t → (ok ≡ 0 → p ≡ placeOf 10 mark (textOf t)) → FilterStartIs t ok mark (start.At (record { 0 = p + 1 }))
 start-past t ok mark p sound s low is =
-    start-at t ok mark (p + 1) (omega arith) (λ v. rows-past (textOf t) mark p (rw (is v) (counts.stands t (sound v) 10 mark s)))
+    start-at t ok mark (p + 1) (omega arith) (λ v. rows-past (textOf t) mark p (rw (is v) (counts.is-nth t (sound v) 10 mark s)))
 
 -- Questions 11 and 12 pass for the byte 10 that ends the mark's row.
 pub start-asked : (t : List ℕ) (h : Header) (mark : ℕ)
@@ -89,13 +89,13 @@ module _ (t : List ℕ) (p : ℕ) (x : RunRangeAnswer) where
   part-from h k low most e = by x refl e
     where
       by : (y : RunRangeAnswer) → x ≡ y → IsRangeAnswer t p most y → PartFrom t p y
-      by (ran.At part) z a = (a .0, a .1)
-      by (ran.Refused number) z a = λ v. never-14 t (k .passes) p (omega (arith, k .length-is)) (accepted-links t v) (a .1)
+      by (run.At part) z a = (a .0, a .1)
+      by (run.Refused number) z a = λ v. never-14 t (k .passes) p (omega (arith, k .length-is)) (accepted-links t v) (a .1)
 
-  pub part-reads : (part : TreeRange) → x ≡ ran.At part → PartFrom t p x → (ReadsOn t p (part .from) (part .length)) × (1 ≤ part .length)
+  pub part-reads : (part : TreeRange) → x ≡ run.At part → PartFrom t p x → (ReadsOn t p (part .from) (part .length)) × (1 ≤ part .length)
   part-reads part e a = rw e at a
 
-  pub part-none : (number : ℕ) → x ≡ ran.Refused number → PartFrom t p x → checkResult t ≡ 0 → ⊥
+  pub part-none : (number : ℕ) → x ≡ run.Refused number → PartFrom t p x → checkResult t ≡ 0 → ⊥
   part-none number e a = rw e at a
 
 -- The text is scanned part by part. Row q begins at place p₀; the scan has reached place p, in state f of row `row`.

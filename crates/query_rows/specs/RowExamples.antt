@@ -10,7 +10,7 @@ use Rattle.format.specs.Blocks.{treeOf, header, leafBytes, levelPairs, recordBy
 use Rattle.format.specs.Blocks.{startsAt, cut, keptByPairs, firstPairAt, pairAt, lengthOf, startOf}
 use Rattle.format.specs.Layout as at
 use Rattle.format.specs.TreeReading.{pathOf, pathFrom, targetPlace, targetBlock, pointingBlock}
-use Rattle.format.specs.TreeReading.{keptBlock, lands, landBlock, landPlace, landVisits, headerResult}
+use Rattle.format.specs.TreeReading.{keptBlock, resolves, resolvedBlock, resolvedPlace, resolvedVisits, headerResult}
 use Rattle.format.specs.Answers.{Answer, byteAnswer, indexOf, isCounted, numberOfByte, total}
 use Rattle.query_rows.specs.RowAnswers.{rowCountRefusal, lastOpen, rowCountAnswer}
 
@@ -37,11 +37,10 @@ pub record RowMarked : Type 0 where
 
 pub row-marked : RowMarked
 unfolding row-tree row-open-book row-answered rowCountRefusal lastOpen rowCountAnswer tabulate concat sumBelow countBelow allBelow sameList setWord wordAt
-    wordsBytes wordBytes
-    substring leftmost firstFrom countIn blockLength pieces recordLength lengthOk sizesOk countedOk rising risingAfter treeOf header leafBytes
-    levelPairs recordBytes edgesOf filledOut levelBytes recordIn recordOf target occurrence width isKept startsAt cut keptByPairs firstPairAt pairAt
-    lengthOf startOf pathOf pathFrom targetPlace targetBlock pointingBlock keptBlock lands landBlock landPlace landVisits headerResult byteAnswer indexOf
-    isCounted numberOfByte total at.leafByte at.blockLengthAt at.levelCount at.levelOffset at.layout at.textLength at.countedCount at.settings
+    wordsBytes wordBytes substring leftmost firstFrom countIn blockLength pieces recordLength lengthOk sizesOk countedOk rising risingAfter treeOf header
+    leafBytes levelPairs recordBytes edgesOf filledOut levelBytes recordIn recordOf target occurrence width isKept startsAt cut keptByPairs firstPairAt pairAt
+    lengthOf startOf pathOf pathFrom targetPlace targetBlock pointingBlock keptBlock resolves resolvedBlock resolvedPlace resolvedVisits headerResult byteAnswer
+    indexOf isCounted numberOfByte total at.leafByte at.blockLengthAt at.levelCount at.levelOffset at.layout at.textLength at.countedCount at.settings
     at.leafOffset at.leafCount at.recordSize at.field at.start at.kind at.link at.gap at.before at.inside at.skip at.edgesAt at.fullLength at.isKept
     at.isPointing at.hasEdges at.holdsHeader at.layoutOk at.headerOk
 row-marked = record { open-end = refl; ended = refl; one = refl; empty = refl; uncounted = (refl, refl); broken = refl; short = refl }

@@ -21,12 +21,12 @@ use Rattle.format.specs.TreeReading.{keptBlock, pointingBlock, checkResult}
 use Rattle.theory_paths.specs.Links.{H, N, s, len, Linked, linked-facts}
 use Rattle.theory_paths.specs.Links as links
 use Rattle.theory_paths.specs.BlockStarts.{len-small, len-pos}
-use Rattle.theory_paths.specs.PlacesLand.{kept-block, pointing-block}
+use Rattle.theory_paths.specs.PlacesResolved.{kept-block, pointing-block}
 use Rattle.layout.specs.declared.place.BlockNumber.{BlockNumber}
 use Rattle.layout.specs.declared.place.BlockPlace.{BlockPlace}
 use Rattle.walk_steps.specs.declared.BlockKind.{BlockKind}
 use Rattle.walk_steps.specs.declared.BlockKind.the-variants as next
-use Rattle.walk_steps.specs.Steps.{OnLevel, InTable, nextAt}
+use Rattle.walk_steps.specs.Steps.{OnLevel, InTable, blockKindAt}
 use Rattle.layout.specs.declared.fields.Shape.{Shape}
 use Rattle.walk_steps.proofs.NextLaws.{pointing-not-kept, level-below, next-kept, next-points, next-off}
 use Rattle.layout.proofs.ShapeLaws.{Shapes}
@@ -502,7 +502,7 @@ module _ (t : List ℕ) (field : CountField) (level b i j way : ℕ) (points : P
 
 -- From a block that may be kept or may point.
 module _ (t : List ℕ) (field : CountField) (level b : ℕ) (i : BlockNumber) (j way : ℕ) (there : InTable t (field .size) level b (i .0))
-    (seeks : Seeking t field level b j way (2 * level)) (x : BlockKind) (x-is : x ≡ nextAt t level (i .0) 0) where
+    (seeks : Seeking t field level b j way (2 * level)) (x : BlockKind) (x-is : x ≡ blockKindAt t level (i .0) 0) where
   pub itself-kept : (n : BlockNumber) (p : BlockPlace) → x ≡ next.Kept n p → HandsOn t field level b (i .0) j way (landing.At i j way)
   itself-kept n p e = hands-to t field level b (i .0) j way i j way (record {
     kept = record { on = there .on; kept = next-kept t level (i .0) 0 x x-is n p e .0 };

@@ -11,7 +11,7 @@ use Rattle.layout.specs.declared.place.BlockNumber.{BlockNumber}
 use Rattle.layout.specs.declared.place.BlockPlace.{BlockPlace}
 use Rattle.walk_steps.specs.Steps.{OnLevel}
 use Rattle.theory_counts.specs.Finds.{Lands}
-use Rattle.theory_counts.specs.Theorems as demands
+use Rattle.theory_counts.specs.Theorems as counts
 use Rattle.format.specs.LayoutLaws.{Readable, header-facts}
 use Rattle.format.specs.CheckResultLaws.{accepted-header, accepted-links}
 use Rattle.theory_paths.specs.Links.{linked-facts}
@@ -107,7 +107,7 @@ module _ (t : List ℕ) where
     pub place : ℕ
     pub entered : ℕ
     pub is : r ≡ way + entered * 281474976710656 + place
-    pub lands : Lands t (header-facts t (accepted-header t v)) (linked-facts t (accepted-links t v)) (demands.levels t v) c hc level i j place entered
+    pub lands : Lands t (header-facts t (accepted-header t v)) (linked-facts t (accepted-links t v)) (counts.levels t v) c hc level i j place entered
 
   pub record FoundIn (c level i j way r : ℕ) : Type 0 where
     pub right : (v : checkResult t ≡ 0) (hc : c < at.countedCount t) → j ≤ at.inside t level i c → Landed v c hc level i j way r

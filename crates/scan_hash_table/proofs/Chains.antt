@@ -9,12 +9,12 @@ use lib.ListN.{length, set, length-set}
 use lib.Seq.{getD-set-same, getD-set-other}
 use Rattle.text.specs.ListLaws.{lt-or-ge}
 use Rattle.text.specs.Text.{substring}
-use Rattle.scan_rolling_hash.specs.Prints.{print}
-use Rattle.scan_rolling_hash.proofs.PrintLaws.{print-below}
+use Rattle.scan_rolling_hash.specs.Fingerprints.{fingerprint}
+use Rattle.scan_rolling_hash.proofs.WindowFingerprintLaws.{fingerprint-below}
 use Rattle.scan_hash_table.proofs.ChainHeadLaws.{bucket-lt}
 use Rattle.scan_hash_table.specs.declared.Items.{Items}
 use Rattle.scan_hash_table.specs.ChainHeads.{linkOf, bucketOf}
-use Rattle.scan_hash_table.specs.Entries.{Listed, Link, Chained, Found, Searched, lengthAt, bytesAt, chainAt, nextIn, printIn, itemPlaceIn, headIn}
+use Rattle.scan_hash_table.specs.Entries.{Listed, Link, Chained, Found, Searched, lengthAt, bytesAt, chainAt, nextIn, fingerprintIn, itemPlaceIn, headIn}
 use Rattle.scan_hash_table.specs.LookedUp.{Asks, ItemCompared}
 
 module _ (T out : List ℕ) (it : Items) where
@@ -23,18 +23,18 @@ module _ (T out : List ℕ) (it : Items) where
 
   pub chain-lt : 1 ≤ it .heads → (x : ℕ) → chainAt T out it x < it .heads
   unfolding chainAt bucketOf
-  chain-lt low x = bucket-lt (print (it .seed) (bytesAt T out it x)) (it .heads) (print-below (it .seed) (bytesAt T out it x)) low
+  chain-lt low x = bucket-lt (fingerprint (it .seed) (bytesAt T out it x)) (it .heads) (fingerprint-below (it .seed) (bytesAt T out it x)) low
 
   -- The same bytes are in the same chain.
-  pub same-chain : (x p n : ℕ) → bytesAt T out it x ≡ substring T p n → chainAt T out it x ≡ bucketOf (it .heads) (print (it .seed) (substring T p n))
+  pub same-chain : (x p n : ℕ) → bytesAt T out it x ≡ substring T p n → chainAt T out it x ≡ bucketOf (it .heads) (fingerprint (it .seed) (substring T p n))
   unfolding chainAt
-  same-chain x p n e = ap (λ (s : List ℕ). bucketOf (it .heads) (print (it .seed) s)) e
+  same-chain x p n e = ap (λ (s : List ℕ). bucketOf (it .heads) (fingerprint (it .seed) s)) e
 
   pub searched-none : (W : List ℕ) → Searched T out it W W
   searched-none W = record {
     same-length = refl;
     nexts = λ x l. refl;
-    prints = λ x l. refl;
+    fingerprints = λ x l. refl;
     heads = λ g l. refl;
     listed = λ x l i. i;
     others = λ x l o. refl;
@@ -45,7 +45,7 @@ module _ (T out : List ℕ) (it : Items) where
   searched-then W Z Y a b = record {
     same-length = b .same-length ∙ a .same-length;
     nexts = λ x l. b .nexts x l ∙ a .nexts x l;
-    prints = λ x l. b .prints x l ∙ a .prints x l;
+    fingerprints = λ x l. b .fingerprints x l ∙ a .fingerprints x l;
     heads = λ g l. b .heads g l ∙ a .heads g l;
     listed = λ x l i. b .listed x l (a .listed x l i);
     others = λ x l o. b .others x l (rw (a .others x l o) o) ∙ a .others x l o;
@@ -74,7 +74,7 @@ module _ (T out : List ℕ) (it : Items) where
       within = h .within;
       next = λ x l i. subst (λ (e : ℕ). Link T out it Z (chainAt T out it x) x e) (sym (s .nexts x (omega (arith, h .within))))
           (link-after (chainAt T out it x) x (nextIn W x) (omega (arith, h .within)) (h .next x l (listed-before x (omega (arith, h .within)) i)));
-      prints = λ x l i. s .prints x (omega (arith, h .within)) ∙ h .prints x l (listed-before x (omega (arith, h .within)) i);
+      fingerprints = λ x l i. s .fingerprints x (omega (arith, h .within)) ∙ h .fingerprints x l (listed-before x (omega (arith, h .within)) i);
       heads = λ g l. subst (λ (w : ℕ). Link T out it Z g k (linkOf w))
           (sym (s .heads g l)) (link-after g k (linkOf (headIn (it .items) W g)) (h .within) (h .heads g l));
       marks = λ x l i. rw (s .heads (chainAt T out it x) (chain-lt low x)) (h .marks x l (listed-before x (omega (arith, h .within)) i));
@@ -101,17 +101,18 @@ module _ (T out : List ℕ) (it : Items) where
     passed-after a f = record { near = f .near; same = f .same; absent = λ r l m e. f .absent r (omega arith) m e }
 
   module _ (W : List ℕ) (h p n x : ℕ) (a : Asks T out it W h p n) (xl : x < it .items) (is : Is W x) where
-    pub touched-none : (lengthAt T out it x ≡ n → Found T out it W x p → Found T out it W x (p + 1)) → ItemCompared T out it W W x p n
-    touched-none f = record { searched = searched-none W; here = f }
+    pub compared-none : (lengthAt T out it x ≡ n → Found T out it W x p → Found T out it W x (p + 1)) → ItemCompared T out it W W x p n
+    compared-none f = record { searched = searched-none W; here = f }
 
-    pub other-print : (printIn W x ≡ h → ⊥) → ItemCompared T out it W W x p n
-    other-print un = touched-none (λ en. passed-by W x p n en (λ e. un (a .chained .prints x xl is ∙ ap (print (it .seed)) e ∙ sym (a .print-is))))
+    pub other-fingerprint : (fingerprintIn W x ≡ h → ⊥) → ItemCompared T out it W W x p n
+    other-fingerprint un =
+        compared-none (λ en. passed-by W x p n en (λ e. un (a .chained .fingerprints x xl is ∙ ap (fingerprint (it .seed)) e ∙ sym (a .fingerprint-is))))
 
     pub found-before : itemPlaceIn W x ≤ p → ItemCompared T out it W W x p n
-    found-before l = touched-none (λ en. passed-after W x p n l)
+    found-before l = compared-none (λ en. passed-after W x p n l)
 
     pub other-bytes : (lengthAt T out it x ≡ n → bytesAt T out it x ≡ substring T p n → ⊥) → ItemCompared T out it W W x p n
-    other-bytes un = touched-none (λ en. passed-by W x p n en (un en))
+    other-bytes un = compared-none (λ en. passed-by W x p n en (un en))
 
     -- The window has the item's bytes, at a place before the one found so far.
     module _ (before : p < itemPlaceIn W x) (en : lengthAt T out it x ≡ n) (es : bytesAt T out it x ≡ substring T p n) where
@@ -147,12 +148,12 @@ module _ (T out : List ℕ) (it : Items) where
       }
 
       pub found-here : ItemCompared T out it W Z x p n
-      unfolding nextIn printIn headIn
+      unfolding nextIn fingerprintIn headIn
       found-here = record {
         searched = record {
           same-length = length-set W (3 * x + 2) p;
           nexts = λ y l. getD-set-other W (3 * x + 2) (3 * y) p 0 (λ q. omega arith);
-          prints = λ y l. getD-set-other W (3 * x + 2) (3 * y + 1) p 0 (λ q. omega arith);
+          fingerprints = λ y l. getD-set-other W (3 * x + 2) (3 * y + 1) p 0 (λ q. omega arith);
           heads = λ g l. getD-set-other W (3 * x + 2) (3 * it .items + g) p 0 (λ q. omega arith);
           listed = λ y l i. go-listed y i (ℕ-discrete y x);
           others = λ y l o. place-other y (λ q. let z : itemPlaceIn W y ≡ itemPlaceIn W x = ap (itemPlaceIn W) q in omega (arith, is));

@@ -10,10 +10,10 @@ use lib.ListN.{length, getD, set, length-set}
 use lib.Seq.{getD-set-same, getD-set-other}
 use Rattle.text.specs.ListLaws.{lt-or-ge}
 use Rattle.text.specs.Text.{substring}
-use Rattle.scan_rolling_hash.specs.Prints.{print}
+use Rattle.scan_rolling_hash.specs.Fingerprints.{fingerprint}
 use Rattle.scan_hash_table.specs.declared.Items.{Items}
 use Rattle.scan_hash_table.specs.ChainHeads.{linkOf, markOf, bucketOf}
-use Rattle.scan_hash_table.specs.Entries.{Listed, Link, Chained, startAt, lengthAt, bytesAt, chainAt, nextIn, printIn, itemPlaceIn, headIn}
+use Rattle.scan_hash_table.specs.Entries.{Listed, Link, Chained, startAt, lengthAt, bytesAt, chainAt, nextIn, fingerprintIn, itemPlaceIn, headIn}
 use Rattle.scan_hash_table.specs.ItemsEntered.{Cleared, Put, Turn, Leads, EqualItem, Entered, Skipped}
 use Rattle.scan_hash_table.proofs.Chains.{chain-lt}
 
@@ -27,7 +27,7 @@ module _ (T out : List ℕ) (it : Items) where
   chained-none W Z c = record {
     within = omega arith;
     next = λ x l i. absurd (let z : ⊥ = omega arith in z);
-    prints = λ x l i. absurd (let z : ⊥ = omega arith in z);
+    fingerprints = λ x l i. absurd (let z : ⊥ = omega arith in z);
     heads = λ g l.
         let e : getD Z (3 * it .items + g) 0 / 256 ≡ 0 = ap (λ (w : ℕ). w / 256) (c .empty g l) in
         record {
@@ -70,7 +70,8 @@ module _ (T out : List ℕ) (it : Items) where
             absurd (un (subst (λ (k : ℕ). Is Z k) q i) (subst (λ (k : ℕ). chainAt T out it k ≡ g) q c))
 
     -- Item x is in no chain.
-    module _ (t : Turn T out it W x) (nexts : (y : ℕ) → y < x → nextIn Z y ≡ nextIn W y) (prints : (y : ℕ) → y < x → printIn Z y ≡ printIn W y)
+    module _ (t : Turn T out it W x) (nexts : (y : ℕ) → y < x → nextIn Z y ≡ nextIn W y)
+        (fingerprints : (y : ℕ) → y < x → fingerprintIn Z y ≡ fingerprintIn W y)
         (heads : (g : ℕ) → headIn (it .items) Z g ≡ headIn (it .items) W g) (out-of : length T ≤ itemPlaceIn Z x) where
       h : Chained T out it W x
       h = t .chained
@@ -91,7 +92,7 @@ module _ (T out : List ℕ) (it : Items) where
         next = λ y l i. let m = below y l i in
             subst (λ (e : ℕ). Link T out it Z (chainAt T out it y) y e) (sym (nexts y m))
             (link-same (chainAt T out it y) y (nextIn W y) (omega arith) (h .next y m (was-listed y m i)));
-        prints = λ y l i. let m = below y l i in prints y m ∙ h .prints y m (was-listed y m i);
+        fingerprints = λ y l i. let m = below y l i in fingerprints y m ∙ h .fingerprints y m (was-listed y m i);
         heads = λ g l. subst (λ (w : ℕ). Link T out it Z g (x + 1) (linkOf w)) (sym (heads g))
             (link-more g (linkOf (headIn (it .items) W g)) (λ i c. let n : ⊥ = omega (arith, i, out-of) in n) (h .heads g l));
         marks = λ y l i. let m = below y l i in rw (heads (chainAt T out it y)) (h .marks y m (was-listed y m i));
@@ -111,7 +112,7 @@ module _ (T out : List ℕ) (it : Items) where
     place-before y l = getD-set-other W (3 * x + 2) (3 * y + 2) v 0 (λ q. omega arith)
 
     out-chained : Chained T out it Y (x + 1)
-    unfolding nextIn printIn headIn
+    unfolding nextIn fingerprintIn headIn
     out-chained = chained-out W Y x place-before t (λ y l. getD-set-other W (3 * x + 2) (3 * y) v 0 (λ q. omega arith))
         (λ y l. getD-set-other W (3 * x + 2) (3 * y + 1) v 0 (λ q. omega arith))
         (λ g. getD-set-other W (3 * x + 2) (3 * it .items + g) v 0 (λ q. omega (arith, t .item-in))) (omega (arith, place-here))
@@ -133,7 +134,7 @@ module _ (T out : List ℕ) (it : Items) where
     }
 
   -- Item x in front of its chain.
-  module _ (W Z : List ℕ) (x h s g : ℕ) (t : Turn T out it W x) (p : Put (it .items) W Z x h s g) (h-is : h ≡ print (it .seed) (bytesAt T out it x))
+  module _ (W Z : List ℕ) (x h s g : ℕ) (t : Turn T out it W x) (p : Put (it .items) W Z x h s g) (h-is : h ≡ fingerprint (it .seed) (bytesAt T out it x))
       (s-is : s ≡ startAt T out it x) (g-is : g ≡ chainAt T out it x) where
     old : Chained T out it W x
     old = t .chained
@@ -157,14 +158,14 @@ module _ (T out : List ℕ) (it : Items) where
             (subst (λ (f : ℕ). Link T out it Z f x (linkOf (headIn (it .items) W g)))
             g-is (link-same W Z x (p .places) g x (linkOf (headIn (it .items) W g)) (omega arith) (old .heads g g-in))))
 
-    new-prints : (y : ℕ) → y < x + 1 → Is Z y → printIn Z y ≡ print (it .seed) (bytesAt T out it y)
-    new-prints y l i = go (lt-or-ge y x)
+    new-fingerprints : (y : ℕ) → y < x + 1 → Is Z y → fingerprintIn Z y ≡ fingerprint (it .seed) (bytesAt T out it y)
+    new-fingerprints y l i = go (lt-or-ge y x)
       where
-        go : (y < x) ⊎ (x ≤ y) → printIn Z y ≡ print (it .seed) (bytesAt T out it y)
-        go (inl m) = p .prints y m ∙ old .prints y m (was-listed W Z x (p .places) y m i)
+        go : (y < x) ⊎ (x ≤ y) → fingerprintIn Z y ≡ fingerprint (it .seed) (bytesAt T out it y)
+        go (inl m) = p .fingerprints y m ∙ old .fingerprints y m (was-listed W Z x (p .places) y m i)
         go (inr m) =
             let q : x ≡ y = omega arith in
-            subst (λ (k : ℕ). printIn Z k ≡ print (it .seed) (bytesAt T out it k)) q (p .print ∙ h-is)
+            subst (λ (k : ℕ). fingerprintIn Z k ≡ fingerprint (it .seed) (bytesAt T out it k)) q (p .fingerprint ∙ h-is)
 
     new-heads : (f : ℕ) → f < it .heads → Link T out it Z f (x + 1) (linkOf (headIn (it .items) Z f))
     new-heads f l = go (ℕ-discrete f g)
@@ -183,31 +184,31 @@ module _ (T out : List ℕ) (it : Items) where
         go (no d) = subst (λ (w : ℕ). Link T out it Z f (x + 1) (linkOf w)) (sym (p .heads f d))
             (link-more W Z x (p .places) f (linkOf (headIn (it .items) W f)) (λ i c. d (sym c ∙ sym g-is)) (old .heads f l))
 
-    new-marks : (y : ℕ) → y < x + 1 → Is Z y → markOf (headIn (it .items) Z (chainAt T out it y)) (print (it .seed) (bytesAt T out it y) % 8) ≡ 1
+    new-marks : (y : ℕ) → y < x + 1 → Is Z y → markOf (headIn (it .items) Z (chainAt T out it y)) (fingerprint (it .seed) (bytesAt T out it y) % 8) ≡ 1
     new-marks y l i = go (lt-or-ge y x)
       where
         old-mark : (m : y < x) → Dec (chainAt T out it y ≡ g)
-            → markOf (headIn (it .items) Z (chainAt T out it y)) (print (it .seed) (bytesAt T out it y) % 8) ≡ 1
-        old-mark m (yes e) = subst (λ (f : ℕ). markOf (headIn (it .items) Z f) (print (it .seed) (bytesAt T out it y) % 8) ≡ 1) (sym e)
-            (p .head .others (print (it .seed) (bytesAt T out it y) % 8) (mod-lt (print (it .seed) (bytesAt T out it y)) (omega arith))
-            (subst (λ (f : ℕ). markOf (headIn (it .items) W f) (print (it .seed) (bytesAt T out it y) % 8) ≡ 1) e
+            → markOf (headIn (it .items) Z (chainAt T out it y)) (fingerprint (it .seed) (bytesAt T out it y) % 8) ≡ 1
+        old-mark m (yes e) = subst (λ (f : ℕ). markOf (headIn (it .items) Z f) (fingerprint (it .seed) (bytesAt T out it y) % 8) ≡ 1) (sym e)
+            (p .head .others (fingerprint (it .seed) (bytesAt T out it y) % 8) (mod-lt (fingerprint (it .seed) (bytesAt T out it y)) (omega arith))
+            (subst (λ (f : ℕ). markOf (headIn (it .items) W f) (fingerprint (it .seed) (bytesAt T out it y) % 8) ≡ 1) e
             (old .marks y m (was-listed W Z x (p .places) y m i))))
         old-mark m (no d) = rw (p .heads (chainAt T out it y) d) (old .marks y m (was-listed W Z x (p .places) y m i))
 
-        own-mark : markOf (headIn (it .items) Z (chainAt T out it x)) (print (it .seed) (bytesAt T out it x) % 8) ≡ 1
-        own-mark = subst (λ (f : ℕ). markOf (headIn (it .items) Z f) (print (it .seed) (bytesAt T out it x) % 8) ≡ 1) g-is
+        own-mark : markOf (headIn (it .items) Z (chainAt T out it x)) (fingerprint (it .seed) (bytesAt T out it x) % 8) ≡ 1
+        own-mark = subst (λ (f : ℕ). markOf (headIn (it .items) Z f) (fingerprint (it .seed) (bytesAt T out it x) % 8) ≡ 1) g-is
             (subst (λ (k : ℕ). markOf (headIn (it .items) Z g) (k % 8) ≡ 1) h-is (p .head .mark))
 
-        go : (y < x) ⊎ (x ≤ y) → markOf (headIn (it .items) Z (chainAt T out it y)) (print (it .seed) (bytesAt T out it y) % 8) ≡ 1
+        go : (y < x) ⊎ (x ≤ y) → markOf (headIn (it .items) Z (chainAt T out it y)) (fingerprint (it .seed) (bytesAt T out it y) % 8) ≡ 1
         go (inl m) = old-mark m (ℕ-discrete (chainAt T out it y) g)
         go (inr m) =
             let q : x ≡ y = omega arith in
-            subst (λ (k : ℕ). markOf (headIn (it .items) Z (chainAt T out it k)) (print (it .seed) (bytesAt T out it k) % 8) ≡ 1) q own-mark
+            subst (λ (k : ℕ). markOf (headIn (it .items) Z (chainAt T out it k)) (fingerprint (it .seed) (bytesAt T out it k) % 8) ≡ 1) q own-mark
 
     pub is-entered : Entered T out it W Z x
     is-entered = record {
       same-length = p .same-length;
-      chained = record { within = omega (arith, t .item-in); next = new-next; prints = new-prints; heads = new-heads; marks = new-marks };
+      chained = record { within = omega (arith, t .item-in); next = new-next; fingerprints = new-fingerprints; heads = new-heads; marks = new-marks };
       before = p .places;
       own = λ i. p .place ∙ s-is;
       equal-item = λ y q. absurd (let z : ⊥ = omega (arith, x-listed) in z);
@@ -254,7 +255,7 @@ module _ (T out : List ℕ) (it : Items) where
     }
 
     -- The chain of a fingerprint.
-    pub chain-of : (h r : ℕ) → h ≡ print (it .seed) (bytesAt T out it x) → r ≡ bucketOf (it .heads) h → r ≡ chainAt T out it x
+    pub chain-of : (h r : ℕ) → h ≡ fingerprint (it .seed) (bytesAt T out it x) → r ≡ bucketOf (it .heads) h → r ≡ chainAt T out it x
     unfolding chainAt
     chain-of h r eh er = er ∙ ap (bucketOf (it .heads)) eh
 

@@ -8,7 +8,7 @@ use lib.ListN.{length, getD, set, length-set}
 use lib.Seq.{getD-set-same, getD-set-other}
 use Rattle.text.specs.ListLaws.{lt-or-ge}
 use Rattle.scan_hash_table.specs.ChainHeads.{linkOf, Pushed}
-use Rattle.scan_hash_table.specs.Entries.{nextIn, printIn, itemPlaceIn, headIn}
+use Rattle.scan_hash_table.specs.Entries.{nextIn, fingerprintIn, itemPlaceIn, headIn}
 use Rattle.scan_hash_table.specs.ItemsEntered.{Put}
 
 -- Four words, one after the other.
@@ -31,8 +31,8 @@ module _ (W : List ℕ) (items heads x g e h s w : ℕ) (room : 3 * items + head
       let c : 3 * x ≢ 3 * items + g = λ q. omega arith in
       simp (getD-set-other, getD-set-same)
 
-  at-print : getD Z (3 * x + 1) 0 ≡ h
-  at-print =
+  at-fingerprint : getD Z (3 * x + 1) 0 ≡ h
+  at-fingerprint =
       let l : 3 * x + 1 < length (set W (3 * x) e) = simp length-set (omega arith) in
       let b : 3 * x + 1 ≢ 3 * x + 2 = λ q. omega arith in
       let c : 3 * x + 1 ≢ 3 * items + g = λ q. omega arith in
@@ -50,15 +50,15 @@ module _ (W : List ℕ) (items heads x g e h s w : ℕ) (room : 3 * items + head
       simp getD-set-same
 
   pub is-put : e ≡ linkOf (headIn items W g) → Pushed (headIn items W g) h x w → Put items W Z x h s g
-  unfolding nextIn printIn itemPlaceIn headIn
+  unfolding nextIn fingerprintIn itemPlaceIn headIn
   is-put ee p = record {
     same-length = length-is;
     next = at-next ∙ ee;
-    print = at-print;
+    fingerprint = at-fingerprint;
     place = at-place;
     head = rw at-head p;
     nexts = λ y l. other (3 * y) (λ q. omega arith) (λ q. omega arith) (λ q. omega arith) (λ q. omega arith);
-    prints = λ y l. other (3 * y + 1) (λ q. omega arith) (λ q. omega arith) (λ q. omega arith) (λ q. omega arith);
+    fingerprints = λ y l. other (3 * y + 1) (λ q. omega arith) (λ q. omega arith) (λ q. omega arith) (λ q. omega arith);
     places = λ y l. other (3 * y + 2) (λ q. omega arith) (λ q. omega arith) (λ q. omega arith) (λ q. omega arith);
     heads = λ f n. other (3 * items + f) (λ q. omega arith) (λ q. omega arith) (λ q. omega arith) (λ q. n (omega arith));
   }

@@ -37,22 +37,22 @@ module _ (T out : List ℕ) (it : Items) (h : Placed T out it) (x : ℕ) (l : x 
 
 -- The result of `occurs_at`.
 module _ (T out : List ℕ) (it : Items) (x p n : ℕ) where
-  abbrev Says : Bool
-  Says = eqb (lengthAt T out it x) n && sameList (bytesAt T out it x) (substring T p n)
+  abbrev Equal : Bool
+  Equal = eqb (lengthAt T out it x) n && sameList (bytesAt T out it x) (substring T p n)
 
-  pub other-length : (lengthAt T out it x ≡ n → ⊥) → false ≡ Says
+  pub other-length : (lengthAt T out it x ≡ n → ⊥) → false ≡ Equal
   other-length d = rw (ne-eqb (lengthAt T out it x) n d)
 
-  pub same-length : (s : ℕ) (r : Bool) → s ≡ startAt T out it x → lengthAt T out it x ≡ n → r ≡ sameList (substring T s n) (substring T p n) → r ≡ Says
+  pub same-length : (s : ℕ) (r : Bool) → s ≡ startAt T out it x → lengthAt T out it x ≡ n → r ≡ sameList (substring T s n) (substring T p n) → r ≡ Equal
   unfolding bytesAt
   same-length s r es en er = er ∙ rw (es, eq-eqb (lengthAt T out it x) n en, en)
 
-  module _ (r : Bool) (r-is : r ≡ Says) where
-    pub stands-length : r ≡ true → lengthAt T out it x ≡ n
-    stands-length e = eqb-true _ _ (and-left (eqb (lengthAt T out it x) n) (sameList (bytesAt T out it x) (substring T p n)) (sym r-is ∙ e))
+  module _ (r : Bool) (r-is : r ≡ Equal) where
+    pub equal-length : r ≡ true → lengthAt T out it x ≡ n
+    equal-length e = eqb-true _ _ (and-left (eqb (lengthAt T out it x) n) (sameList (bytesAt T out it x) (substring T p n)) (sym r-is ∙ e))
 
-    pub stands-same : r ≡ true → bytesAt T out it x ≡ substring T p n
-    stands-same e = sameList-true _ _ (and-right (eqb (lengthAt T out it x) n) (sameList (bytesAt T out it x) (substring T p n)) (sym r-is ∙ e))
+    pub equal-bytes : r ≡ true → bytesAt T out it x ≡ substring T p n
+    equal-bytes e = sameList-true _ _ (and-right (eqb (lengthAt T out it x) n) (sameList (bytesAt T out it x) (substring T p n)) (sym r-is ∙ e))
 
-    pub stands-not : r ≡ false → lengthAt T out it x ≡ n → bytesAt T out it x ≡ substring T p n → ⊥
-    stands-not e en es = bool-clash r (r-is ∙ rw (eq-eqb (lengthAt T out it x) n en, eq-sameList (bytesAt T out it x) (substring T p n) es)) e
+    pub equal-not : r ≡ false → lengthAt T out it x ≡ n → bytesAt T out it x ≡ substring T p n → ⊥
+    equal-not e en es = bool-clash r (r-is ∙ rw (eq-eqb (lengthAt T out it x) n en, eq-sameList (bytesAt T out it x) (substring T p n) es)) e

@@ -10,7 +10,7 @@ use lib.Dec.{eqb}
 use borrow.Author.Tests.{eqb-false}
 use Rattle.text.specs.ListLaws.{lt-or-ge}
 use Rattle.text.specs.Text.{substring}
-use Rattle.scan_rolling_hash.specs.Prints.{print}
+use Rattle.scan_rolling_hash.specs.Fingerprints.{fingerprint}
 use Rattle.scan_hash_table.specs.declared.Items.{Items}
 use Rattle.scan_hash_table.specs.ChainHeads.{linkOf, markOf, bucketOf}
 use Rattle.scan_hash_table.specs.Entries.{Laid, Listed, Link, Chained, Found, Searched, WindowLookedUp, lengthAt, bytesAt, chainAt, nextIn, headIn}
@@ -63,7 +63,7 @@ module _ (T out : List ℕ) (it : Items) (W : List ℕ) (h p n : ℕ) where
         laid = subst (λ (k : ℕ). Laid T out it k) (sym (t .searched .same-length)) (v .asks .laid);
         chained = new-chained;
         fits = v .asks .fits;
-        print-is = v .asks .print-is;
+        fingerprint-is = v .asks .fingerprint-is;
       }
 
       onward : Link T out it Y (chainAt T out it (e - 1)) (e - 1) (nextIn Y (e - 1))
@@ -98,27 +98,27 @@ module _ (T out : List ℕ) (it : Items) (W : List ℕ) (h p n : ℕ) where
         finished = all-done;
       }
 
-  pub visited-all : (Z : List ℕ) (e : ℕ) → Visiting Z e → e ≡ 0 → ChainTraversed T out it W Z g p n
-  visited-all Z e v z = record { searched = v .searched; here = λ x l i c en f. v .finished x l (omega arith) i c en f }
+  pub traversed-all : (Z : List ℕ) (e : ℕ) → Visiting Z e → e ≡ 0 → ChainTraversed T out it W Z g p n
+  traversed-all Z e v z = record { searched = v .searched; here = λ x l i c en f. v .finished x l (omega arith) i c en f }
 
   -- A window looked up.
   module _ (a : Asks T out it W h p n) where
     -- The mark of its fingerprint is not set: no item has its bytes.
-    pub looked-unmarked : (r : Bool) → r ≡ eqb (markOf (headIn (it .items) W g) (h % 8)) 1 → r ≡ false → WindowLookedUp T out it W W p n
-    looked-unmarked r e f = record {
+    pub looked-up-unmarked : (r : Bool) → r ≡ eqb (markOf (headIn (it .items) W g) (h % 8)) 1 → r ≡ false → WindowLookedUp T out it W W p n
+    looked-up-unmarked r e f = record {
       searched = searched-none T out it W;
       here = λ x l i en. passed-by T out it W x p n en (λ es. eqb-false _ _ (sym e ∙ f) (marked-by x l i es));
     }
       where
         marked-by : (x : ℕ) → x < it .items → Listed T out it W x → bytesAt T out it x ≡ substring T p n → markOf (headIn (it .items) W g) (h % 8) ≡ 1
         marked-by x l i es =
-            let q : print (it .seed) (bytesAt T out it x) ≡ h = ap (print (it .seed)) es ∙ sym (a .print-is) in
-            let c : chainAt T out it x ≡ g = same-chain T out it x p n es ∙ ap (bucketOf (it .heads)) (sym (a .print-is)) in
+            let q : fingerprint (it .seed) (bytesAt T out it x) ≡ h = ap (fingerprint (it .seed)) es ∙ sym (a .fingerprint-is) in
+            let c : chainAt T out it x ≡ g = same-chain T out it x p n es ∙ ap (bucketOf (it .heads)) (sym (a .fingerprint-is)) in
             subst (λ (k : ℕ). markOf (headIn (it .items) W g) (k % 8) ≡ 1) q
-            (subst (λ (k : ℕ). markOf (headIn (it .items) W k) (print (it .seed) (bytesAt T out it x) % 8) ≡ 1) c (a .chained .marks x l i))
+            (subst (λ (k : ℕ). markOf (headIn (it .items) W k) (fingerprint (it .seed) (bytesAt T out it x) % 8) ≡ 1) c (a .chained .marks x l i))
 
-    pub looked-visited : (Z : List ℕ) → ChainTraversed T out it W Z g p n → WindowLookedUp T out it W Z p n
-    looked-visited Z v = record {
+    pub looked-up-chain : (Z : List ℕ) → ChainTraversed T out it W Z g p n → WindowLookedUp T out it W Z p n
+    looked-up-chain Z v = record {
       searched = v .searched;
       here = λ x l i en f. go x l i en f (ℕ-discrete (chainAt T out it x) g);
     }
@@ -127,12 +127,12 @@ module _ (T out : List ℕ) (it : Items) (W : List ℕ) (h p n : ℕ) where
             → Listed T out it W x → lengthAt T out it x ≡ n → Found T out it W x p → Dec (chainAt T out it x ≡ g) → Found T out it Z x (p + 1)
         go x l i en f (yes c) = v .here x l i c en f
         go x l i en f (no d) = v .searched .found x (p + 1) l i
-            (passed-by T out it W x p n en (λ es. d (same-chain T out it x p n es ∙ ap (bucketOf (it .heads)) (sym (a .print-is)))) f)
+            (passed-by T out it W x p n en (λ es. d (same-chain T out it x p n es ∙ ap (bucketOf (it .heads)) (sym (a .fingerprint-is)))) f)
 
     -- The head that the code reads.
     module _ (r : ℕ) (r-is : r ≡ bucketOf (it .heads) h) (r-in : r < it .heads) where
       pub head-link : Link T out it W (bucketOf (it .heads) h) (it .items) (linkOf (headIn (it .items) W r))
       head-link = subst (λ (k : ℕ). Link T out it W k (it .items) (linkOf (headIn (it .items) W r))) r-is (a .chained .heads r r-in)
 
-      pub looked-past : (m : Bool) → m ≡ eqb (markOf (headIn (it .items) W r) (h % 8)) 1 → m ≡ false → WindowLookedUp T out it W W p n
-      looked-past m e f = looked-unmarked m (e ∙ ap (λ (k : ℕ). eqb (markOf (headIn (it .items) W k) (h % 8)) 1) r-is) f
+      pub looked-up-past : (m : Bool) → m ≡ eqb (markOf (headIn (it .items) W r) (h % 8)) 1 → m ≡ false → WindowLookedUp T out it W W p n
+      looked-up-past m e f = looked-up-unmarked m (e ∙ ap (λ (k : ℕ). eqb (markOf (headIn (it .items) W k) (h % 8)) 1) r-is) f

@@ -5,7 +5,7 @@ use Prim.Native.Nat.{ℕ, suc, _+_, _-_, _*_, _/_, _%_, _≤_, _<_, min}
 use lib.ListN.{length, getD}
 use Rattle.text.specs.Text.{substring}
 use Rattle.format.specs.Layout.{wordAt, maxText}
-use Rattle.scan_rolling_hash.specs.Prints.{print}
+use Rattle.scan_rolling_hash.specs.Fingerprints.{fingerprint}
 use Rattle.scan_hash_table.specs.declared.Items.{Items}
 use Rattle.scan_hash_table.specs.declared.ItemBytes.{ItemBytes}
 use Rattle.scan_hash_table.specs.ChainHeads.{maxItems, linkOf, markOf, bucketOf}
@@ -15,8 +15,8 @@ use Rattle.scan_hash_table.specs.ChainHeads.{maxItems, linkOf, markOf, b
 unfoldable pub nextIn : List ℕ → ℕ → ℕ
 nextIn W x = getD W (3 * x) 0
 
-unfoldable pub printIn : List ℕ → ℕ → ℕ
-printIn W x = getD W (3 * x + 1) 0
+unfoldable pub fingerprintIn : List ℕ → ℕ → ℕ
+fingerprintIn W x = getD W (3 * x + 1) 0
 
 unfoldable pub itemPlaceIn : List ℕ → ℕ → ℕ
 itemPlaceIn W x = getD W (3 * x + 2) 0
@@ -36,7 +36,7 @@ module _ (T out : List ℕ) (it : Items) where
   bytesAt x = substring T (startAt x) (lengthAt x)
 
   unfoldable pub chainAt : ℕ → ℕ
-  chainAt x = bucketOf (it .heads) (print (it .seed) (bytesAt x))
+  chainAt x = bucketOf (it .heads) (fingerprint (it .seed) (bytesAt x))
 
   -- The records are in the buffer, and each block starts in the text.
   pub record Placed : Type 0 where
@@ -75,9 +75,9 @@ module _ (T out : List ℕ) (it : Items) where
     pub record Chained (k : ℕ) : Type 0 where
       pub within : k ≤ it .items
       pub next : (x : ℕ) → x < k → Listed x → Link (chainAt x) x (nextIn W x)
-      pub prints : (x : ℕ) → x < k → Listed x → printIn W x ≡ print (it .seed) (bytesAt x)
+      pub fingerprints : (x : ℕ) → x < k → Listed x → fingerprintIn W x ≡ fingerprint (it .seed) (bytesAt x)
       pub heads : (g : ℕ) → g < it .heads → Link g k (linkOf (headIn (it .items) W g))
-      pub marks : (x : ℕ) → x < k → Listed x → markOf (headIn (it .items) W (chainAt x)) (print (it .seed) (bytesAt x) % 8) ≡ 1
+      pub marks : (x : ℕ) → x < k → Listed x → markOf (headIn (it .items) W (chainAt x)) (fingerprint (it .seed) (bytesAt x) % 8) ≡ 1
 
     -- Among the places below q, none before the one found has the bytes of item x.
     pub record Found (x q : ℕ) : Type 0 where
@@ -89,7 +89,7 @@ module _ (T out : List ℕ) (it : Items) where
   pub record Searched (W Z : List ℕ) : Type 0 where
     pub same-length : length Z ≡ length W
     pub nexts : (x : ℕ) → x < it .items → nextIn Z x ≡ nextIn W x
-    pub prints : (x : ℕ) → x < it .items → printIn Z x ≡ printIn W x
+    pub fingerprints : (x : ℕ) → x < it .items → fingerprintIn Z x ≡ fingerprintIn W x
     pub heads : (g : ℕ) → g < it .heads → headIn (it .items) Z g ≡ headIn (it .items) W g
     pub listed : (x : ℕ) → x < it .items → Listed W x → Listed Z x
     pub others : (x : ℕ) → x < it .items → length T ≤ itemPlaceIn W x → itemPlaceIn Z x ≡ itemPlaceIn W x

@@ -4,10 +4,10 @@ use mathlib.Core.Path.{_≡_}
 use Prim.Native.Nat.{ℕ, suc, _+_, _≤_, _<_}
 use lib.ListN.{length, getD}
 use Rattle.text.specs.Text.{substring}
-use Rattle.scan_rolling_hash.specs.Prints.{print}
+use Rattle.scan_rolling_hash.specs.Fingerprints.{fingerprint}
 use Rattle.scan_hash_table.specs.declared.Items.{Items}
 use Rattle.scan_hash_table.specs.ChainHeads.{linkOf, Pushed}
-use Rattle.scan_hash_table.specs.Entries.{Laid, Chained, Listed, startAt, lengthAt, bytesAt, nextIn, printIn, itemPlaceIn, headIn}
+use Rattle.scan_hash_table.specs.Entries.{Laid, Chained, Listed, startAt, lengthAt, bytesAt, nextIn, fingerprintIn, itemPlaceIn, headIn}
 
 -- The n words from a place on are zero.
 pub record Cleared (W Z : List ℕ) (from n : ℕ) : Type 0 where
@@ -18,11 +18,11 @@ pub record Cleared (W Z : List ℕ) (from n : ℕ) : Type 0 where
 pub record Put (items : ℕ) (W Z : List ℕ) (x h s g : ℕ) : Type 0 where
   pub same-length : length Z ≡ length W
   pub next : nextIn Z x ≡ linkOf (headIn items W g)
-  pub print : printIn Z x ≡ h
+  pub fingerprint : fingerprintIn Z x ≡ h
   pub place : itemPlaceIn Z x ≡ s
   pub head : Pushed (headIn items W g) h x (headIn items Z g)
   pub nexts : (y : ℕ) → y < x → nextIn Z y ≡ nextIn W y
-  pub prints : (y : ℕ) → y < x → printIn Z y ≡ printIn W y
+  pub fingerprints : (y : ℕ) → y < x → fingerprintIn Z y ≡ fingerprintIn W y
   pub places : (y : ℕ) → y < x → itemPlaceIn Z y ≡ itemPlaceIn W y
   pub heads : (f : ℕ) → (f ≡ g → ⊥) → headIn items Z f ≡ headIn items W f
 

@@ -4,7 +4,7 @@ use mathlib.Core.Path.{_≡_}
 use Prim.Native.Nat.{ℕ, _+_, _≤_, _<_}
 use lib.ListN.{length}
 use Rattle.text.specs.Text.{substring}
-use Rattle.scan_rolling_hash.specs.Prints.{print}
+use Rattle.scan_rolling_hash.specs.Fingerprints.{fingerprint}
 use Rattle.scan_hash_table.specs.declared.Items.{Items}
 use Rattle.scan_hash_table.specs.Entries.{Laid, Chained, Listed, Found, Searched, chainAt, lengthAt}
 
@@ -14,7 +14,7 @@ module _ (T out : List ℕ) (it : Items) where
     pub laid : Laid T out it (length W)
     pub chained : Chained T out it W (it .items)
     pub fits : p + n ≤ length T
-    pub print-is : h ≡ print (it .seed) (substring T p n)
+    pub fingerprint-is : h ≡ fingerprint (it .seed) (substring T p n)
 
   -- The window of n bytes at p was compared with item x.
   pub record ItemCompared (W Z : List ℕ) (x p n : ℕ) : Type 0 where

@@ -7,7 +7,7 @@ use text::TextPlace;
 ghost use mathlib.Core.Path.{_≡_};
 ghost use Prim.Native.Nat.{_+_, _*_, _≤_, _<_};
 ghost use lib.ListN.{length};
-ghost use Rattle.scan_rolling_hash.specs.Prints.{print};
+ghost use Rattle.scan_rolling_hash.specs.Fingerprints.{fingerprint};
 ghost use Rattle.scan_hash_table.specs.ChainHeads.{maxItems};
 ghost use Rattle.scan_hash_table.specs.Entries.{bytesAt};
 ghost use Rattle.scan_hash_table.specs.ItemsEntered.{Cleared, Put, Turn, EqualItem, Entered, Skipped};
@@ -26,14 +26,15 @@ pub fn clear(words: &mut [u32], from: usize, n: usize)
 
 // One more than an item below x with the same bytes, by the chain of their fingerprint; 0 if none is found.
 fn equal_item(words: &[u32], text: &[u8], out: &[u8], it: Items, x: u32, own: Probe) -> u32
-    requires { ⌜ Turn (now text) (now out) it (now words) x × (own .start .0 + own .length ≤ length (now text)) × (own .print < 2147483647) ⌝ }
+    requires { ⌜ Turn (now text) (now out) it (now words) x × (own .start .0 + own .length ≤ length (now text)) × (own .fingerprint < 2147483647) ⌝ }
     ensures { λ r. ⌜ EqualItem (now (text .entry)) (now (out .entry)) it (now (words .entry)) x (own .start .0) (own .length) r ⌝ }
 {
-    let mut e = words[3 * it.items as usize + chain_head::bucket(own.print, it.heads) as usize]
+    let mut e = words[3 * it.items as usize
+        + chain_head::bucket(own.fingerprint, it.heads) as usize]
         / 256;
     while e != 0 {
         let at = 3 * (e - 1) as usize;
-        if words[at + 1] == own.print {
+        if words[at + 1] == own.fingerprint {
             if item::occurs_at(text, out, it, e - 1, own.start, own.length) {
                 return e;
             }
@@ -59,14 +60,14 @@ fn put(words: &mut [u32], it: Items, x: u32, h: u32, start: TextPlace, g: u32)
 
 // Enters item x with fingerprint h: into its chain, or as equal to an item that is there.
 pub fn enter(words: &mut [u32], text: &[u8], out: &[u8], it: Items, x: u32, h: u32)
-    requires { ⌜ Turn (now text) (now out) it (now words) x × (h ≡ print (it .seed) (bytesAt (now text) (now out) it x)) ⌝ }
+    requires { ⌜ Turn (now text) (now out) it (now words) x × (h ≡ fingerprint (it .seed) (bytesAt (now text) (now out) it x)) ⌝ }
     ensures { λ _. ⌜ Entered (now (text .entry)) (now (out .entry)) it (now (words .entry)) (now (words .exit)) x ⌝ }
 {
     let own = item::bytes_of(text, out, it, x);
     let start = own.start;
     let length = own.length;
     let probe = Probe {
-        print: h,
+        fingerprint: h,
         start,
         length,
     };

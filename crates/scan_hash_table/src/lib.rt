@@ -29,7 +29,7 @@ pub struct ItemBytes {
 
 // A probe into the table: the fingerprint of bytes of the text, where they start, and how many they are.
 pub struct Probe {
-    pub print: u32,
+    pub fingerprint: u32,
     pub start: TextPlace,
     pub length: u32,
 }

@@ -10,12 +10,12 @@ ghost use Rattle.scan_hash_table.specs.LookedUp.{Asks, ItemCompared, Cha
 
 // The window at item x of its chain.
 fn compare_item(words: &mut [u32], text: &[u8], out: &[u8], it: Items, x: u32, w: Probe)
-    requires { ⌜ Asks (now text) (now out) it (now words) (w .print) (w .start .0) (w .length)
+    requires { ⌜ Asks (now text) (now out) it (now words) (w .fingerprint) (w .start .0) (w .length)
         × (x < it .items) × Listed (now text) (now out) it (now words) x ⌝ }
     ensures { λ _. ⌜ ItemCompared (now (text .entry)) (now (out .entry)) it (now (words .entry)) (now (words .exit)) x (w .start .0) (w .length) ⌝ }
 {
     let at = 3 * x as usize;
-    if words[at + 1] != w.print {
+    if words[at + 1] != w.fingerprint {
         return;
     }
     if words[at + 2] <= w.start.0 {
@@ -28,10 +28,10 @@ fn compare_item(words: &mut [u32], text: &[u8], out: &[u8], it: Items, x: u32, w
 
 // At every item of the chain from a link.
 fn traverse_chain(words: &mut [u32], text: &[u8], out: &[u8], it: Items, w: Probe, link: u32)
-    requires { ⌜ Asks (now text) (now out) it (now words) (w .print) (w .start .0) (w .length)
-        × Link (now text) (now out) it (now words) (bucketOf (it .heads) (w .print)) (it .items) link ⌝ }
+    requires { ⌜ Asks (now text) (now out) it (now words) (w .fingerprint) (w .start .0) (w .length)
+        × Link (now text) (now out) it (now words) (bucketOf (it .heads) (w .fingerprint)) (it .items) link ⌝ }
     ensures { λ _. ⌜ ChainTraversed (now (text .entry))
-        (now (out .entry)) it (now (words .entry)) (now (words .exit)) (bucketOf (it .heads) (w .print)) (w .start .0) (w .length) ⌝ }
+        (now (out .entry)) it (now (words .entry)) (now (words .exit)) (bucketOf (it .heads) (w .fingerprint)) (w .start .0) (w .length) ⌝ }
 {
     let mut e = link;
     while e != 0 {
@@ -43,11 +43,11 @@ fn traverse_chain(words: &mut [u32], text: &[u8], out: &[u8], it: Items, w: Prob
 
 // Looks up a window.
 pub fn look_up(words: &mut [u32], text: &[u8], out: &[u8], it: Items, w: Probe)
-    requires { ⌜ Asks (now text) (now out) it (now words) (w .print) (w .start .0) (w .length) ⌝ }
+    requires { ⌜ Asks (now text) (now out) it (now words) (w .fingerprint) (w .start .0) (w .length) ⌝ }
     ensures { λ _. ⌜ WindowLookedUp (now (text .entry)) (now (out .entry)) it (now (words .entry)) (now (words .exit)) (w .start .0) (w .length) ⌝ }
 {
-    let first = words[3 * it.items as usize + chain_head::bucket(w.print, it.heads) as usize];
-    if chain_head::marked(first, w.print) {
+    let first = words[3 * it.items as usize + chain_head::bucket(w.fingerprint, it.heads) as usize];
+    if chain_head::marked(first, w.fingerprint) {
         traverse_chain(words, text, out, it, w, first / 256);
     }
 }

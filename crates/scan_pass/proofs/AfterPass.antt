@@ -78,8 +78,8 @@ module _ (T out : List ℕ) (it : Items) (W Z : List ℕ) (e : EnteredItems T ou
         go (inl i) = out-listed i
         go (inr u) = out-equal u
 
-    pub twins-low : length T ≤ itemPlaceIn Z x → itemPlaceIn Z x < length T + x
-    twins-low l = go (lt-or-ge (itemPlaceIn W x) (length T))
+    pub equal-before-low : length T ≤ itemPlaceIn Z x → itemPlaceIn Z x < length T + x
+    equal-before-low l = go (lt-or-ge (itemPlaceIn W x) (length T))
       where
         go : (itemPlaceIn W x < length T) ⊎ (length T ≤ itemPlaceIn W x) → itemPlaceIn Z x < length T + x
         go (inl i) = absurd (let z : ⊥ = omega (arith, place-listed i) in z)
@@ -103,7 +103,7 @@ module _ (T out : List ℕ) (it : Items) (W Z : List ℕ) (e : EnteredItems T ou
   answered = record {
     laid = subst (λ (k : ℕ). Laid T out it k) (sym (q .searched .same-length)) (e .laid);
     place = place-out;
-    twins = twins-low;
+    equal-before = equal-before-low;
     first = is-first;
     again = is-again;
   }

@@ -7,21 +7,21 @@ use native.Mathlib.Omega.{arith}
 use lib.ListN.{length}
 use Rattle.text.specs.ListLaws.{lt-or-ge}
 use Rattle.text.specs.Text.{substring}
-use Rattle.scan_rolling_hash.specs.Prints.{baseOf, print}
-use Rattle.scan_rolling_hash.proofs.PrintLaws.{print-join}
+use Rattle.scan_rolling_hash.specs.Fingerprints.{baseOf, fingerprint}
+use Rattle.scan_rolling_hash.proofs.WindowFingerprintLaws.{fingerprint-join}
 use Rattle.scan_hash_table.specs.declared.Items.{Items}
 use Rattle.scan_hash_table.specs.Entries.{Laid, Placed, Listed, startAt, lengthAt, bytesAt, itemPlaceIn}
 use Rattle.scan_hash_table.specs.ItemsEntered.{Cleared, Turn, Entered, Skipped}
 use Rattle.scan_hash_table.proofs.EntryLaws.{chained-none}
 use Rattle.scan_pass.specs.declared.Lengths.{Lengths}
-use Rattle.scan_pass.specs.Passes.{Present, Ordered, WindowMoved, EnteredItems, PairAnswer, LengthNoted, notedBy}
+use Rattle.scan_pass.specs.Passes.{Present, Ordered, ItemProcessed, EnteredItems, PairAnswer, LengthsOf, withLength}
 use Rattle.scan_pass.proofs.ItemLengths.{start-same, length-low, length-high, full-block, pair-parts, pair-there}
-use Rattle.scan_pass.proofs.LengthsNoted.{noted-none, noted-first, noted-past, noted-more}
+use Rattle.scan_pass.proofs.LengthsOfLaws.{lengths-none, lengths-first, lengths-past, lengths-more}
 
 module _ (T out : List ℕ) (it : Items) where
   module _ (W Z : List ℕ) (x : ℕ) where
-    pub took-entered : Present T out it x → Entered T out it W Z x → WindowMoved T out it W Z x
-    took-entered p e = record {
+    pub processed-entered : Present T out it x → Entered T out it W Z x → ItemProcessed T out it W Z x
+    processed-entered p e = record {
       same-length = e .same-length;
       chained = e .chained;
       before = e .before;
@@ -30,8 +30,8 @@ module _ (T out : List ℕ) (it : Items) where
       equal-item = λ p. e .equal-item;
     }
 
-    pub took-skipped : (Present T out it x → ⊥) → Skipped T out it W Z x → WindowMoved T out it W Z x
-    took-skipped un e = record {
+    pub processed-skipped : (Present T out it x → ⊥) → Skipped T out it W Z x → ItemProcessed T out it W Z x
+    processed-skipped un e = record {
       same-length = e .same-length;
       chained = e .chained;
       before = e .before;
@@ -40,8 +40,8 @@ module _ (T out : List ℕ) (it : Items) where
       equal-item = λ p. absurd (un p);
     }
 
-  pub entrants-none : (W Z : List ℕ) → Laid T out it (length W) → Cleared W Z (3 * it .items) (it .heads) → EnteredItems T out it Z 0
-  entrants-none W Z h c = record {
+  pub items-entered-none : (W Z : List ℕ) → Laid T out it (length W) → Cleared W Z (3 * it .items) (it .heads) → EnteredItems T out it Z 0
+  items-entered-none W Z h c = record {
     laid = subst (λ (k : ℕ). Laid T out it k) (sym (c .same-length)) h;
     chained = chained-none T out it W Z c;
     there = λ x l i. absurd (let z : ⊥ = omega arith in z);
@@ -53,7 +53,7 @@ module _ (T out : List ℕ) (it : Items) where
     pub turn : k < it .items → Turn T out it W k
     turn l = record { laid = e .laid; item-in = l; chained = e .chained }
 
-    module _ (Z : List ℕ) (t : WindowMoved T out it W Z k) where
+    module _ (Z : List ℕ) (t : ItemProcessed T out it W Z k) where
       was : (x : ℕ) → x < k → Listed T out it Z x → Listed T out it W x
       was x l i = omega (arith, t .before x l, i)
 
@@ -84,8 +84,8 @@ module _ (T out : List ℕ) (it : Items) where
           subst (λ (z : ℕ). (y < z) × Listed T out it Z y × (lengthAt T out it y ≡ lengthAt T out it z) × (bytesAt T out it y ≡ bytesAt T out it z)) (sym r)
           (t .equal-item (subst (Present T out it) r p) y (subst (λ (z : ℕ). itemPlaceIn Z z ≡ length T + y) r q))
 
-      pub entrants-more : EnteredItems T out it Z (k + 1)
-      entrants-more = record {
+      pub items-entered-more : EnteredItems T out it Z (k + 1)
+      items-entered-more = record {
         laid = subst (λ (n : ℕ). Laid T out it n) (sym (t .same-length)) (e .laid);
         chained = t .chained;
         there = λ x l i. new-there x (same x l) i;
@@ -93,8 +93,8 @@ module _ (T out : List ℕ) (it : Items) where
         equal-item = λ x l p y q. new-equal x (same x l) p y q;
       }
 
-  pub entrants-two : (Z : List ℕ) (k : ℕ) → EnteredItems T out it Z (k + 1 + 1) → EnteredItems T out it Z (k + 2)
-  entrants-two Z k e = subst (EnteredItems T out it Z) (let q : k + 1 + 1 ≡ k + 2 = omega arith in q) e
+  pub items-entered-two : (Z : List ℕ) (k : ℕ) → EnteredItems T out it Z (k + 1 + 1) → EnteredItems T out it Z (k + 2)
+  items-entered-two Z k e = subst (EnteredItems T out it Z) (let q : k + 1 + 1 ≡ k + 2 = omega arith in q) e
 
   -- Block i and the pair after it.
   module _ (o : Ordered T out it) (h : Placed T out it) (i : ℕ) (more : 2 * i + 2 < it .items) where
@@ -125,67 +125,68 @@ module _ (T out : List ℕ) (it : Items) where
       pub pair-low : it .size ≤ lengthAt T out it x
       pair-low = omega (arith, parts)
 
-      pub pair-print : (g next top n r : ℕ) → g ≡ print (it .seed) (bytesAt T out it (2 * i)) → next ≡ print (it .seed) (bytesAt T out it (2 * i + 2))
-          → n ≡ lengthAt T out it x
-          → top ≡ baseOf (it .seed) ^ (n - it .size) % 2147483647 → r ≡ (g * top + next) % 2147483647 → r ≡ print (it .seed) (bytesAt T out it x)
+      pub pair-fingerprint : (g next top n r : ℕ) → g ≡ fingerprint (it .seed) (bytesAt T out it (2 * i))
+          → next ≡ fingerprint (it .seed) (bytesAt T out it (2 * i + 2)) → n ≡ lengthAt T out it x
+          → top ≡ baseOf (it .seed) ^ (n - it .size) % 2147483647 → r ≡ (g * top + next) % 2147483647 → r ≡ fingerprint (it .seed) (bytesAt T out it x)
       unfolding bytesAt
-      pair-print g next top n r eg en el et er =
+      pair-fingerprint g next top n r eg en el et er =
           let second : n - it .size ≡ lengthAt T out it (x + 1) = omega (arith, parts) in
           let q : 2 * i + 2 ≡ x + 1 = omega arith in
-          er ∙ print-join (it .seed) T (startAt T out it x) (it .size) (lengthAt T out it (x + 1)) g top next
+          er ∙ fingerprint-join (it .seed) T (startAt T out it x) (it .size) (lengthAt T out it (x + 1)) g top next
           (omega (arith, p, length-high T out it o h (x + 1) (omega arith)))
-          (eg ∙ ap (λ (k : ℕ). print (it .seed) (substring T k (lengthAt T out it (2 * i)))) start-first
-          ∙ ap (λ (k : ℕ). print (it .seed) (substring T (startAt T out it x) k)) block-full)
+          (eg ∙ ap (λ (k : ℕ). fingerprint (it .seed) (substring T k (lengthAt T out it (2 * i)))) start-first
+          ∙ ap (λ (k : ℕ). fingerprint (it .seed) (substring T (startAt T out it x) k)) block-full)
           (et ∙ ap (λ (k : ℕ). baseOf (it .seed) ^ k % 2147483647) second)
-          (en ∙ ap (λ (k : ℕ). print (it .seed) (substring T (startAt T out it k) (lengthAt T out it k))) q
-          ∙ ap (λ (k : ℕ). print (it .seed) (substring T k (lengthAt T out it (x + 1)))) p)
-          ∙ ap (λ (k : ℕ). print (it .seed) (substring T (startAt T out it x) k)) (sym parts)
+          (en ∙ ap (λ (k : ℕ). fingerprint (it .seed) (substring T (startAt T out it k) (lengthAt T out it k))) q
+          ∙ ap (λ (k : ℕ). fingerprint (it .seed) (substring T k (lengthAt T out it (x + 1)))) p)
+          ∙ ap (λ (k : ℕ). fingerprint (it .seed) (substring T (startAt T out it x) k)) (sym parts)
 
     -- The lengths of both.
-    pub noted-both : (l : Lengths) (n : ℕ)
-        → LengthNoted T out it (2 * i) l → PairAnswer T out it x n → LengthNoted T out it (2 * (i + 1)) (notedBy (notedBy l (it .size) (it .size)) (it .size) n)
-    noted-both l n s w = go (lt-or-ge n 1)
+    pub lengths-both : (l : Lengths) (n : ℕ)
+        → LengthsOf T out it (2 * i) l → PairAnswer T out it x n
+        → LengthsOf T out it (2 * (i + 1)) (withLength (withLength l (it .size) (it .size)) (it .size) n)
+    lengths-both l n s w = go (lt-or-ge n 1)
       where
-        one : LengthNoted T out it (2 * i + 1) (notedBy l (it .size) (it .size))
-        one = noted-more T out it o h (2 * i) l s (omega arith) (inl (omega arith)) (it .size) block-full
+        one : LengthsOf T out it (2 * i + 1) (withLength l (it .size) (it .size))
+        one = lengths-more T out it o h (2 * i) l s (omega arith) (inl (omega arith)) (it .size) block-full
 
         to : 2 * i + 1 + 1 ≡ 2 * (i + 1)
         to = omega arith
 
-        go : (n < 1) ⊎ (1 ≤ n) → LengthNoted T out it (2 * (i + 1)) (notedBy (notedBy l (it .size) (it .size)) (it .size) n)
-        go (inl a) = subst (λ (k : ℕ). LengthNoted T out it k (notedBy (notedBy l (it .size) (it .size)) (it .size) n)) to
-            (subst (LengthNoted T out it (2 * i + 1 + 1)) (noted-none (notedBy l (it .size) (it .size)) (it .size) n (omega arith))
-            (noted-past T out it o h x (notedBy l (it .size) (it .size)) one (λ p. omega (arith, w .present p, length-low T out it o h x (omega arith)))))
-        go (inr a) = subst (λ (k : ℕ). LengthNoted T out it k (notedBy (notedBy l (it .size) (it .size)) (it .size) n)) to
+        go : (n < 1) ⊎ (1 ≤ n) → LengthsOf T out it (2 * (i + 1)) (withLength (withLength l (it .size) (it .size)) (it .size) n)
+        go (inl a) = subst (λ (k : ℕ). LengthsOf T out it k (withLength (withLength l (it .size) (it .size)) (it .size) n)) to
+            (subst (LengthsOf T out it (2 * i + 1 + 1)) (lengths-none (withLength l (it .size) (it .size)) (it .size) n (omega arith))
+            (lengths-past T out it o h x (withLength l (it .size) (it .size)) one (λ p. omega (arith, w .present p, length-low T out it o h x (omega arith)))))
+        go (inr a) = subst (λ (k : ℕ). LengthsOf T out it k (withLength (withLength l (it .size) (it .size)) (it .size) n)) to
             (there (lt-or-ge (startAt T out it (x + 1)) (startAt T out it x + it .size)) (lt-or-ge (startAt T out it x + it .size) (startAt T out it (x + 1))))
           where
             there : (startAt T out it (x + 1) < startAt T out it x + it .size) ⊎ (startAt T out it x + it .size ≤ startAt T out it (x + 1))
                 → (startAt T out it x + it .size < startAt T out it (x + 1)) ⊎ (startAt T out it (x + 1) ≤ startAt T out it x + it .size)
-                → LengthNoted T out it (2 * i + 1 + 1) (notedBy (notedBy l (it .size) (it .size)) (it .size) n)
+                → LengthsOf T out it (2 * i + 1 + 1) (withLength (withLength l (it .size) (it .size)) (it .size) n)
             there (inl b) c = absurd (let z : n ≡ 0 = w .absent (no-pair (startAt T out it x) (startAt T out it (x + 1)) refl refl (λ q. omega arith)) in
                 let y : ⊥ = omega arith in y)
             there (inr b) (inl c) = absurd (let z : n ≡ 0 =
                 w .absent (no-pair (startAt T out it x) (startAt T out it (x + 1)) refl refl (λ q. omega arith)) in let y : ⊥ = omega arith in y)
             there (inr b) (inr c) =
                 let p : Present T out it x = inr (omega arith) in
-                noted-more T out it o h x (notedBy l (it .size) (it .size)) one (omega arith) p n (sym (w .present p))
+                lengths-more T out it o h x (withLength l (it .size) (it .size)) one (omega arith) p n (sym (w .present p))
 
   -- The loop over the blocks, before block i.
   pub record Going (W₀ W : List ℕ) (l : Lengths) (h i : ℕ) : Type 0 where
     pub same-length : length W ≡ length W₀
-    pub entrants : EnteredItems T out it W (2 * i)
-    pub noted : LengthNoted T out it (2 * i) l
-    pub print-is : h ≡ print (it .seed) (bytesAt T out it (2 * i))
+    pub items-entered : EnteredItems T out it W (2 * i)
+    pub lengths-are : LengthsOf T out it (2 * i) l
+    pub fingerprint-is : h ≡ fingerprint (it .seed) (bytesAt T out it (2 * i))
     pub within : 2 * i < it .items
 
   module _ (o : Ordered T out it) (placed : Placed T out it) where
-    pub going-first : (V₀ W : List ℕ) (h : ℕ) → Laid T out it (length V₀) → Cleared V₀ W (3 * it .items) (it .heads) → h ≡ print (it .seed) (bytesAt T out it 0)
-        → Going W W (record { block = 0; pair = 0; last = 0; ending = 0 }) h 0
+    pub going-first : (V₀ W : List ℕ) (h : ℕ) → Laid T out it (length V₀) → Cleared V₀ W (3 * it .items) (it .heads)
+        → h ≡ fingerprint (it .seed) (bytesAt T out it 0) → Going W W (record { block = 0; pair = 0; last = 0; ending = 0 }) h 0
     going-first V₀ W h laid c e = record {
       same-length = refl;
-      entrants = entrants-none V₀ W laid c;
-      noted = noted-first T out it o placed;
-      print-is = e;
+      items-entered = items-entered-none V₀ W laid c;
+      lengths-are = lengths-first T out it o placed;
+      fingerprint-is = e;
       within = omega (arith, o .items-are);
     }
 
@@ -195,19 +196,20 @@ module _ (T out : List ℕ) (it : Items) where
         pub next-block : 2 * i + 2 < it .items
         next-block = omega (arith, o .items-are)
 
-        pub next-print : (next : ℕ) → next ≡ print (it .seed) (bytesAt T out it (2 * (i + 1))) → next ≡ print (it .seed) (bytesAt T out it (2 * i + 2))
-        next-print next e = e ∙ ap (λ (k : ℕ). print (it .seed) (bytesAt T out it k)) (let q : 2 * (i + 1) ≡ 2 * i + 2 = omega arith in q)
+        pub next-fingerprint : (next : ℕ) → next ≡ fingerprint (it .seed) (bytesAt T out it (2 * (i + 1)))
+            → next ≡ fingerprint (it .seed) (bytesAt T out it (2 * i + 2))
+        next-fingerprint next e = e ∙ ap (λ (k : ℕ). fingerprint (it .seed) (bytesAt T out it k)) (let q : 2 * (i + 1) ≡ 2 * i + 2 = omega arith in q)
 
         pub going-next : (Z : List ℕ) (n next : ℕ) (l₁ l₂ : Lengths) → length Z ≡ length W → EnteredItems T out it Z (2 * i + 2)
             → PairAnswer T out it (2 * i + 1) n
-            → next ≡ print (it .seed) (bytesAt T out it (2 * (i + 1))) → l₁ ≡ notedBy l (it .size) (it .size) → l₂ ≡ notedBy l₁ (it .size) n
+            → next ≡ fingerprint (it .seed) (bytesAt T out it (2 * (i + 1))) → l₁ ≡ withLength l (it .size) (it .size) → l₂ ≡ withLength l₁ (it .size) n
             → Going W₀ Z l₂ next (i + 1)
         going-next Z n next l₁ l₂ same e w en e₁ e₂ = record {
           same-length = same ∙ g .same-length;
-          entrants = subst (EnteredItems T out it Z) (let q : 2 * i + 2 ≡ 2 * (i + 1) = omega arith in q) e;
-          noted = subst (LengthNoted T out it (2 * (i + 1)))
-              (sym (e₂ ∙ ap (λ (k : Lengths). notedBy k (it .size) n) e₁)) (noted-both o placed i next-block l n (g .noted) w);
-          print-is = en;
+          items-entered = subst (EnteredItems T out it Z) (let q : 2 * i + 2 ≡ 2 * (i + 1) = omega arith in q) e;
+          lengths-are = subst (LengthsOf T out it (2 * (i + 1)))
+              (sym (e₂ ∙ ap (λ (k : Lengths). withLength k (it .size) n) e₁)) (lengths-both o placed i next-block l n (g .lengths-are) w);
+          fingerprint-is = en;
           within = omega (arith, next-block);
         }
 
@@ -217,8 +219,9 @@ module _ (T out : List ℕ) (it : Items) where
         last-is = omega (arith, g .within)
 
         pub all-entered : (Z : List ℕ) → Entered T out it W Z (2 * i) → EnteredItems T out it Z (it .items)
-        all-entered Z e = subst (EnteredItems T out it Z) last-is (entrants-more W (2 * i) (g .entrants) Z (took-entered W Z (2 * i) (inl (omega arith)) e))
+        all-entered Z e =
+            subst (EnteredItems T out it Z) last-is (items-entered-more W (2 * i) (g .items-entered) Z (processed-entered W Z (2 * i) (inl (omega arith)) e))
 
-        pub all-noted : (n : ℕ) (l′ : Lengths) → n ≡ lengthAt T out it (2 * i) → l′ ≡ notedBy l (it .size) n → LengthNoted T out it (it .items) l′
-        all-noted n l′ e q = subst (λ (k : ℕ). LengthNoted T out it k l′) last-is (subst (LengthNoted T out it (2 * i + 1)) (sym q)
-            (noted-more T out it o placed (2 * i) l (g .noted) (g .within) (inl (omega arith)) n (sym e)))
+        pub all-lengths : (n : ℕ) (l′ : Lengths) → n ≡ lengthAt T out it (2 * i) → l′ ≡ withLength l (it .size) n → LengthsOf T out it (it .items) l′
+        all-lengths n l′ e q = subst (λ (k : ℕ). LengthsOf T out it k l′) last-is (subst (LengthsOf T out it (2 * i + 1)) (sym q)
+            (lengths-more T out it o placed (2 * i) l (g .lengths-are) (g .within) (inl (omega arith)) n (sym e)))

@@ -1,5 +1,5 @@
 pub mod ItemLengths
-pub mod LengthsNoted
+pub mod LengthsOfLaws
 pub mod EnterLaws
 pub mod PassLaws
 pub mod AfterPass

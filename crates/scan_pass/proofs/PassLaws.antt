@@ -18,18 +18,18 @@ use Rattle.scan_hash_table.proofs.ItemLaws.{fits}
 use Rattle.scan_hash_table.proofs.Chains.{searched-none, searched-then, chained-after, passed-after}
 use Rattle.scan_pass.specs.declared.Lengths.{Lengths}
 use Rattle.scan_pass.specs.declared.pass.CutWindows.{CutWindows}
-use Rattle.scan_pass.specs.Passes.{Ordered, EnteredItems, Covers, Asked, Stepped, SteppedTwice, CutStanding, Passed}
+use Rattle.scan_pass.specs.Passes.{Ordered, EnteredItems, Covers, Asked, Stepped, SteppedTwice, CutWindowsAt, Passed}
 use Rattle.scan_pass.proofs.ItemLengths.{length-low}
 
 -- A window that fits at no further place.
-pub stands-still : (seed : ℕ) (T : List ℕ) (n p : ℕ) (w : Window) → WindowAt seed T n p w → w .places ≤ p + 1 → WindowAt seed T n (p + 1) w
-stands-still seed T n p w s l = record {
+pub window-stays : (seed : ℕ) (T : List ℕ) (n p : ℕ) (w : Window) → WindowAt seed T n p w → w .places ≤ p + 1 → WindowAt seed T n (p + 1) w
+window-stays seed T n p w s l = record {
   len-is = s .len-is;
   fits = s .fits;
   few = s .few;
   places-is = s .places-is;
   leaving-is = s .leaving-is;
-  print-is = λ m. absurd (let z : ⊥ = omega arith in z);
+  fingerprint-is = λ m. absurd (let z : ⊥ = omega arith in z);
   looked-is = omega (arith, s .looked-is);
 }
 
@@ -40,14 +40,14 @@ pub of-same : (seed : ℕ) (T : List ℕ) (n p : ℕ) (w r : Window) → WindowA
 of-same seed T n p w r s t = subst (λ (k : ℕ). WindowAt seed T k (p + 1) r) (s .len-is) t
 
 -- A window that was moved fits at as many places.
-pub still-stands : (seed : ℕ) (T : List ℕ) (n p : ℕ) (w r : Window)
+pub window-moves : (seed : ℕ) (T : List ℕ) (n p : ℕ) (w r : Window)
     → WindowAt seed T n p w → WindowAt seed T n (p + 1) r → p + 1 < w .places → p + 1 < r .places
-still-stands seed T n p w r s t l = omega (arith, s .places-is, t .places-is)
+window-moves seed T n p w r s t l = omega (arith, s .places-is, t .places-is)
 
 -- Both windows of a cut length, opened or moved together.
 module _ (seed : ℕ) (T : List ℕ) (n k p : ℕ) (cut : CutWindows) where
   pub cut-opened : (last ending : Window) → cut .last ≡ last → cut .ending ≡ ending → last .places ≤ cut .places → ending .places ≤ cut .places
-      → WindowAt seed T n p last → WindowAt seed T k p ending → CutStanding seed T n k p cut
+      → WindowAt seed T n p last → WindowAt seed T k p ending → CutWindowsAt seed T n k p cut
   cut-opened last ending el ee ml me sl se = record {
     last-is = subst (λ (w : Window). WindowAt seed T n p w) (sym el) sl;
     ending-is = subst (λ (w : Window). WindowAt seed T k p w) (sym ee) se;
@@ -55,8 +55,8 @@ module _ (seed : ℕ) (T : List ℕ) (n k p : ℕ) (cut : CutWindows) where
     ending-few = subst (λ (w : Window). w .places ≤ cut .places) (sym ee) me;
   }
 
-  module _ (s : CutStanding seed T n k p cut) where
-    pub cut-of-len : CutStanding seed T (cut .last .len) (cut .ending .len) p cut
+  module _ (s : CutWindowsAt seed T n k p cut) where
+    pub cut-of-len : CutWindowsAt seed T (cut .last .len) (cut .ending .len) p cut
     cut-of-len = record {
       last-is = of-len seed T n p (cut .last) (s .last-is);
       ending-is = of-len seed T k p (cut .ending) (s .ending-is);
@@ -64,7 +64,7 @@ module _ (seed : ℕ) (T : List ℕ) (n k p : ℕ) (cut : CutWindows) where
       ending-few = s .ending-few;
     }
 
-    pub cut-of-same : (r : CutWindows) → CutStanding seed T (cut .last .len) (cut .ending .len) (p + 1) r → CutStanding seed T n k (p + 1) r
+    pub cut-of-same : (r : CutWindows) → CutWindowsAt seed T (cut .last .len) (cut .ending .len) (p + 1) r → CutWindowsAt seed T n k (p + 1) r
     cut-of-same r t = record {
       last-is = of-same seed T n p (cut .last) (r .last) (s .last-is) (t .last-is);
       ending-is = of-same seed T k p (cut .ending) (r .ending) (s .ending-is) (t .ending-is);
@@ -72,16 +72,16 @@ module _ (seed : ℕ) (T : List ℕ) (n k p : ℕ) (cut : CutWindows) where
       ending-few = t .ending-few;
     }
 
-    pub cut-still : cut .places ≤ p + 1 → CutStanding seed T n k (p + 1) cut
+    pub cut-still : cut .places ≤ p + 1 → CutWindowsAt seed T n k (p + 1) cut
     cut-still l = record {
-      last-is = stands-still seed T n p (cut .last) (s .last-is) (omega (arith, s .last-few));
-      ending-is = stands-still seed T k p (cut .ending) (s .ending-is) (omega (arith, s .ending-few));
+      last-is = window-stays seed T n p (cut .last) (s .last-is) (omega (arith, s .last-few));
+      ending-is = window-stays seed T k p (cut .ending) (s .ending-is) (omega (arith, s .ending-few));
       last-few = s .last-few;
       ending-few = s .ending-few;
     }
 
     pub cut-moved : (last ending : Window) → WindowAt seed T n (p + 1) last → WindowAt seed T k (p + 1) ending
-        → CutStanding seed T n k (p + 1) (record { last = last; ending = ending; places = cut .places })
+        → CutWindowsAt seed T n k (p + 1) (record { last = last; ending = ending; places = cut .places })
     cut-moved last ending sl se = record {
       last-is = sl;
       ending-is = se;
@@ -142,19 +142,19 @@ module _ (T out : List ℕ) (it : Items) where
       )) f;
     }
 
-    pub window-asks : p < w .places → Asks T out it W (w .print) p n
+    pub window-asks : p < w .places → Asks T out it W (w .fingerprint) p n
     window-asks l = record {
       laid = a .laid;
       chained = a .chained;
       fits = within (it .seed) T n p w s l;
-      print-is = s .print-is l;
+      fingerprint-is = s .fingerprint-is l;
     }
 
   pub stepped-twice : (W Y Z : List ℕ) (n k p : ℕ) → Stepped T out it W Y n p → Stepped T out it Y Z k p → SteppedTwice T out it W Z n k p
   stepped-twice W Y Z n k p one other = record { between = Y; one = one; other = other }
 
   -- Neither window of a cut length fits at p.
-  pub twice-past : (W : List ℕ) (n k p : ℕ) (cut : CutWindows) → Asked T out it W → CutStanding (it .seed) T n k p cut → cut .places ≤ p
+  pub twice-past : (W : List ℕ) (n k p : ℕ) (cut : CutWindows) → Asked T out it W → CutWindowsAt (it .seed) T n k p cut → cut .places ≤ p
       → SteppedTwice T out it W W n k p
   twice-past W n k p cut a s l = stepped-twice W W W n k p (stepped-past W n p (cut .last) a (s .last-is) (omega (arith, s .last-few)))
       (stepped-past W k p (cut .ending) a (s .ending-is) (omega (arith, s .ending-few)))

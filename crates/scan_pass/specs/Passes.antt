@@ -14,8 +14,8 @@ use Rattle.scan_pass.specs.declared.Lengths.{Lengths}
 use Rattle.scan_pass.specs.declared.pass.CutWindows.{CutWindows}
 
 -- The lengths with n added: n replaces the one of its kind, by comparison with the length of a full block; 0 adds nothing.
-abbrev pub notedBy : Lengths → ℕ → ℕ → Lengths
-notedBy l size n =
+abbrev pub withLength : Lengths → ℕ → ℕ → Lengths
+withLength l size n =
     cond (eqb n 0) l
     (cond (ltb n size) (record { block = l .block; pair = l .pair; last = n; ending = l .ending })
     (cond (eqb n size) (record { block = n; pair = l .pair; last = l .last; ending = l .ending })
@@ -30,7 +30,7 @@ pub record Among (size : ℕ) (l : Lengths) (n : ℕ) : Type 0 where
   pub cut : size < n → n < size + size → l .ending ≡ n
 
 -- Both windows of cut lengths at place p, and an upper bound of their numbers of places.
-pub record CutStanding (seed : ℕ) (T : List ℕ) (n k p : ℕ) (cut : CutWindows) : Type 0 where
+pub record CutWindowsAt (seed : ℕ) (T : List ℕ) (n k p : ℕ) (cut : CutWindows) : Type 0 where
   pub last-is : WindowAt seed T n p (cut .last)
   pub ending-is : WindowAt seed T k p (cut .ending)
   pub last-few : cut .last .places ≤ cut .places
@@ -53,7 +53,7 @@ module _ (T out : List ℕ) (it : Items) where
     pub rising : (x y : ℕ) → x / 2 < y / 2 → y < it .items → startAt T out it x + it .size ≤ startAt T out it y
 
   -- Item x was processed: entered, or left out if it does not exist.
-  pub record WindowMoved (W Z : List ℕ) (x : ℕ) : Type 0 where
+  pub record ItemProcessed (W Z : List ℕ) (x : ℕ) : Type 0 where
     pub same-length : length Z ≡ length W
     pub chained : Chained T out it Z (x + 1)
     pub before : (y : ℕ) → y < x → itemPlaceIn Z y ≡ itemPlaceIn W y
@@ -81,7 +81,7 @@ module _ (T out : List ℕ) (it : Items) where
   Has k n = (x : ℕ) × (x < k) × Present x × (lengthAt T out it x ≡ n)
 
   -- The lengths of the existing items below k, and no others.
-  pub record LengthNoted (k : ℕ) (l : Lengths) : Type 0 where
+  pub record LengthsOf (k : ℕ) (l : Lengths) : Type 0 where
     pub covers : (x : ℕ) → x < k → Present x → Among (it .size) l (lengthAt T out it x)
     pub block-is : (l .block ≡ 0) ⊎ ((l .block ≡ it .size) × Has k (l .block))
     pub pair-is : (l .pair ≡ 0) ⊎ ((l .pair ≡ it .size + it .size) × Has k (l .pair))
@@ -123,7 +123,7 @@ module _ (T out : List ℕ) (it : Items) where
   pub record Answered (W : List ℕ) : Type 0 where
     pub laid : Laid T out it (length W)
     pub place : (x : ℕ) → x < it .items → Present x → placeOut (length T) W x ≡ leftmost T (startAt T out it x) (lengthAt T out it x)
-    pub twins : (x : ℕ) → x < it .items → Present x → length T ≤ itemPlaceIn W x → itemPlaceIn W x < length T + x
+    pub equal-before : (x : ℕ) → x < it .items → Present x → length T ≤ itemPlaceIn W x → itemPlaceIn W x < length T + x
     pub first : (x : ℕ) → x < it .items
         → Present x → itemPlaceIn W x ≡ startAt T out it x → leftmost T (startAt T out it x) (lengthAt T out it x) ≡ startAt T out it x
     pub again : (x : ℕ) → x < it .items
@@ -132,6 +132,6 @@ module _ (T out : List ℕ) (it : Items) where
   -- The number of windows looked up: for each length, one at every place.
   pub record Counted (r : ℕ) : Type 0 where
     pub lengths : Lengths
-    pub noted : LengthNoted (it .items) lengths
+    pub lengths-are : LengthsOf (it .items) lengths
     pub sum : r ≡ placesOf (length T)
         (lengths .block) + placesOf (length T) (lengths .pair) + placesOf (length T) (lengths .last) + placesOf (length T) (lengths .ending)

@@ -8,13 +8,13 @@ ghost use mathlib.Core.Path.{_≡_};
 ghost use Prim.Native.Nat.{_+_, _-_, _*_, _%_, _^_, _≤_, _<_};
 ghost use lib.ListN.{length};
 ghost use Rattle.format.specs.Layout.{maxText};
-ghost use Rattle.scan_rolling_hash.specs.Prints.{baseOf, print};
+ghost use Rattle.scan_rolling_hash.specs.Fingerprints.{baseOf, fingerprint};
 ghost use Rattle.scan_hash_table.specs.Entries.{Laid, Placed, bytesAt};
 ghost use Rattle.scan_hash_table.specs.ItemsEntered.{Turn};
-ghost use Rattle.scan_pass.specs.Passes.{Ordered, EnteredItems, LengthNoted, notedBy, WindowMoved, PairAnswer};
+ghost use Rattle.scan_pass.specs.Passes.{Ordered, EnteredItems, LengthsOf, withLength, ItemProcessed, PairAnswer};
 
 // The fingerprints of a block and of the next one, and the power of the base for a full block.
-struct Prints {
+struct PairFingerprints {
     own: u32,
     next: u32,
     top: u32,
@@ -23,7 +23,7 @@ struct Prints {
 // The lengths with n added; 0 adds nothing.
 fn with_length(l: Lengths, size: u32, n: u32) -> Lengths
     requires { ⌜ size ≤ maxText ⌝ }
-    ensures { λ r. ⌜ r ≡ notedBy l size n ⌝ }
+    ensures { λ r. ⌜ r ≡ withLength l size n ⌝ }
 {
     if n == 0 {
         return l;
@@ -61,9 +61,9 @@ fn with_length(l: Lengths, size: u32, n: u32) -> Lengths
 }
 
 // The fingerprint of block i.
-fn block_print(text: &[u8], out: &[u8], it: Items, i: BlockNumber) -> u32
+fn block_fingerprint(text: &[u8], out: &[u8], it: Items, i: BlockNumber) -> u32
     requires { ⌜ Placed (now text) (now out) it × (2 * i .0 < it .items) ⌝ }
-    ensures { λ r. ⌜ r ≡ print (it .seed) (bytesAt (now (text .entry)) (now (out .entry)) it (2 * i .0)) ⌝ }
+    ensures { λ r. ⌜ r ≡ fingerprint (it .seed) (bytesAt (now (text .entry)) (now (out .entry)) it (2 * i .0)) ⌝ }
 {
     let own = item::bytes_of(text, out, it, 2 * i.0);
     scan_rolling_hash::fingerprint_at(it.seed, text, own.start, own.length)
@@ -87,13 +87,13 @@ fn enter_pair(
     out: &[u8],
     it: Items,
     i: BlockNumber,
-    both: Prints,
+    both: PairFingerprints,
 ) -> u32
     requires { ⌜ Turn (now text) (now out) it (now words) (2 * i .0 + 1) × Ordered (now text) (now out) it × (2 * i .0 + 2 < it .items) ⌝ }
-    requires { ⌜ (both .own ≡ print (it .seed) (bytesAt (now text) (now out) it (2 * i .0)))
-        × (both .next ≡ print (it .seed) (bytesAt (now text) (now out) it (2 * i .0 + 2)))
+    requires { ⌜ (both .own ≡ fingerprint (it .seed) (bytesAt (now text) (now out) it (2 * i .0)))
+        × (both .next ≡ fingerprint (it .seed) (bytesAt (now text) (now out) it (2 * i .0 + 2)))
         × (both .top ≡ baseOf (it .seed) ^ it .size % 2147483647) ⌝ }
-    ensures { λ _. ⌜ WindowMoved (now (text .entry)) (now (out .entry)) it (now (words .entry)) (now (words .exit)) (2 * i .0 + 1) ⌝ }
+    ensures { λ _. ⌜ ItemProcessed (now (text .entry)) (now (out .entry)) it (now (words .entry)) (now (words .exit)) (2 * i .0 + 1) ⌝ }
     ensures { λ r. ⌜ PairAnswer (now (text .entry)) (now (out .entry)) it (2 * i .0 + 1) r ⌝ }
 {
     let x = 2 * i.0 + 1;
@@ -122,11 +122,11 @@ fn enter_both(
     out: &[u8],
     it: Items,
     i: BlockNumber,
-    both: Prints,
+    both: PairFingerprints,
 ) -> u32
     requires { ⌜ EnteredItems (now text) (now out) it (now words) (2 * i .0) × Ordered (now text) (now out) it × (2 * i .0 + 2 < it .items) ⌝ }
-    requires { ⌜ (both .own ≡ print (it .seed) (bytesAt (now text) (now out) it (2 * i .0)))
-        × (both .next ≡ print (it .seed) (bytesAt (now text) (now out) it (2 * i .0 + 2)))
+    requires { ⌜ (both .own ≡ fingerprint (it .seed) (bytesAt (now text) (now out) it (2 * i .0)))
+        × (both .next ≡ fingerprint (it .seed) (bytesAt (now text) (now out) it (2 * i .0 + 2)))
         × (both .top ≡ baseOf (it .seed) ^ it .size % 2147483647) ⌝ }
     ensures { λ _. ⌜ EnteredItems (now (text .entry)) (now (out .entry)) it (now (words .exit)) (2 * i .0 + 2) ⌝ }
     ensures { λ r. ⌜ PairAnswer (now (text .entry)) (now (out .entry)) it (2 * i .0 + 1) r ⌝ }
@@ -139,7 +139,7 @@ fn enter_both(
 pub fn enter_level(words: &mut [u32], text: &[u8], out: &[u8], it: Items) -> Lengths
     requires { ⌜ Laid (now text) (now out) it (length (now words)) × Ordered (now text) (now out) it ⌝ }
     ensures { λ r. ⌜ EnteredItems (now (text .entry)) (now (out .entry)) it (now (words .exit)) (it .items)
-        × LengthNoted (now (text .entry)) (now (out .entry)) it (it .items) r ⌝ }
+        × LengthsOf (now (text .entry)) (now (out .entry)) it (it .items) r ⌝ }
 {
     entry::clear(words, 3 * it.items as usize, it.heads as usize);
     let top = scan_rolling_hash::power(it.seed, it.size);
@@ -149,11 +149,11 @@ pub fn enter_level(words: &mut [u32], text: &[u8], out: &[u8], it: Items) -> Len
         last: 0,
         ending: 0,
     };
-    let mut h = block_print(text, out, it, BlockNumber(0));
+    let mut h = block_fingerprint(text, out, it, BlockNumber(0));
     let mut i: u32 = 0;
     while 2 * i + 1 < it.items {
-        let next = block_print(text, out, it, BlockNumber(i + 1));
-        let both = Prints { own: h, next, top };
+        let next = block_fingerprint(text, out, it, BlockNumber(i + 1));
+        let both = PairFingerprints { own: h, next, top };
         let n = enter_both(words, text, out, it, BlockNumber(i), both);
         l = with_length(with_length(l, it.size, it.size), it.size, n);
         h = next;

@@ -10,7 +10,7 @@ ghost use mathlib.Core.Path.{_≡_};
 ghost use Prim.Native.Nat.{_+_, _≤_, _<_};
 ghost use lib.ListN.{length, getD};
 ghost use Rattle.scan_rolling_hash.specs.Windows.{WindowAt, placesOf};
-ghost use Rattle.scan_pass.specs.Passes.{Asked, Stepped, SteppedTwice, CutStanding, Covers, Passed, EnteredItems, Ordered};
+ghost use Rattle.scan_pass.specs.Passes.{Asked, Stepped, SteppedTwice, CutWindowsAt, Covers, Passed, EnteredItems, Ordered};
 
 // The windows of the two lengths that the end of the text cuts: of a short block, and of a pair with a short block.
 pub struct CutWindows {
@@ -30,7 +30,7 @@ fn first(words: &mut [u32], text: &[u8], out: &[u8], it: Items, n: u32) -> Windo
         return w;
     }
     let start = Probe {
-        print: w.print,
+        fingerprint: w.fingerprint,
         start: TextPlace(0),
         length: n,
     };
@@ -51,7 +51,7 @@ fn step(words: &mut [u32], text: &[u8], out: &[u8], it: Items, w: Window, here: 
     }
     let next = scan_rolling_hash::next_window(it.seed, text, w, here);
     let probe = Probe {
-        print: next.print,
+        fingerprint: next.fingerprint,
         start: TextPlace(p),
         length: w.len,
     };
@@ -87,9 +87,9 @@ fn step_cut(
     here: ByteAt,
 ) -> CutWindows
     requires { ⌜ Asked (now text) (now out) it (now words)
-        × CutStanding (it .seed) (now text) (cut .last .len) (cut .ending .len) (here .place .0) cut
+        × CutWindowsAt (it .seed) (now text) (cut .last .len) (cut .ending .len) (here .place .0) cut
         × (here .place .0 < length (now text)) × (here .byte ≡ getD (now text) (here .place .0) 0) ⌝ }
-    ensures { λ r. ⌜ CutStanding (it .seed) (now (text .entry)) (cut .last .len) (cut .ending .len) (here .place .0 + 1) r ⌝ }
+    ensures { λ r. ⌜ CutWindowsAt (it .seed) (now (text .entry)) (cut .last .len) (cut .ending .len) (here .place .0 + 1) r ⌝ }
     ensures { λ _. ⌜ SteppedTwice (now (text .entry)) (now (out .entry)) it (now (words .entry)) (now (words .exit))
         (cut .last .len) (cut .ending .len) (here .place .0 + 1) ⌝ }
 {

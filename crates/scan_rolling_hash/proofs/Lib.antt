@@ -1,2 +1,2 @@
-pub mod PrintLaws
+pub mod WindowFingerprintLaws
 pub mod WindowLaws

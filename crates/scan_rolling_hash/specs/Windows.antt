@@ -7,7 +7,7 @@ use lib.ListN.{length}
 use lib.Dec.{eqb}
 use Rattle.text.specs.Text.{substring}
 use Rattle.scan_rolling_hash.specs.declared.Window.{Window}
-use Rattle.scan_rolling_hash.specs.Prints.{baseOf, print}
+use Rattle.scan_rolling_hash.specs.Fingerprints.{baseOf, fingerprint}
 
 -- The number of places where a window of n bytes fits in a text of some length; a window of 0 bytes fits nowhere.
 abbrev pub placesOf : ℕ → ℕ → ℕ
@@ -20,5 +20,5 @@ pub record WindowAt (seed : ℕ) (T : List ℕ) (n p : ℕ) (w : Window) : Type 
   pub few : length T < 4294967295
   pub places-is : w .places ≡ placesOf (length T) n
   pub leaving-is : 0 < w .places → w .leaving ≡ 2147483647 - baseOf seed ^ (n + 1) % 2147483647
-  pub print-is : p < w .places → w .print ≡ print seed (substring T p n)
+  pub fingerprint-is : p < w .places → w .fingerprint ≡ fingerprint seed (substring T p n)
   pub looked-is : w .looked ≡ min (p + 1) (w .places)

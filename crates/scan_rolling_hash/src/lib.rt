@@ -5,7 +5,7 @@ ghost use mathlib.Core.Path.{_≡_};
 ghost use Prim.Native.Nat.{_+_, _-_, _*_, _/_, _%_, _^_, _≤_, _<_};
 ghost use lib.ListN.{length, take, getD};
 ghost use Rattle.text.specs.Text.{substring};
-ghost use Rattle.scan_rolling_hash.specs.Prints.{baseOf, print};
+ghost use Rattle.scan_rolling_hash.specs.Fingerprints.{baseOf, fingerprint};
 ghost use Rattle.scan_rolling_hash.specs.Windows.{WindowAt};
 
 // A window of the text: its length, the factor of the byte that leaves it, the fingerprint of its bytes, the number of places of the text where it fits, and
@@ -13,7 +13,7 @@ ghost use Rattle.scan_rolling_hash.specs.Windows.{WindowAt};
 pub struct Window {
     pub len: u32,
     pub leaving: u32,
-    pub print: u32,
+    pub fingerprint: u32,
     pub places: u32,
     pub looked: u32,
 }
@@ -132,8 +132,8 @@ fn first_powers(seed: u32) -> Powers
 
 // The fingerprint of bytes; h has the remainder of the fingerprint of those before a place.
 fn finish(seed: u32, h: u64, s: &[u8], from: usize) -> u32
-    requires { ⌜ (h < 8589934592) × (from ≤ length (now s)) × (h % 2147483647 ≡ print seed (take from (now s))) ⌝ }
-    ensures { λ r. ⌜ r ≡ print seed (now (s .entry)) ⌝ }
+    requires { ⌜ (h < 8589934592) × (from ≤ length (now s)) × (h % 2147483647 ≡ fingerprint seed (take from (now s))) ⌝ }
+    ensures { λ r. ⌜ r ≡ fingerprint seed (now (s .entry)) ⌝ }
 {
     let base = base_of(seed);
     let mut g = h;
@@ -146,7 +146,7 @@ fn finish(seed: u32, h: u64, s: &[u8], from: usize) -> u32
 }
 
 pub fn fingerprint(seed: u32, s: &[u8]) -> u32
-    ensures { λ r. ⌜ r ≡ print seed (now (s .entry)) ⌝ }
+    ensures { λ r. ⌜ r ≡ fingerprint seed (now (s .entry)) ⌝ }
 {
     let by = first_powers(seed);
     let mut h: u64 = 0;
@@ -161,7 +161,7 @@ pub fn fingerprint(seed: u32, s: &[u8]) -> u32
 // The fingerprint of the n bytes at p.
 pub fn fingerprint_at(seed: u32, text: &[u8], p: TextPlace, n: u32) -> u32
     requires { ⌜ p .0 + n ≤ length (now text) ⌝ }
-    ensures { λ r. ⌜ r ≡ print seed (substring (now (text .entry)) (p .0) n) ⌝ }
+    ensures { λ r. ⌜ r ≡ fingerprint seed (substring (now (text .entry)) (p .0) n) ⌝ }
 {
     let from = p.0 as usize;
     let end = from + n as usize;
@@ -177,7 +177,7 @@ pub fn first_window(seed: u32, text: &[u8], n: u32) -> Window
         return Window {
             len: 0,
             leaving: 0,
-            print: 0,
+            fingerprint: 0,
             places: 0,
             looked: 0,
         };
@@ -185,7 +185,7 @@ pub fn first_window(seed: u32, text: &[u8], n: u32) -> Window
     Window {
         len: n,
         leaving: 2147483647 - power(seed, n + 1),
-        print: fingerprint_at(seed, text, TextPlace(0), n),
+        fingerprint: fingerprint_at(seed, text, TextPlace(0), n),
         places: text.len() as u32 - n + 1,
         looked: 1,
     }
@@ -201,7 +201,7 @@ pub fn next_window(seed: u32, text: &[u8], w: Window, here: ByteAt) -> Window
     Window {
         len: w.len,
         leaving: w.leaving,
-        print: roll(base_of(seed), w.print, w.leaving, here.byte, enters),
+        fingerprint: roll(base_of(seed), w.fingerprint, w.leaving, here.byte, enters),
         places: w.places,
         looked: w.looked + 1,
     }

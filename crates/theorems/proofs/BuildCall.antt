@@ -22,13 +22,13 @@ use Rattle.format.specs.AnswerLaws.{asks-pass}
 use Rattle.theory_built.specs.BlockSizes.{Taken}
 use Rattle.theory_built.specs.BuiltHeader.{built-header}
 use Rattle.theory_built.specs.ReadBack.{read-settings}
-use Rattle.theory_accepted.specs.AcceptedTrees.{Represents, accepted-stands, one-text}
+use Rattle.theory_accepted.specs.AcceptedTrees.{Represents, accepted-represents, one-text}
 use Rattle.build_by_search.specs.BuildAnswer.{buildReply}
 use Rattle.build_by_search.specs.declared.BuildAnswer.{BuildAnswer}
-use Rattle.build_by_search.specs.declared.BuildAnswer.the-variants as built
+use Rattle.build_by_search.specs.declared.BuildAnswer.the-variants as build
 use Rattle.build_size_bound.specs.SizeBound.{sizeBoundFor}
 use Rattle.build_size_bound.specs.SizeBoundHolds.{never-full}
-use Rattle.build_size_bound.specs.declared.SizeBoundAnswer.the-variants as room
+use Rattle.build_size_bound.specs.declared.SizeBoundAnswer.the-variants as size-bound
 use Rattle.tree.proofs.Theorems as tree
 use Rattle.theorems.specs.Promises.{Answers, CompleteBuilder, Refuses}
 use Rattle.theorems.specs.PublicFunctions.{build-function}
@@ -65,7 +65,7 @@ module _ (κs : Lfts 3) (text : Borrowed) (leaf arity levels : ℕ) (counted out
   S = given leaf arity levels (now counted)
 
   -- The result is the tree's size, which fits. The buffer begins with the tree, and the bytes after it are unchanged.
-  pub build-answer : (size : ℕ) → Build κs text leaf arity levels counted out after (built.Size size)
+  pub build-answer : (size : ℕ) → Build κs text leaf arity levels counted out after (build.Size size)
       → (size ≤ length (now out)) × (take size (now after) ≡ treeOf S (now text)) × (drop size (now after) ≡ drop size (now out))
   unfolding buildSize buildBuffer
   build-answer size a =
@@ -79,7 +79,7 @@ module _ (κs : Lfts 3) (text : Borrowed) (leaf arity levels : ℕ) (counted out
         rw (left, call-size-is) (drop-append-seam tree past),
       )
 
-  module _ (n : ℕ) (a : Build κs text leaf arity levels counted out after (built.Refused n)) where
+  module _ (n : ℕ) (a : Build κs text leaf arity levels counted out after (build.Refused n)) where
     -- A tree has bytes, so that a size of 0 is a refusal's.
     build-not-zero : (m : ℕ) → buildRefusal S (now text) (now out) ≡ m → 1 ≤ m
     unfolding buildSize
@@ -110,7 +110,7 @@ module _ (κs : Lfts 3) (text : Borrowed) (leaf arity levels : ℕ) (counted out
     build-unchanged e = build-left ∙ rw (ne-eqb n 4 e)
 
     -- With room of the size that enough answers, and counted bytes that question 3 takes, build is not refused.
-    pub build-has-room : (m : ℕ) → SizeBound (length (now text)) leaf arity levels (length (now counted)) (room.Bytes m) → m ≤ length (now out)
+    pub build-has-room : (m : ℕ) → SizeBound (length (now text)) leaf arity levels (length (now counted)) (size-bound.Bytes m) → m ≤ length (now out)
         → countedOk (now counted) ≡ true → ⊥
     unfolding sizesOk
     build-has-room m e space rising =
@@ -121,13 +121,13 @@ module _ (κs : Lfts 3) (text : Borrowed) (leaf arity levels : ℕ) (counted out
         omega (arith, build-low, a .0, never-full S (now text) taken (now out) enough)
 
   -- It wrote a tree of this size at the start of the buffer.
-  module _ (size : ℕ) (a : Build κs text leaf arity levels counted out after (built.Size size)) where
+  module _ (size : ℕ) (a : Build κs text leaf arity levels counted out after (build.Size size)) where
     abbrev T : List ℕ
     T = now text
 
     -- Demand 2, first part: the bytes written are those of the block tree of the text.
     pub build-writes : take size (now after) ≡ treeOf S T
-    build-writes = tree.build-writes κs text leaf arity levels counted out after (built.Size size) a refl
+    build-writes = tree.build-writes κs text leaf arity levels counted out after (build.Size size) a refl
 
     -- The tree, as an argument of another call.
     module _ (t : Borrowed) (is : now t ≡ take size (now after)) where
@@ -136,10 +136,10 @@ module _ (κs : Lfts 3) (text : Borrowed) (leaf arity levels : ℕ) (counted out
       passed = sym (a .0)
 
       accepted : checkResult (now t) ≡ 0
-      accepted = rw is (tree.build-accepted κs text leaf arity levels counted out after (built.Size size) a refl)
+      accepted = rw is (tree.build-accepted κs text leaf arity levels counted out after (build.Size size) a refl)
 
       text-is : textOf (now t) ≡ T
-      text-is = rw is (tree.build-text κs text leaf arity levels counted out after (built.Size size) a refl)
+      text-is = rw is (tree.build-text κs text leaf arity levels counted out after (build.Size size) a refl)
 
       -- The header has the given settings.
       settings-are : at.settings (now t) ≡ S
@@ -160,13 +160,13 @@ module _ (κs : Lfts 3) (text : Borrowed) (leaf arity levels : ℕ) (counted out
       -- The written tree represents the input, and no other text fits.
       pub build-one-text : Represents (now t) T × ((U : List ℕ) → fits U (now t) ≡ true → U ≡ T)
       build-one-text =
-          let s = accepted-stands (now t) accepted in
+          let s = accepted-represents (now t) accepted in
           (rw text-is at s, λ U f. one-text (now t) (s .header-result) (s .linked) U f ∙ text-is)
 
 -- Which answer has a size.
-call-size-is : (r : BuildAnswer) (n : ℕ) → 1 ≤ n → replied (buildReply r) .value ≡ n → r ≡ built.Size n
-call-size-is (built.Size m) n low e = ap built.Size e
-call-size-is (built.Refused q) n low e = absurd (let z : ⊥ = omega arith in z)
+call-size-is : (r : BuildAnswer) (n : ℕ) → 1 ≤ n → replied (buildReply r) .value ≡ n → r ≡ build.Size n
+call-size-is (build.Size m) n low e = ap build.Size e
+call-size-is (build.Refused q) n low e = absurd (let z : ⊥ = omega arith in z)
 
 -- Demand 3, last part: build is not refused if questions 1 to 3 pass and the buffer has at least the tree's size.
 pub build-accepts-exact-buffer : CompleteBuilder

@@ -21,9 +21,9 @@ use Rattle.format.specs.Blocks.{treeOf}
 use Rattle.theory_accepted.specs.AcceptedTrees.{Represents}
 use Rattle.build_by_search.specs.BuildAnswer.{buildReply}
 use Rattle.build_by_search.specs.declared.BuildAnswer.{BuildAnswer}
-use Rattle.build_by_search.specs.declared.BuildAnswer.the-variants as built
+use Rattle.build_by_search.specs.declared.BuildAnswer.the-variants as build
 use Rattle.build_by_scan.specs.declared.BuildScannedAnswer.{BuildScannedAnswer}
-use Rattle.build_by_scan.specs.declared.BuildScannedAnswer.the-variants as scanned
+use Rattle.build_by_scan.specs.declared.BuildScannedAnswer.the-variants as build-scanned
 use Rattle.build_by_scan.specs.ScanAnswers.{windowsOf, tableWords, buildScannedRefusal, scanWindows, buildScannedBuffer, buildScannedReply}
 use Rattle.build_by_scan.proofs.ScannedOutcomes.{number-same, size-same, leaves-same}
 pub use Rattle.theorems.specs.CallContracts.{BuildScanned}
@@ -56,21 +56,21 @@ module _ (κs : Lfts 4) (text : Borrowed) (leaf arity levels : ℕ) (counted wor
   abbrev T : List ℕ
   T = now text
 
-  abbrev Says : BuildScannedAnswer → Type 0
-  Says = BuildScanned κs text leaf arity levels counted words table out after
+  abbrev Outcome : BuildScannedAnswer → Type 0
+  Outcome = BuildScanned κs text leaf arity levels counted words table out after
 
   abbrev κ : Lfts 3
   κ = (κs .0, (κs .1 .0, (κs .1 .1 .0, tt)))
 
   -- Unless it answers 18, build may answer the same, and leave the buffer so.
-  as-size : (size windows : ℕ) → Says (scanned.Size size windows) → Build κ text leaf arity levels counted out after (built.Size size)
+  as-size : (size windows : ℕ) → Outcome (build-scanned.Size size windows) → Build κ text leaf arity levels counted out after (build.Size size)
   as-size size windows a =
       let long : buildScannedRefusal S T (now out) (length (now words)) ≡ 18 → ⊥ = λ e. omega (arith, a .0) in (
         a .0 ∙ number-same S T (now out) (length (now words)) long,
         (a .1 .0 ∙ size-same S T (now out) (length (now words)) long, a .1 .1 .1 .0 ∙ leaves-same S T (now out) (length (now words)) long),
       )
 
-  as-refused : (n : ℕ) → (n ≡ 18 → ⊥) → Says (scanned.Refused n) → Build κ text leaf arity levels counted out after (built.Refused n)
+  as-refused : (n : ℕ) → (n ≡ 18 → ⊥) → Outcome (build-scanned.Refused n) → Build κ text leaf arity levels counted out after (build.Refused n)
   as-refused n other a =
       let long : buildScannedRefusal S T (now out) (length (now words)) ≡ 18 → ⊥ = λ e. other (a .0 ∙ e) in (
         a .0 ∙ number-same S T (now out) (length (now words)) long,
@@ -78,7 +78,7 @@ module _ (κs : Lfts 4) (text : Borrowed) (leaf arity levels : ℕ) (counted wor
       )
 
   -- Demand 1: a refusal is 1, 2, 3, 18 or 4.
-  module _ (n : ℕ) (a : Says (scanned.Refused n)) where
+  module _ (n : ℕ) (a : Outcome (build-scanned.Refused n)) where
     pub scanned-numbers : OneOf (1 ∷ 2 ∷ 3 ∷ 18 ∷ 4 ∷ []) n
     scanned-numbers = go (ℕ-discrete n 18)
       where
@@ -116,15 +116,15 @@ module _ (κs : Lfts 4) (text : Borrowed) (leaf arity levels : ℕ) (counted wor
 
   -- Refused with 18, if questions 1 to 3 pass and whatever the buffer: a table of fewer than 4 × (n / m rounded up) words. A table of the size that
   -- scan_words returns is never refused with 18.
-  module _ (r : BuildScannedAnswer) (a : Says r) where
+  module _ (r : BuildScannedAnswer) (a : Outcome r) where
     pub scanned-short : lengthOk (length T) ≡ true → sizesOk S ≡ true → countedOk (now counted) ≡ true → length (now words) < tableWords (length T) leaf
-        → r ≡ scanned.Refused 18
+        → r ≡ build-scanned.Refused 18
     unfolding buildScannedRefusal
     scanned-short one two three short = go r (a .0 ∙ rw (one, two, three, lt-leb (tableWords (length T) leaf) (length (now words)) short))
       where
-        go : (r : BuildScannedAnswer) → replied (buildScannedReply r) .number ≡ 18 → r ≡ scanned.Refused 18
-        go (scanned.Size n w) e = absurd (let z : ⊥ = omega arith in z)
-        go (scanned.Refused n) e = ap scanned.Refused e
+        go : (r : BuildScannedAnswer) → replied (buildScannedReply r) .number ≡ 18 → r ≡ build-scanned.Refused 18
+        go (build-scanned.Size n w) e = absurd (let z : ⊥ = omega arith in z)
+        go (build-scanned.Refused n) e = ap build-scanned.Refused e
 
     pub scanned-has-table : (w : ℕ) → ScanWords (length T) leaf w → w ≤ length (now words) → replied (buildScannedReply r) .number ≡ 18 → ⊥
     unfolding buildScannedRefusal
@@ -156,7 +156,7 @@ module _ (κs : Lfts 4) (text : Borrowed) (leaf arity levels : ℕ) (counted wor
         )
 
   -- It wrote a tree of this size at the start of the buffer.
-  module _ (size windows : ℕ) (a : Says (scanned.Size size windows)) where
+  module _ (size windows : ℕ) (a : Outcome (build-scanned.Size size windows)) where
     -- An answer is the tree's size, which fits; the buffer begins with the tree, and the bytes past it are unchanged.
     pub scanned-answer : (size ≤ length (now out)) × (take size (now after) ≡ treeOf S T) × (drop size (now after) ≡ drop size (now out))
     scanned-answer = build-answer κ text leaf arity levels counted out after size (as-size size windows a)

@@ -15,9 +15,9 @@ use Rattle.text.specs.declared.TextPlace.{TextPlace}
 use Rattle.format.specs.Layout as at
 use Rattle.format.specs.FittingText.{fits}
 use Rattle.query_rank.specs.declared.CountAnswer.{CountAnswer}
-use Rattle.query_rank.specs.declared.CountAnswer.the-variants as counted
+use Rattle.query_rank.specs.declared.CountAnswer.the-variants as count
 use Rattle.query_select.specs.declared.FindAnswer.{FindAnswer}
-use Rattle.query_select.specs.declared.FindAnswer.the-variants as found
+use Rattle.query_select.specs.declared.FindAnswer.the-variants as find
 use Rattle.theorems.specs.Promises.{CountedIn}
 use Rattle.theorems.proofs.CheckCall.{Check, check-answers, check-refuses}
 use Rattle.theorems.proofs.CountCall.{Count}
@@ -38,8 +38,8 @@ pub record CountsNear (d i : ℕ) (r s : CountAnswer) : Type 0 where
   pub other : ℕ
   pub one-entered : ℕ
   pub other-entered : ℕ
-  pub one-is : r ≡ counted.Times one one-entered
-  pub other-is : s ≡ counted.Times other other-entered
+  pub one-is : r ≡ count.Times one one-entered
+  pub other-is : s ≡ count.Times other other-entered
   -- The counts are at most 1 apart.
   pub above : one ≤ other + 1
   pub below : other ≤ one + 1
@@ -48,11 +48,11 @@ pub record CountsNear (d i : ℕ) (r s : CountAnswer) : Type 0 where
 
 -- An answer of find: this place, with any figure.
 abbrev pub FoundAt : FindAnswer → TextPlace → Type 0
-FoundAt r p = (e : ℕ) × (r ≡ found.At p e)
+FoundAt r p = (e : ℕ) × (r ≡ find.At p e)
 
 module _ (T : List ℕ) (byte : ℕ) (t : Borrowed) (k : CountingTree T byte t) where
   -- What count answers for any number of bytes of the text.
-  count-of : (κs : Lfts 1) (i : ℕ) (r : CountAnswer) → Count κs t byte i r → i ≤ length T → (e : ℕ) × (r ≡ counted.Times (countIn byte (take i T)) e)
+  count-of : (κs : Lfts 1) (i : ℕ) (r : CountAnswer) → Count κs t byte i r → i ≤ length T → (e : ℕ) × (r ≡ count.Times (countIn byte (take i T)) e)
   unfolding countIn
   count-of κs zero r c h = (0, check-answers (k .lifetime) t (k .accepted) T (k .fitting) .count .count-none κs byte r c (k .counting))
   count-of κs (suc i) r c h =
@@ -69,7 +69,7 @@ module _ (T : List ℕ) (byte : ℕ) (t : Borrowed) (k : CountingTree T byte t) 
   find-low : (κs : Lfts 1) (j : ℕ) (r : FindAnswer) → Find κs t byte j r → (p : TextPlace) → FoundAt r p → (1 ≤ j) × (j ≤ countIn byte T)
   find-low κs j r c p is = go (lt-or-ge 0 j) (lt-or-ge (countIn byte T) j)
     where
-      clash : (e q : ℕ) → r ≡ found.At p e → r ≡ found.Refused q → (1 ≤ j) × (j ≤ countIn byte T)
+      clash : (e q : ℕ) → r ≡ find.At p e → r ≡ find.Refused q → (1 ≤ j) × (j ≤ countIn byte T)
       clash e q y z = absurd (let x : _≡_ {A = ℕ} 0 1 = cc in omega arith)
 
       none : (1 ≤ j → j ≤ countIn byte T → ⊥) → (1 ≤ j) × (j ≤ countIn byte T)
@@ -92,10 +92,10 @@ place-kept T U d k byte t u kt ku κs κ j r s a b p before is =
     let y = find-of U byte u ku κ j s b (z .0) (w .0) in
     (y .0, same p (placeOf byte j T) (placeOf byte j U) (y .0) s p-is (w .1) (y .1))
   where
-    placed : (p q : TextPlace) (e f : ℕ) → found.At p e ≡ found.At q f → p ≡ q
+    placed : (p q : TextPlace) (e f : ℕ) → find.At p e ≡ find.At q f → p ≡ q
     placed p q e f z = cc
 
-    same : (p : TextPlace) (x y f : ℕ) (s : FindAnswer) → p ≡ record { 0 = x } → y ≡ x → s ≡ found.At (record { 0 = y }) f → s ≡ found.At p f
+    same : (p : TextPlace) (x y f : ℕ) (s : FindAnswer) → p ≡ record { 0 = x } → y ≡ x → s ≡ find.At (record { 0 = y }) f → s ≡ find.At p f
     same p x y f s p-is y-is s-is = rw (p-is, ← y-is) s-is
 
 -- Request 111: T and U differ at place d only; t and u are accepted trees of these texts, and both count the byte.

@@ -22,7 +22,7 @@ use Rattle.format.specs.Answers.{pathLength}
 use Rattle.format.specs.AnswerLaws.{unless-passes}
 use Rattle.theory_counts.specs.Theorems as counts
 use Rattle.query_rank.specs.declared.CountAnswer.{CountAnswer}
-use Rattle.query_rank.specs.declared.CountAnswer.the-variants as counted
+use Rattle.query_rank.specs.declared.CountAnswer.the-variants as count
 use Rattle.query_rank.specs.Counts.{countReply, uncountedRefusal}
 use Rattle.theorems.specs.Promises.{CountedIn, CountAnswers, CountRefuses, LengthOfPath}
 pub use Rattle.theorems.specs.CallContracts.{Count}
@@ -83,7 +83,7 @@ count-summed t byte i h =
         inr (some-path r q minus plus (leb minus plus) e k)
 
 -- On any tree, blocks entered is the length of the path of place i - 1, and for i = 0 the count is 0 with no blocks entered.
-pub count-answer : (κs : Lfts 1) (t : Borrowed) (byte i c e : ℕ) → Count κs t byte i (counted.Times c e)
+pub count-answer : (κs : Lfts 1) (t : Borrowed) (byte i c e : ℕ) → Count κs t byte i (count.Times c e)
     → ((i ≡ 0) × (c ≡ 0) × (e ≡ 0)) ⊎ LengthOfPath (now t) (at.settings (now t) .levels) (i - 1) e
 count-answer κs t byte i c e a = go (count-summed (now t) byte i (sym (ap (λ (s : Answer). s .number) (a .answers))))
   where
@@ -121,7 +121,7 @@ module _ (t : List ℕ) where
       (none-or (eqb i 0) (countOf t byte (numberOfByte t byte) (pathOf t (i - 1))) _ (countOf-one byte (numberOfByte t byte) (pathOf t (i - 1))) refl))
 
 -- A refusal is 5, 6, 7, 10, 11 or 14.
-pub count-numbers : (κs : Lfts 1) (t : Borrowed) (byte i n : ℕ) → Count κs t byte i (counted.Refused n) → OneOf (5 ∷ 6 ∷ 7 ∷ 10 ∷ 11 ∷ 14 ∷ []) n
+pub count-numbers : (κs : Lfts 1) (t : Borrowed) (byte i n : ℕ) → Count κs t byte i (count.Refused n) → OneOf (5 ∷ 6 ∷ 7 ∷ 10 ∷ 11 ∷ 14 ∷ []) n
 count-numbers κs t byte i n a =
     let e : n ≡ countAnswer (now t) byte i .number = ap (λ (s : Answer). s .number) (a .answers) in
     not-zero (5 ∷ 6 ∷ 7 ∷ 10 ∷ 11 ∷ 14 ∷ []) n (a .numbered) (rw e (count-one (now t) byte i))
@@ -138,13 +138,13 @@ uncounted-numbers κs t i r a =
 
 -- The answer in each case.
 count-is : (r : CountAnswer) (v e : ℕ) → NeverZero (countReply r) → replied (countReply r) ≡ record { number = 0; value = v; entered = e } → r
-    ≡ counted.Times v e
-count-is (counted.Times w m) v e k s = cc (ap (λ (x : Answer). x .value) s, ap (λ (x : Answer). x .entered) s)
-count-is (counted.Refused q) v e k s = absurd (let z : q ≡ 0 = ap (λ (x : Answer). x .number) s in omega arith)
+    ≡ count.Times v e
+count-is (count.Times w m) v e k s = cc (ap (λ (x : Answer). x .value) s, ap (λ (x : Answer). x .entered) s)
+count-is (count.Refused q) v e k s = absurd (let z : q ≡ 0 = ap (λ (x : Answer). x .number) s in omega arith)
 
-count-no : (r : CountAnswer) (n : ℕ) → replied (countReply r) ≡ refused (suc n) → r ≡ counted.Refused (suc n)
-count-no (counted.Times v e) n s = absurd (let z : _≡_ {A = ℕ} 0 (suc n) = ap (λ (x : Answer). x .number) s in omega arith)
-count-no (counted.Refused m) n s = ap (λ (x : Answer). counted.Refused (x .number)) s
+count-no : (r : CountAnswer) (n : ℕ) → replied (countReply r) ≡ refused (suc n) → r ≡ count.Refused (suc n)
+count-no (count.Times v e) n s = absurd (let z : _≡_ {A = ℕ} 0 (suc n) = ap (λ (x : Answer). x .number) s in omega arith)
+count-no (count.Refused m) n s = ap (λ (x : Answer). count.Refused (x .number)) s
 
 -- Any tree that the check accepts, and the one text that fits it.
 module _ (t : Borrowed) (v : checkResult (now t) ≡ 0) where
@@ -162,7 +162,7 @@ module _ (t : Borrowed) (v : checkResult (now t) ≡ 0) where
 
   -- What it answers, for any number of bytes.
   count-answers : (κs : Lfts 1) (byte i : ℕ) (r : CountAnswer) → Count κs t byte i r → CountedIn byte (S .counted) → i ≤ length T
-      → r ≡ counted.Times (countIn byte (take i T)) (cond (eqb i 0) 0 (pathLength (now t) (pathOf (now t) (i - 1))))
+      → r ≡ count.Times (countIn byte (take i T)) (cond (eqb i 0) 0 (pathLength (now t) (pathOf (now t) (i - 1))))
   count-answers κs byte i r a k h =
       count-is r _ _ (a .numbered) (a .answers ∙ counts.count-of-text (now t) v byte i (among-counted (now t) byte k) (omega (arith, size)))
 

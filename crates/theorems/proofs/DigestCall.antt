@@ -14,7 +14,7 @@ use Rattle.format.specs.Layout as at
 use Rattle.format.specs.TreeReading.{textOf, headerResult, checkResult}
 use Rattle.format.specs.CheckResultLaws.{accepted-header}
 use Rattle.format.specs.Answers.{pathsHold, bufferAfter}
-use Rattle.theory_accepted.specs.AcceptedTrees.{accepted-stands}
+use Rattle.theory_accepted.specs.AcceptedTrees.{accepted-represents}
 use Rattle.sha256.specs.Sha256.{digestTextRefusal}
 use Rattle.query_digest.specs.Digest.{digestRefusal, digestBuffer}
 use Rattle.query_digest.proofs.Theorems as digests
@@ -74,7 +74,7 @@ module _ (κs : Lfts 2) (t out after : Borrowed) (r : ℕ) where
 module _ (t : Borrowed) (v : checkResult (now t) ≡ 0) where
   pub accepted-answers : DigestAnswers t (at.settings (now t)) (textOf (now t))
   accepted-answers = record {
-    digest-of = λ κs out after r a room. digests.digest-accepted κs t out after r a v room (textOf (now t)) (accepted-stands (now t) v .fitting);
+    digest-of = λ κs out after r a room. digests.digest-accepted κs t out after r a v room (textOf (now t)) (accepted-represents (now t) v .fitting);
   }
 
   pub accepted-refuses : DigestRefuses t (at.settings (now t)) (textOf (now t))

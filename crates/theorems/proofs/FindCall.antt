@@ -22,7 +22,7 @@ use Rattle.format.specs.Answers.{Answer, refused, NeverZero, replied, numberOfB
 use Rattle.format.specs.FindAnswerLaws.{FindAnswers as FindAllowed}
 use Rattle.theory_counts.specs.Theorems as counts
 use Rattle.query_select.specs.declared.FindAnswer.{FindAnswer}
-use Rattle.query_select.specs.declared.FindAnswer.the-variants as found
+use Rattle.query_select.specs.declared.FindAnswer.the-variants as find
 use Rattle.query_select.specs.Found.{findReply}
 use Rattle.theorems.specs.Promises.{CountedIn, FindAnswers, FindRefuses}
 pub use Rattle.theorems.specs.CallContracts.{Find}
@@ -42,25 +42,25 @@ module _ (κs : Lfts 1) (t : Borrowed) (byte j : ℕ) where
   outcome-of s f = find-outcome (now t) byte j (checkResult (now t)) (λ v. v) s f
 
   -- A returned place is a place of the text.
-  pub find-answer : (p : TextPlace) (e : ℕ) → Find κs t byte j (found.At p e) → p .0 < at.textLength (now t)
+  pub find-answer : (p : TextPlace) (e : ℕ) → Find κs t byte j (find.At p e) → p .0 < at.textLength (now t)
   find-answer p e a = outcome-below (now t) byte j (record { number = 0; value = p .0; entered = e }) refl (outcome-of _ (a .answers))
 
   -- A refusal is 5, 6, 7, 11, 12 or 14.
-  pub find-numbers : (n : ℕ) → Find κs t byte j (found.Refused n) → OneOf (5 ∷ 6 ∷ 7 ∷ 11 ∷ 12 ∷ 14 ∷ []) n
+  pub find-numbers : (n : ℕ) → Find κs t byte j (find.Refused n) → OneOf (5 ∷ 6 ∷ 7 ∷ 11 ∷ 12 ∷ 14 ∷ []) n
   find-numbers n a = outcome-numbers (now t) byte j n (a .numbered) (outcome-of _ (a .answers))
 
 -- The answer in each case.
-find-no : (r : FindAnswer) (n : ℕ) → replied (findReply r) ≡ refused (suc n) → r ≡ found.Refused (suc n)
-find-no (found.At p e) n s = absurd (let z : _≡_ {A = ℕ} 0 (suc n) = ap (λ (x : Answer). x .number) s in omega arith)
-find-no (found.Refused m) n s = ap (λ (x : Answer). found.Refused (x .number)) s
+find-no : (r : FindAnswer) (n : ℕ) → replied (findReply r) ≡ refused (suc n) → r ≡ find.Refused (suc n)
+find-no (find.At p e) n s = absurd (let z : _≡_ {A = ℕ} 0 (suc n) = ap (λ (x : Answer). x .number) s in omega arith)
+find-no (find.Refused m) n s = ap (λ (x : Answer). find.Refused (x .number)) s
 
 find-is : (r : FindAnswer) (v e : ℕ) → NeverZero (findReply r) → replied (findReply r) ≡ record { number = 0; value = v; entered = e }
-    → r ≡ found.At (record { 0 = v }) e
-find-is (found.At p m) v e k s =
+    → r ≡ find.At (record { 0 = v }) e
+find-is (find.At p m) v e k s =
     let z : p ≡ record { 0 = v } = ap (λ (n : ℕ). record { 0 = n }) (ap (λ (x : Answer). x .value) s) in
     let y : m ≡ e = ap (λ (x : Answer). x .entered) s in
     cc
-find-is (found.Refused q) v e k s = absurd (let z : q ≡ 0 = ap (λ (x : Answer). x .number) s in omega arith)
+find-is (find.Refused q) v e k s = absurd (let z : q ≡ 0 = ap (λ (x : Answer). x .number) s in omega arith)
 
 -- Any tree that the check accepts, and the one text that fits it.
 module _ (t : Borrowed) (v : checkResult (now t) ≡ 0) where
@@ -97,7 +97,7 @@ module _ (t : Borrowed) (v : checkResult (now t) ≡ 0) where
       go all e (inr h) = h
 
   -- Refused before the walk.
-  find-asked : (κs : Lfts 1) (byte j : ℕ) (r : FindAnswer) (n : ℕ) → Find κs t byte j r → findRefusal (now t) byte j ≡ suc n → r ≡ found.Refused (suc n)
+  find-asked : (κs : Lfts 1) (byte j : ℕ) (r : FindAnswer) (n : ℕ) → Find κs t byte j r → findRefusal (now t) byte j ≡ suc n → r ≡ find.Refused (suc n)
   find-asked κs byte j r n a e = find-no r n (rw e at (a .answers .asked (rw e (omega arith))))
 
   pub accepted-refuses : FindRefuses t S T

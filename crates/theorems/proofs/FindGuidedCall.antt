@@ -15,7 +15,7 @@ use Rattle.format.specs.Answers.{Answer, NeverZero, replied, numberOfByte, foun
 use Rattle.query_guide.specs.Guides.{guideRefusal}
 use Rattle.query_guide.proofs.GuideList.{guide-checked}
 use Rattle.query_guided.specs.declared.FindGuidedAnswer.{FindGuidedAnswer}
-use Rattle.query_guided.specs.declared.FindGuidedAnswer.the-variants as guided
+use Rattle.query_guided.specs.declared.FindGuidedAnswer.the-variants as find-guided
 use Rattle.query_guided.specs.Guided.{stepsTo, findGuidedReply, stepsOf}
 use Rattle.theorems.specs.Promises.{CountedIn, LengthOfPath}
 use Rattle.theorems.specs.PublicFunctions.{find-guided-function}
@@ -37,11 +37,11 @@ module _ (κs : Lfts 2) (t guide : Borrowed) (byte j : ℕ) where
   outcome-of r a = find-outcome (now t) byte j (guideRefusal (now t) (now guide)) (guide-checked (now t) (now guide)) (replied (findGuidedReply r))
       (a .answers .finds)
 
-  pub guided-below : (p : TextPlace) (e steps : ℕ) → FindGuided κs t guide byte j (guided.At p e steps) → p .0 < at.textLength (now t)
-  guided-below p e steps a = outcome-below (now t) byte j (record { number = 0; value = p .0; entered = e }) refl (outcome-of (guided.At p e steps) a)
+  pub guided-below : (p : TextPlace) (e steps : ℕ) → FindGuided κs t guide byte j (find-guided.At p e steps) → p .0 < at.textLength (now t)
+  guided-below p e steps a = outcome-below (now t) byte j (record { number = 0; value = p .0; entered = e }) refl (outcome-of (find-guided.At p e steps) a)
 
-  pub guided-numbers : (n : ℕ) → FindGuided κs t guide byte j (guided.Refused n) → OneOf (5 ∷ 6 ∷ 7 ∷ 11 ∷ 12 ∷ 14 ∷ []) n
-  guided-numbers n a = outcome-numbers (now t) byte j n (a .numbered) (outcome-of (guided.Refused n) a)
+  pub guided-numbers : (n : ℕ) → FindGuided κs t guide byte j (find-guided.Refused n) → OneOf (5 ∷ 6 ∷ 7 ∷ 11 ∷ 12 ∷ 14 ∷ []) n
+  guided-numbers n a = outcome-numbers (now t) byte j n (a .numbered) (outcome-of (find-guided.Refused n) a)
 
 -- If check_guide accepts the tree and the guide, find with the guide returns what the tree's text has, with the length of the place's path and the steps
 -- from entry (j - 1) / 64.
@@ -55,7 +55,7 @@ module _ (κ : Lfts 2) (t guide : Borrowed) (ok : CheckGuide κ t guide 0) where
   pub guided-of-text : (κs : Lfts 2) (byte j : ℕ) (r : FindGuidedAnswer) → FindGuided κs t guide byte j r
       → CountedIn byte (at.settings (now t) .counted) → 1 ≤ j → j ≤ countIn byte (textOf (now t))
       → (e : ℕ) × LengthOfPath (now t) (at.settings (now t) .levels) (placeOf byte j (textOf (now t))) e
-      × (r ≡ guided.At (record { 0 = placeOf byte j (textOf (now t)) }) e (stepsTo (now t) (numberOfByte (now t) byte) j))
+      × (r ≡ find-guided.At (record { 0 = placeOf byte j (textOf (now t)) }) e (stepsTo (now t) (numberOfByte (now t) byte) j))
   unfolding found
   guided-of-text κs byte j r a k low high =
       let n = select-through (now t) v byte j k low high in
@@ -67,9 +67,9 @@ module _ (κ : Lfts 2) (t guide : Borrowed) (ok : CheckGuide κ t guide 0) where
       guided-is : (r : FindGuidedAnswer) (p e steps : ℕ) → NeverZero (findGuidedReply r) → replied (findGuidedReply r)
           ≡ record { number = 0; value = p; entered = e }
           → stepsOf r ≡ steps
-          → r ≡ guided.At (record { 0 = p }) e steps
-      guided-is (guided.At q m s) p e steps k x y =
+          → r ≡ find-guided.At (record { 0 = p }) e steps
+      guided-is (find-guided.At q m s) p e steps k x y =
           let z : q ≡ record { 0 = p } = ap (λ (n : ℕ). record { 0 = n }) (ap (λ (s : Answer). s .value) x) in
           let w : m ≡ e = ap (λ (s : Answer). s .entered) x in
           cc
-      guided-is (guided.Refused n) p e steps k x y = absurd (let z : n ≡ 0 = ap (λ (s : Answer). s .number) x in omega arith)
+      guided-is (find-guided.Refused n) p e steps k x y = absurd (let z : n ≡ 0 = ap (λ (s : Answer). s .number) x in omega arith)

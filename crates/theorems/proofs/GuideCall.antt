@@ -11,7 +11,7 @@ use Rattle.text.specs.Text.{sameList}
 use Rattle.format.specs.TreeReading.{headerResult, checkResult}
 use Rattle.format.specs.Answers.{Answer}
 use Rattle.format.specs.AnswerLaws.{unless-number}
-use Rattle.query_guide.specs.declared.GuideWordsAnswer.the-variants as size
+use Rattle.query_guide.specs.declared.GuideWordsAnswer.the-variants as guide-words
 use Rattle.query_guide.specs.Guides.{guideBytes, guideWords, guideRefusal, guideWordsAnswer, makeGuideRefusal, makeGuideAnswer}
 use Rattle.theorems.specs.PublicFunctions.{check-guide-function, guide-words-function, make-guide-function}
 use Rattle.theorems.proofs.PublicCall.{Call, Borrowed, call}
@@ -40,7 +40,8 @@ check-guide-numbers κs t guide r a =
     (asks-one ((24, sameList (now guide) (guideBytes (now t))) ∷ [])))
 
 -- Making one: a refusal is 5 to 9 or 25.
-pub make-guide-numbers : (κs : Lfts 2) (t table after : Borrowed) (n : ℕ) → MakeGuide κs t table after (size.Refused n) → OneOf (5 ∷ 6 ∷ 7 ∷ 8 ∷ 9 ∷ 25 ∷ []) n
+pub make-guide-numbers : (κs : Lfts 2) (t table after : Borrowed) (n : ℕ) → MakeGuide κs t table after (guide-words.Refused n)
+    → OneOf (5 ∷ 6 ∷ 7 ∷ 8 ∷ 9 ∷ 25 ∷ []) n
 unfolding makeGuideRefusal makeGuideAnswer
 make-guide-numbers κs t table after n a =
     let made : Answer = record { number = 0; value = guideWords (now t); entered = 0 } in
@@ -51,9 +52,9 @@ make-guide-numbers κs t table after n a =
     (asks-one ((25, leb (length (guideBytes (now t))) (length (now table))) ∷ []))))
 
 -- guide_words: a refusal is 5, 6 or 7.
-pub guide-words-numbers : (κs : Lfts 1) (t : Borrowed) (n : ℕ) → GuideWords κs t (size.Refused n) → OneOf (5 ∷ 6 ∷ 7 ∷ []) n
+pub guide-words-numbers : (κs : Lfts 1) (t : Borrowed) (n : ℕ) → GuideWords κs t (guide-words.Refused n) → OneOf (5 ∷ 6 ∷ 7 ∷ []) n
 unfolding guideWordsAnswer
 guide-words-numbers κs t n a =
-    let told : Answer = record { number = 0; value = guideWords (now t); entered = 0 } in
-    let e : n ≡ headerResult (now t) = ap (λ (s : Answer). s .number) (a .0) ∙ unless-number (headerResult (now t)) told refl in
+    let reply : Answer = record { number = 0; value = guideWords (now t); entered = 0 } in
+    let e : n ≡ headerResult (now t) = ap (λ (s : Answer). s .number) (a .0) ∙ unless-number (headerResult (now t)) reply refl in
     not-zero (5 ∷ 6 ∷ 7 ∷ []) n (a .1) (rw e (header-one (now t)))

@@ -20,10 +20,10 @@ use Rattle.format.specs.CheckResultLaws.{accepted-header, accepted-links}
 use Rattle.theory_paths.specs.PlaceBytes.{byte-broken}
 use Rattle.theory_accepted.specs.AcceptedTrees.{one-text}
 use Rattle.query_compare.specs.declared.CompareAnswer.{CompareAnswer}
-use Rattle.query_compare.specs.declared.CompareAnswer.the-variants as compared
+use Rattle.query_compare.specs.declared.CompareAnswer.the-variants as compare
 use Rattle.query_compare.proofs.Theorems as orders
-use Rattle.query_compare.specs.OrderAnswers.{Ordering, before, same, after, stands, byLength, comparedFrom, compareAnswer}
-use Rattle.query_compare.specs.TextOrder.{standing, shared, outcome, firstOf}
+use Rattle.query_compare.specs.OrderAnswers.{Ordering, before, same, after, orderAnswer, byLength, comparedFrom, compareAnswer}
+use Rattle.query_compare.specs.TextOrder.{textOrdering, shared, outcome, firstOf}
 use Rattle.query_compare.specs.OrderLaws.{clash, flip, Upto, shared-itself}
 use Rattle.query_compare.proofs.FirstLaws.{refused-low}
 use Rattle.theorems.specs.PublicFunctions.{compare-function, first-function}
@@ -36,8 +36,8 @@ use Rattle.query_compare.proofs.first.Met as first-met
 pub use Rattle.query_compare.proofs.Theorems.{Compare, CompareFirst}
 -- The laws of the order of texts: at or before is a total order, the same only of equal texts; it goes by the first byte that differs, or by the
 -- shorter end.
-pub use Rattle.query_compare.specs.OrderLaws.{text-order, standing-flip, standing-refl, standing-same, standing-trans}
-pub use Rattle.query_compare.specs.OrderLaws.{shared-is, shared-flip, stands-by, empty-first}
+pub use Rattle.query_compare.specs.OrderLaws.{text-order, ordering-flip, ordering-refl, ordering-same, ordering-trans}
+pub use Rattle.query_compare.specs.OrderLaws.{shared-is, shared-flip, ordered-by, empty-first}
 
 abbrev pub compare-call : Call
 compare-call = call compare-function compare-met.met (λ 𝓤 H A mem run κs a. (tt, refl))
@@ -67,15 +67,15 @@ module _ (t u : List ℕ) where
       → OneOf (14 ∷ 0 ∷ []) (comparedFrom t u more p .number)
   unfolding comparedFrom byLength
   from-one r s zero p h =
-      cond-one (ltb (at.textLength t) (at.textLength u)) (stands before p) _ (inr (inl refl))
-      (cond-one (ltb (at.textLength u) (at.textLength t)) (stands after p) (stands same p) (inr (inl refl)) (inr (inl refl)))
+      cond-one (ltb (at.textLength t) (at.textLength u)) (orderAnswer before p) _ (inr (inl refl))
+      (cond-one (ltb (at.textLength u) (at.textLength t)) (orderAnswer after p) (orderAnswer same p) (inr (inl refl)) (inr (inl refl)))
   from-one r s (suc more) p h =
       let x = byteAnswer t p .value in
       let y = byteAnswer u p .value in
       or-one (byteAnswer t p .number) _ (place-one t p r (omega arith))
       (or-one (byteAnswer u p .number) _ (place-one u p s (omega arith))
-      (cond-one (ltb x y) (stands before p) _ (inr (inl refl))
-      (cond-one (ltb y x) (stands after p) (comparedFrom t u more (p + 1)) (inr (inl refl)) (from-one r s more (p + 1) (omega arith)))))
+      (cond-one (ltb x y) (orderAnswer before p) _ (inr (inl refl))
+      (cond-one (ltb y x) (orderAnswer after p) (comparedFrom t u more (p + 1)) (inr (inl refl)) (from-one r s more (p + 1) (omega arith)))))
 
   order-one : OneOf (5 ∷ 6 ∷ 7 ∷ 14 ∷ 0 ∷ []) (compareAnswer t u .number)
   unfolding compareAnswer
@@ -91,10 +91,10 @@ module _ (t u : List ℕ) where
       go zero zero e f = of-right (5 ∷ 6 ∷ 7 ∷ []) (14 ∷ 0 ∷ []) _ (from-one e f (min (at.textLength t) (at.textLength u)) 0 (omega arith))
 
 -- A refusal is 5, 6, 7 or 14.
-pub order-numbers : (κs : Lfts 2) (t u : Borrowed) (n : ℕ) → Compare κs t u (compared.Refused n) → OneOf (5 ∷ 6 ∷ 7 ∷ 14 ∷ []) n
+pub order-numbers : (κs : Lfts 2) (t u : Borrowed) (n : ℕ) → Compare κs t u (compare.Refused n) → OneOf (5 ∷ 6 ∷ 7 ∷ 14 ∷ []) n
 order-numbers κs t u n a =
     let e : n ≡ compareAnswer (now t) (now u) .number = ap (λ (s : Answer). s .number) (a .answers) in
-    not-zero (5 ∷ 6 ∷ 7 ∷ 14 ∷ []) n (refused-low (now t) (now u) (compared.Refused n) a t u n refl) (rw e (order-one (now t) (now u)))
+    not-zero (5 ∷ 6 ∷ 7 ∷ 14 ∷ []) n (refused-low (now t) (now u) (compare.Refused n) a t u n refl) (rw e (order-one (now t) (now u)))
 
 -- Trees that the check accepts.
 
@@ -120,14 +120,14 @@ figuresIn number order length = record { number = now number; value = now order;
 
 module _ (t u : Borrowed) (T U : List ℕ) (a : CallHolds t T) (b : CallHolds u U) where
   -- The lexicographic order of the texts, and the length of their longest common prefix.
-  pub compare-of : (κs : Lfts 2) (r : CompareAnswer) → Compare κs t u r → r ≡ outcome (standing T U) (shared T U)
+  pub compare-of : (κs : Lfts 2) (r : CompareAnswer) → Compare κs t u r → r ≡ outcome (textOrdering T U) (shared T U)
   compare-of κs r c = rw (text-is t T a, text-is u U b) at (orders.compare-texts t u (passes t T a) (passes u U b) (links t T a) (links u U b) κs r c)
 
   -- `first` returns the reference, pointer and bytes, of the tree whose text comes first (for equal texts the first), with the figures of the comparison
   pub first-of : (κs : Lfts 4) (number order length number′ order′ length′ : RefT ℕ) (r : Borrowed)
       → CompareFirst κs t u number order length number′ order′ length′ r
-      → (r ≡ firstOf (standing T U) t u)
-      × (figuresIn number′ order′ length′ ≡ stands (standing T U) (shared T U))
+      → (r ≡ firstOf (textOrdering T U) t u)
+      × (figuresIn number′ order′ length′ ≡ orderAnswer (textOrdering T U) (shared T U))
   first-of κs number order length number′ order′ length′ r c =
       rw (text-is t T a, text-is u U b) at
       (orders.first-texts t u (passes t T a) (passes u U b) (links t T a) (links u U b) κs number order length number′ order′ length′ r c)
@@ -145,7 +145,7 @@ module _ (t u t′ u′ : Borrowed) (T U : List ℕ) (a : CallHolds t T) (b : Ca
   first-alone κs κs′ n o l n₁ o₁ l₁ n₂ o₂ l₂ n₃ o₃ l₃ r r′ c c′ =
       let z = first-of t u T U a b κs n o l n₁ o₁ l₁ r c in
       let z′ = first-of t′ u′ T U a′ b′ κs′ n₂ o₂ l₂ n₃ o₃ l₃ r′ c′ in
-      (z .1 ∙ sym (z′ .1), side (standing T U) (z .0) (z′ .0))
+      (z .1 ∙ sym (z′ .1), side (textOrdering T U) (z .0) (z′ .0))
     where
       side : (s : Ordering) → r ≡ firstOf s t u → r′ ≡ firstOf s t′ u′ → ((r ≡ t) × (r′ ≡ t′)) ⊎ ((r ≡ u) × (r′ ≡ u′))
       side before e e′ = inl (e, e′)
@@ -156,10 +156,10 @@ module _ (t u t′ u′ : Borrowed) (T U : List ℕ) (a : CallHolds t T) (b : Ca
 
 -- The first comes before the second, or both are equal.
 abbrev pub AtOrBefore : CompareAnswer → Type 0
-AtOrBefore (compared.Before n) = Unit {0}
-AtOrBefore (compared.Same n) = Unit {0}
-AtOrBefore (compared.After n) = ⊥
-AtOrBefore (compared.Refused q) = ⊥
+AtOrBefore (compare.Before n) = Unit {0}
+AtOrBefore (compare.Same n) = Unit {0}
+AtOrBefore (compare.After n) = ⊥
+AtOrBefore (compare.Refused q) = ⊥
 
 up-to : (s : Ordering) (n : ℕ) → AtOrBefore (outcome s n) → s ≡ after → ⊥
 up-to before n h e = clash before after (λ z. omega arith) e
@@ -173,16 +173,16 @@ not-after after n h = h refl
 
 module _ (t u : Borrowed) (T U : List ℕ) (a : CallHolds t T) (b : CallHolds u U) (κs : Lfts 2) (r : CompareAnswer) (c : Compare κs t u r) where
   upto-of : AtOrBefore r → Upto T U
-  upto-of h = let z : AtOrBefore (outcome (standing T U) (shared T U)) = rw (compare-of t u T U a b κs r c) at h in up-to (standing T U) (shared T U) z
+  upto-of h = let z : AtOrBefore (outcome (textOrdering T U) (shared T U)) = rw (compare-of t u T U a b κs r c) at h in up-to (textOrdering T U) (shared T U) z
 
   of-upto : Upto T U → AtOrBefore r
-  of-upto h = rw (compare-of t u T U a b κs r c) (not-after (standing T U) (shared T U) h)
+  of-upto h = rw (compare-of t u T U a b κs r c) (not-after (textOrdering T U) (shared T U) h)
 
 -- What compare answers of any accepted trees t, u and v with the texts T, U and W.
 pub record TotalOrderOfTrees : Type 0 where
   -- Trees of one text are the same, and only these.
   pub reflexive : (t u : Borrowed) (T : List ℕ) → CallHolds t T → CallHolds u T → (κs : Lfts 2) (r : CompareAnswer) → Compare κs t u r → r
-      ≡ compared.Same (length T)
+      ≡ compare.Same (length T)
   pub antisymmetric : (t u : Borrowed) (T U : List ℕ) → CallHolds t T → CallHolds u U → (κs κs′ : Lfts 2) (r r′ : CompareAnswer) → Compare κs t u r
       → Compare κs′ u t r′
       → AtOrBefore r → AtOrBefore r′ → T ≡ U
@@ -200,8 +200,8 @@ tree-order = record {
   total = λ t u T U a b κs κs′ r r′ c c′. either t u T U a b κs κs′ r r′ c c′ (text-order .total T U);
 }
   where
-    itself : (T : List ℕ) → outcome (standing T T) (shared T T) ≡ compared.Same (length T)
-    itself T = let e : standing T T ≡ same = standing-refl T in rw (e, shared-itself T)
+    itself : (T : List ℕ) → outcome (textOrdering T T) (shared T T) ≡ compare.Same (length T)
+    itself T = let e : textOrdering T T ≡ same = ordering-refl T in rw (e, shared-itself T)
 
     either : (t u : Borrowed) (T U : List ℕ) → CallHolds t T → CallHolds u U → (κs κs′ : Lfts 2) (r r′ : CompareAnswer) → Compare κs t u r → Compare κs′ u t r′
         → Upto T U ⊎ Upto U T → AtOrBefore r ⊎ AtOrBefore r′
@@ -211,6 +211,6 @@ tree-order = record {
 -- The other way round before becomes after, and the shared beginning stays.
 pub compare-flip : (t u : Borrowed) (T U : List ℕ) → CallHolds t T → CallHolds u U → (κs κs′ : Lfts 2) (r r′ : CompareAnswer) → Compare κs t u r
     → Compare κs′ u t r′
-    → (r ≡ outcome (standing T U) (shared T U)) × (r′ ≡ outcome (flip (standing T U)) (shared T U))
+    → (r ≡ outcome (textOrdering T U) (shared T U)) × (r′ ≡ outcome (flip (textOrdering T U)) (shared T U))
 compare-flip t u T U a b κs κs′ r r′ c c′ =
-    (compare-of t u T U a b κs r c, compare-of u t U T b a κs′ r′ c′ ∙ rw (standing-flip T U, shared-flip T U))
+    (compare-of t u T U a b κs r c, compare-of u t U T b a κs′ r′ c′ ∙ rw (ordering-flip T U, shared-flip T U))

@@ -11,7 +11,7 @@ use Rattle.format.specs.Layout as at
 use Rattle.format.specs.TreeReading.{headerResult}
 use Rattle.format.specs.Answers.{Answer}
 use Rattle.query_places.specs.Places.{maxPattern, wordsFor, placesWordsAnswer}
-use Rattle.query_places.specs.declared.PlacesWordsAnswer.the-variants as places-room
+use Rattle.query_places.specs.declared.PlacesWordsAnswer.the-variants as places-words
 use Rattle.theorems.specs.PublicFunctions.{places-words-function}
 use Rattle.theorems.proofs.PublicCall.{Call, Borrowed, call}
 use Rattle.theorems.proofs.RefusalNumbers.{OneOf, asks-one, not-zero, header-one, unless-one}
@@ -23,7 +23,7 @@ abbrev pub places-words-call : Call
 places-words-call = call places-words-function places-words-met.met (λ 𝓤 H A mem run κs a. (tt, refl))
 
 -- For any bytes: a refusal is 5, 6, 7 or 16.
-pub room-numbers : (κs : Lfts 1) (t : Borrowed) (len n : ℕ) → PlacesWords κs t len (places-room.Refused n) → OneOf (5 ∷ 6 ∷ 7 ∷ 16 ∷ []) n
+pub room-numbers : (κs : Lfts 1) (t : Borrowed) (len n : ℕ) → PlacesWords κs t len (places-words.Refused n) → OneOf (5 ∷ 6 ∷ 7 ∷ 16 ∷ []) n
 unfolding placesWordsAnswer wordsFor
 room-numbers κs t len n a =
     let e : n ≡ placesWordsAnswer (now t) len .number = ap (λ (s : Answer). s .number) (a .answers) in

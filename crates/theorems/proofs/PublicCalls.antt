@@ -45,7 +45,7 @@ calls =
     ∷ CheckCall.check-call
     ∷ ByteCall.byte-call
     ∷ RunCall.run-call
-    ∷ RunCall.run-part-call
+    ∷ RunCall.run-range-call
     ∷ SpanCall.span-call
     ∷ CountCall.count-call
     ∷ CountCall.uncounted-call
@@ -56,7 +56,7 @@ calls =
     ∷ PlacesCall.places-call
     ∷ PlacesWordsCall.places-words-call
     ∷ NextMatchCall.next-match-call
-    ∷ NextMatchCall.show-call
+    ∷ NextMatchCall.advance-mark-call
     ∷ PrefixRowCall.next-row-with-prefix-call
     ∷ PrefixRowCall.next-row-with-prefix-guided-call
     ∷ ColumnsCall.to-columns-call

@@ -16,7 +16,7 @@ use Rattle.format.specs.CheckResultLaws.{accepted-header}
 use Rattle.format.specs.RowRefusalLaws.{RowAnswers as RowAllowed}
 use Rattle.theory_counts.specs.RowsOfText.{row-lets, row-twelve, row-eleven}
 use Rattle.query_rows.specs.declared.RowAnswer.{RowAnswer}
-use Rattle.query_rows.specs.declared.RowAnswer.the-variants as rows
+use Rattle.query_rows.specs.declared.RowAnswer.the-variants as row
 use Rattle.query_rows.specs.RowAnswers.{rowReply}
 use Rattle.theorems.specs.Promises.{RowAnswers, RowRefuses}
 pub use Rattle.theorems.specs.CallContracts.{Row}
@@ -37,20 +37,20 @@ module _ (κs : Lfts 2) (t : Borrowed) (q : ℕ) (buffer after : Borrowed) where
   outcome-of n m s = row-outcome (now t) q (now buffer) (checkResult (now t)) n m (now after) s
 
   -- A row fits, and the bytes after it are unchanged.
-  pub row-answer : (m : ℕ) → Row κs t q buffer after (rows.Bytes m) → (m ≤ length (now buffer)) × (drop m (now after) ≡ drop m (now buffer))
+  pub row-answer : (m : ℕ) → Row κs t q buffer after (row.Bytes m) → (m ≤ length (now buffer)) × (drop m (now after) ≡ drop m (now buffer))
   row-answer m a = outcome-copied (now t) q (now buffer) m (now after) (outcome-of 0 m (a .answers))
 
   -- On a tree that the check refuses, the bytes copied are those that the paths give from some place on, and 13 means that the buffer is shorter than
   -- some such bytes.
-  pub row-free : (checkResult (now t) ≡ 0 → ⊥) → (m : ℕ) → Row κs t q buffer after (rows.Bytes m)
+  pub row-free : (checkResult (now t) ≡ 0 → ⊥) → (m : ℕ) → Row κs t q buffer after (row.Bytes m)
       → (p : ℕ) × (p + m ≤ at.textLength (now t)) × (now after ≡ substring (textOf (now t)) p m ++ drop m (now buffer))
   row-free refuses m a = free-copied (now t) q (now buffer) (checkResult (now t)) 0 m (now after) (a .answers) refuses refl
 
-  pub row-free-short : (checkResult (now t) ≡ 0 → ⊥) → Row κs t q buffer after (rows.Refused 13)
+  pub row-free-short : (checkResult (now t) ≡ 0 → ⊥) → Row κs t q buffer after (row.Refused 13)
       → (p : ℕ) × (len : ℕ) × (p + len ≤ at.textLength (now t)) × (length (now buffer) < len)
   row-free-short refuses a = free-short (now t) q (now buffer) (checkResult (now t)) 13 0 (now after) (a .answers) refuses refl
 
-  module _ (n : ℕ) (a : Row κs t q buffer after (rows.Refused n)) where
+  module _ (n : ℕ) (a : Row κs t q buffer after (row.Refused n)) where
     -- A refusal is 5, 6, 7, 11, 12, 13 or 14.
     pub row-numbers : OneOf (5 ∷ 6 ∷ 7 ∷ 11 ∷ 12 ∷ 13 ∷ 14 ∷ []) n
     row-numbers = row-outcome-numbers (now t) q (now buffer) n (now after) (a .numbered) (outcome-of n 0 (a .answers))
@@ -60,13 +60,13 @@ module _ (κs : Lfts 2) (t : Borrowed) (q : ℕ) (buffer after : Borrowed) where
     row-leaves = row-outcome-leaves (now t) q (now buffer) n (now after) (a .numbered) (outcome-of n 0 (a .answers))
 
 -- The answer in each case.
-row-is : (r : RowAnswer) (v : ℕ) → NeverZero (rowReply r) → replied (rowReply r) .number ≡ 0 → replied (rowReply r) .value ≡ v → r ≡ rows.Bytes v
-row-is (rows.Bytes m) v k z e = ap rows.Bytes e
-row-is (rows.Refused q) v k z e = absurd (let y : ⊥ = omega arith in y)
+row-is : (r : RowAnswer) (v : ℕ) → NeverZero (rowReply r) → replied (rowReply r) .number ≡ 0 → replied (rowReply r) .value ≡ v → r ≡ row.Bytes v
+row-is (row.Bytes m) v k z e = ap row.Bytes e
+row-is (row.Refused q) v k z e = absurd (let y : ⊥ = omega arith in y)
 
-row-no : (r : RowAnswer) (n : ℕ) → replied (rowReply r) .number ≡ suc n → r ≡ rows.Refused (suc n)
-row-no (rows.Bytes m) n s = absurd (let z : ⊥ = omega arith in z)
-row-no (rows.Refused m) n s = ap rows.Refused s
+row-no : (r : RowAnswer) (n : ℕ) → replied (rowReply r) .number ≡ suc n → r ≡ row.Refused (suc n)
+row-no (row.Bytes m) n s = absurd (let z : ⊥ = omega arith in z)
+row-no (row.Refused m) n s = ap row.Refused s
 
 -- Any tree that the check accepts, and the one text that fits it.
 module _ (t : Borrowed) (v : checkResult (now t) ≡ 0) where
@@ -85,7 +85,7 @@ module _ (t : Borrowed) (v : checkResult (now t) ≡ 0) where
 
   -- Refused before the walk.
   row-asked : (κs : Lfts 2) (q : ℕ) (buffer after : Borrowed) (r : RowAnswer) (n : ℕ) → Row κs t q buffer after r
-      → rowRefusal (now t) q ≡ suc n → (r ≡ rows.Refused (suc n)) × (now after ≡ now buffer)
+      → rowRefusal (now t) q ≡ suc n → (r ≡ row.Refused (suc n)) × (now after ≡ now buffer)
   row-asked κs q buffer after r n a e = let h = a .answers .asked (rw e (omega arith)) in (row-no r n (h .0 ∙ e), h .2)
 
   pub accepted-refuses : RowRefuses t S T

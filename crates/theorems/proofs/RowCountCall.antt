@@ -60,6 +60,6 @@ pub row-count-numbers : (κs : Lfts 1) (t : Borrowed) (n : ℕ) → CountOf κs 
 unfolding rowCountAnswer
 row-count-numbers κs t n a =
     let rows = total (now t) (numberOfByte (now t) 10) + cond (lastOpen (now t)) 1 0 in
-    let told : Answer = record { number = 0; value = rows; entered = 0 } in
-    let e : n ≡ rowCountRefusal (now t) = ap (λ (s : Answer). s .number) (a .answers) ∙ unless-number (rowCountRefusal (now t)) told refl in
+    let reply : Answer = record { number = 0; value = rows; entered = 0 } in
+    let e : n ≡ rowCountRefusal (now t) = ap (λ (s : Answer). s .number) (a .answers) ∙ unless-number (rowCountRefusal (now t)) reply refl in
     not-zero (5 ∷ 6 ∷ 7 ∷ 11 ∷ 14 ∷ []) n (a .numbered) (rw e (call-rows-one (now t)))

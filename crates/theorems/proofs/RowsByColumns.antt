@@ -10,8 +10,8 @@ use Rattle.text.specs.Text.{substring}
 use Rattle.format.specs.Layout.{Settings, given}
 use Rattle.format.specs.Layout as at
 use Rattle.format.specs.FittingText.{fits}
-use Rattle.build_by_search.specs.declared.BuildAnswer.the-variants as built
-use Rattle.build_by_scan.specs.declared.BuildScannedAnswer.the-variants as scanned
+use Rattle.build_by_search.specs.declared.BuildAnswer.the-variants as build
+use Rattle.build_by_scan.specs.declared.BuildScannedAnswer.the-variants as build-scanned
 use Rattle.query_access.specs.declared.SpanAnswer.{SpanAnswer}
 use Rattle.query_access.specs.declared.SpanAnswer.the-variants as span
 use Rattle.columns.specs.Columns.{widthOk, columns}
@@ -54,14 +54,14 @@ module _ (κ : Lfts 2) (text : Borrowed) (w : ℕ) (out turned : Borrowed) (done
 
   -- For the tree that build wrote.
   pub built-rows : (κs : Lfts 3) (leaf arity levels : ℕ) (counted room after : Borrowed) (size : ℕ)
-      → Build κs input leaf arity levels counted room after (built.Size size) → (t : Borrowed) → now t ≡ take size (now after) → RowsOf t w (now text)
+      → Build κs input leaf arity levels counted room after (build.Size size) → (t : Borrowed) → now t ≡ take size (now after) → RowsOf t w (now text)
   built-rows κs leaf arity levels counted room after size a t e =
       rows-of t (given leaf arity levels (now counted)) w (now text) ok
       (rw input-is at (build-answers κs input leaf arity levels counted room after size a t e))
 
   -- For the tree that build_scanned wrote.
   pub scanned-rows : (κs : Lfts 4) (leaf arity levels : ℕ) (counted words table room after : Borrowed) (size windows : ℕ)
-      → BuildScanned κs input leaf arity levels counted words table room after (scanned.Size size windows)
+      → BuildScanned κs input leaf arity levels counted words table room after (build-scanned.Size size windows)
       → (t : Borrowed) → now t ≡ take size (now after) → RowsOf t w (now text)
   scanned-rows κs leaf arity levels counted words table room after size windows a t e =
       rows-of t (given leaf arity levels (now counted)) w (now text) ok

@@ -16,28 +16,28 @@ use Rattle.theory_paths.specs.Theorems as paths
 use Rattle.query_access.proofs.Theorems as access
 use Rattle.query_access.specs.declared.ByteAnswer.the-variants as answer
 use Rattle.query_access.specs.declared.read_by_header.RunRangeAnswer.{RunRangeAnswer}
-use Rattle.query_access.specs.declared.read_by_header.RunRangeAnswer.the-variants as ran
+use Rattle.query_access.specs.declared.read_by_header.RunRangeAnswer.the-variants as run
 use Rattle.theorems.specs.Promises.{RunAnswers, RunRefuses}
-use Rattle.theorems.specs.PublicFunctions.{run-function, run-part-function}
+use Rattle.theorems.specs.PublicFunctions.{run-function, run-range-function}
 use Rattle.theorems.proofs.AcceptedTree.{below, text-size}
 use Rattle.theorems.proofs.ByteCall.{Byte, byte-not-zero, byte-one, byte-reached, byte-ten}
 use Rattle.theorems.proofs.PublicCall.{Call, Borrowed, call}
 use Rattle.theorems.proofs.RefusalNumbers.{OneOf, not-zero}
 use Rattle.query_access.proofs.run.Met as run-met
-use Rattle.query_access.proofs.run_range.Met as run-part-met
-use Rattle.query_access.proofs.run_range.Reads as run-part-reads
+use Rattle.query_access.proofs.run_range.Met as run-range-met
+use Rattle.query_access.proofs.run_range.Reads as run-range-reads
 -- What the contract of `run` allows: `Run κs tree place part`.
 pub use Rattle.theorems.specs.CallContracts.{Run}
 
 -- What the contract of `run_range` allows.
-abbrev pub RunPart : (κs : Lfts 1) → Borrowed → TextPlace → RunRangeAnswer → Type 0
-RunPart κs t p r = run-part-reads.Post κs (t, (p, tt)) r (t, (p, tt))
+abbrev pub RunRange : (κs : Lfts 1) → Borrowed → TextPlace → RunRangeAnswer → Type 0
+RunRange κs t p r = run-range-reads.Post κs (t, (p, tt)) r (t, (p, tt))
 
 abbrev pub run-call : Call
 run-call = call run-function run-met.met (λ 𝓤 H A mem run κs a. (tt, refl))
 
-abbrev pub run-part-call : Call
-run-part-call = call run-part-function run-part-met.met (λ 𝓤 H A mem run κs a. (tt, refl))
+abbrev pub run-range-call : Call
+run-range-call = call run-range-function run-range-met.met (λ 𝓤 H A mem run κs a. (tt, refl))
 
 -- For any bytes; κ is the lifetime of byte, κs that of run.
 module _ (κ κs : Lfts 1) (t : Borrowed) (p : TextPlace) (r : Borrowed) where
@@ -59,8 +59,8 @@ module _ (κ κs : Lfts 1) (t : Borrowed) (p : TextPlace) (r : Borrowed) where
       rw z at (a .0)
 
 -- A refusal of `run_range` is 5, 6, 7, 10 or 14, as byte's is.
-pub run-part-numbers : (κs : Lfts 1) (t : Borrowed) (p : TextPlace) (n : ℕ) → RunPart κs t p (ran.Refused n) → OneOf (5 ∷ 6 ∷ 7 ∷ 10 ∷ 14 ∷ []) n
-run-part-numbers κs t p n a = not-zero (5 ∷ 6 ∷ 7 ∷ 10 ∷ 14 ∷ []) n (a .numbered) (rw (a .number-is) (byte-one (now t) (p .0)))
+pub run-range-numbers : (κs : Lfts 1) (t : Borrowed) (p : TextPlace) (n : ℕ) → RunRange κs t p (run.Refused n) → OneOf (5 ∷ 6 ∷ 7 ∷ 10 ∷ 14 ∷ []) n
+run-range-numbers κs t p n a = not-zero (5 ∷ 6 ∷ 7 ∷ 10 ∷ 14 ∷ []) n (a .numbered) (rw (a .number-is) (byte-one (now t) (p .0)))
 
 -- Any tree that the check accepts, and the one text that fits it.
 module _ (t : Borrowed) (v : checkResult (now t) ≡ 0) where

@@ -10,23 +10,23 @@ use Rattle.format.specs.TreeReading.{ask}
 use Rattle.format.specs.LayoutLaws.{ask-test, ask-rest}
 use Rattle.build_size_bound.specs.SizeBound.{sizeBoundFor, sizeBoundRefusal, sizeBoundAnswer}
 use Rattle.build_size_bound.specs.declared.SizeBoundAnswer.{SizeBoundAnswer}
-use Rattle.build_size_bound.specs.declared.SizeBoundAnswer.the-variants as room
+use Rattle.build_size_bound.specs.declared.SizeBoundAnswer.the-variants as size-bound
 use Rattle.theorems.specs.PublicFunctions.{size-bound-function}
 use Rattle.theorems.proofs.PublicCall.{Call, call}
 use Rattle.theorems.proofs.RefusalNumbers.{OneOf, asks-one, not-zero, answers-refused, answers-answer}
-use Rattle.build_size_bound.proofs.size_bound.Met as enough-met
-use Rattle.build_size_bound.proofs.size_bound.Reads as enough-reads
+use Rattle.build_size_bound.proofs.size_bound.Met as size-bound-met
+use Rattle.build_size_bound.proofs.size_bound.Reads as size-bound-reads
 
 -- What the contract allows.
 abbrev pub SizeBound : (n leaf arity levels counted : ℕ) → SizeBoundAnswer → Type 0
 SizeBound n leaf arity levels counted r =
-    enough-reads.Post tt (n, (leaf, (arity, (levels, (counted, tt))))) r (n, (leaf, (arity, (levels, (counted, tt)))))
+    size-bound-reads.Post tt (n, (leaf, (arity, (levels, (counted, tt))))) r (n, (leaf, (arity, (levels, (counted, tt)))))
 
 abbrev pub size-bound-call : Call
-size-bound-call = call size-bound-function enough-met.met (λ 𝓤 H A mem run κs a. (tt, refl))
+size-bound-call = call size-bound-function size-bound-met.met (λ 𝓤 H A mem run κs a. (tt, refl))
 
 -- A refusal is 1, 2 or 3.
-pub size-bound-numbers : (n leaf arity levels k m : ℕ) → SizeBound n leaf arity levels k (room.Refused m) → OneOf (1 ∷ 2 ∷ 3 ∷ []) m
+pub size-bound-numbers : (n leaf arity levels k m : ℕ) → SizeBound n leaf arity levels k (size-bound.Refused m) → OneOf (1 ∷ 2 ∷ 3 ∷ []) m
 unfolding sizeBoundAnswer sizeBoundRefusal
 size-bound-numbers n leaf arity levels k m a =
     let e = answers-refused m (sizeBoundRefusal n leaf arity levels k) (sizeBoundFor n leaf arity levels k) 0 (a .numbered) (a .answers) in
@@ -34,7 +34,7 @@ size-bound-numbers n leaf arity levels k m a =
     (rw e (asks-one ((1, lengthOk n) ∷ (2, sizesOk (sizes leaf arity levels)) ∷ (3, leb k maxCounted) ∷ [])))
 
 -- An answer is the size that is enough, and questions 1 and 2 hold.
-pub size-bound-answer : (n leaf arity levels k m : ℕ) → SizeBound n leaf arity levels k (room.Bytes m)
+pub size-bound-answer : (n leaf arity levels k m : ℕ) → SizeBound n leaf arity levels k (size-bound.Bytes m)
     → (lengthOk n ≡ true) × (sizesOk (sizes leaf arity levels) ≡ true) × (m ≡ sizeBoundFor n leaf arity levels k)
 unfolding sizeBoundAnswer sizeBoundRefusal
 size-bound-answer n leaf arity levels k m a =

@@ -19,7 +19,7 @@ use Rattle.format.specs.AnswerLaws.{next-passes, asks-pass}
 use Rattle.theory_edges.specs.Theorems as edges
 use Rattle.query_access.proofs.Theorems as access
 use Rattle.query_access.specs.declared.SpanAnswer.{SpanAnswer}
-use Rattle.query_access.specs.declared.SpanAnswer.the-variants as copied
+use Rattle.query_access.specs.declared.SpanAnswer.the-variants as span
 use Rattle.theorems.specs.Promises.{BlocksOfSpan, SpanAnswers, SpanRefuses}
 use Rattle.theorems.specs.PublicFunctions.{span-function}
 use Rattle.theorems.proofs.AcceptedTree.{text-size}
@@ -58,7 +58,7 @@ span-passes t p len room h =
 
 module _ (κs : Lfts 2) (t : Borrowed) (p : TextPlace) (len : ℕ) (buffer after : Borrowed) where
   -- The result is the given length, which fits, with the blocks entered, and the bytes after it are unchanged.
-  pub span-answer : (m e : ℕ) → Span κs t p len buffer after (copied.Bytes m e)
+  pub span-answer : (m e : ℕ) → Span κs t p len buffer after (span.Bytes m e)
       → (m ≡ len) × BlocksOfSpan (now t) (at.settings (now t) .levels) (p .0) len e × (len ≤ length (now buffer))
       × (drop len (now after) ≡ drop len (now buffer))
   unfolding spanAnswer spanBuffer bufferAfter
@@ -74,7 +74,7 @@ module _ (κs : Lfts 2) (t : Borrowed) (p : TextPlace) (len : ℕ) (buffer after
         rw left (drop-at bytes (drop len (now buffer)) len (edges.span-length (now t) (w .pass) (p .0) len (w .reached))),
       )
 
-  module _ (n : ℕ) (a : Span κs t p len buffer after (copied.Refused n)) where
+  module _ (n : ℕ) (a : Span κs t p len buffer after (span.Refused n)) where
     -- The number is the definition's.
     span-answers : n ≡ spanRefusal (now t) (p .0) len (length (now buffer))
     unfolding spanAnswer
@@ -116,7 +116,7 @@ module _ (t : Borrowed) (v : checkResult (now t) ≡ 0) where
 
   -- A refused span answers its number, and leaves the buffer.
   refuses : (κs : Lfts 2) (p : TextPlace) (len : ℕ) (buffer after : Borrowed) (r : SpanAnswer) (n : ℕ) → Span κs t p len buffer after r
-      → spanRefusal (now t) (p .0) len (length (now buffer)) ≡ suc n → (suc n ≡ 14 → ⊥) → (r ≡ copied.Refused (suc n)) × (now after ≡ now buffer)
+      → spanRefusal (now t) (p .0) len (length (now buffer)) ≡ suc n → (suc n ≡ 14 → ⊥) → (r ≡ span.Refused (suc n)) × (now after ≡ now buffer)
   unfolding spanAnswer spanBuffer bufferAfter
   refuses κs p len buffer after r n a e other =
       (access.copied-no r n (a .0 .answers ∙ rw e), a .1 ∙ rw (e, ne-eqb (suc n) 0 (λ z. omega arith), ne-eqb (suc n) 14 other))

@@ -8,7 +8,7 @@ pub use Rattle.theorems.proofs.PublicCalls.{every-call-ends}
 pub use Rattle.theorems.proofs.CheckCall.{check-numbers}
 pub use Rattle.theorems.proofs.SizeBoundCall.{size-bound-numbers}
 pub use Rattle.theorems.proofs.ByteCall.{byte-answer, byte-numbers}
-pub use Rattle.theorems.proofs.RunCall.{run-answer, run-empty, run-part-numbers}
+pub use Rattle.theorems.proofs.RunCall.{run-answer, run-empty, run-range-numbers}
 pub use Rattle.theorems.proofs.CountCall.{count-answer, count-numbers, uncounted-numbers}
 pub use Rattle.theorems.proofs.FindCall.{find-answer, find-numbers}
 pub use Rattle.theorems.proofs.BuildCall.{build-numbers}
@@ -147,9 +147,9 @@ pub use Rattle.theorems.proofs.GuideCall.{check-guide-numbers, make-gui
 -- Request 114, the order of books: for accepted trees the order, the longest common prefix and the returned tree depend on the two texts only.
 pub use Rattle.theorems.proofs.OrderCall.{compare-of, first-of, texts-alone, first-alone}
 -- Request 114: the order is lexicographic, by unsigned bytes, with a prefix before the longer text.
-pub use Rattle.theorems.proofs.OrderCall.{stands-by, shared-is, shared-flip, empty-first}
+pub use Rattle.theorems.proofs.OrderCall.{ordered-by, shared-is, shared-flip, empty-first}
 -- Request 114: on the texts of accepted trees it is a total order.
-pub use Rattle.theorems.proofs.OrderCall.{tree-order, compare-flip, text-order, standing-flip, standing-refl, standing-same, standing-trans}
+pub use Rattle.theorems.proofs.OrderCall.{tree-order, compare-flip, text-order, ordering-flip, ordering-refl, ordering-same, ordering-trans}
 -- Request 114: the refusals in their order, for any bytes given as trees.
 pub use Rattle.theorems.proofs.OrderCall.{order-numbers}
 pub use Rattle.query_compare.proofs.Theorems.{order-unread, order-unread-2, order-broken, order-broken-2, order-below, order-above}
@@ -186,7 +186,7 @@ pub any-tree : AnyTree
 any-tree κs t c =
     let one = check-one-text κs t c in
     let fit = one .1 .fitting in
-    (one .0, record { stands = one .1; only = one .2; answers = check-answers κs t c (one .0) fit; refuses = check-refuses κs t c (one .0) fit })
+    (one .0, record { represents = one .1; only = one .2; answers = check-answers κs t c (one .0) fit; refuses = check-refuses κs t c (one .0) fit })
 
 -- A tree that build wrote: it is the block tree of the text, check accepts it, the text and no other fits it, and every call returns what the text has.
 pub built-tree : BuiltTree
@@ -195,7 +195,7 @@ built-tree κs text leaf arity levels counted out after size a t is =
       is ∙ build-writes κs text leaf arity levels counted out after size a,
       build-accepted κs text leaf arity levels counted out after size a t is,
       record {
-        stands = one .0;
+        represents = one .0;
         only = one .1;
         answers = build-answers κs text leaf arity levels counted out after size a t is;
         refuses = build-refuses κs text leaf arity levels counted out after size a t is;
@@ -210,7 +210,7 @@ scanned-tree κs text leaf arity levels counted words table out after size windo
       is ∙ scanned-writes κs text leaf arity levels counted words table out after size windows a,
       scanned-accepted κs text leaf arity levels counted words table out after size windows a t is,
       record {
-        stands = one .0;
+        represents = one .0;
         only = one .1;
         answers = scanned-answers κs text leaf arity levels counted words table out after size windows a t is;
         refuses = scanned-refuses κs text leaf arity levels counted words table out after size windows a t is;

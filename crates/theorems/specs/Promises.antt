@@ -24,7 +24,7 @@ use Rattle.theory_adequacy.specs.TotalCorrectness.{Function, TotallyCorrect}
 use Rattle.theory_adequacy.specs.Preconditions.{NoPrecondition, Each}
 use Rattle.row_filter.specs.SelectedRows.{outcomeAt}
 use Rattle.keys.specs.Keys.{rangesOk}
-use Rattle.keys.specs.Matches.{nextMatch, shownFor}
+use Rattle.keys.specs.Matches.{nextMatch, matchOutcome}
 use Rattle.prefix_match.specs.PrefixRowNumbers.{nextWithPrefix}
 use Rattle.columns.specs.Columns.{widthOk, uncolumns}
 use Rattle.sha256.specs.Sha256.{sha256}
@@ -32,14 +32,14 @@ use Rattle.build_by_scan.specs.ScanAnswers.{windowsOf}
 use Rattle.query_places.specs.Places.{maxPattern, placesIn, patternOk}
 use Rattle.query_places.specs.PlacesLaws.{AllPlaces}
 use Rattle.query_access.specs.declared.ByteAnswer.the-variants as answer
-use Rattle.query_access.specs.declared.SpanAnswer.the-variants as copied
-use Rattle.query_rank.specs.declared.CountAnswer.the-variants as counted
-use Rattle.query_select.specs.declared.FindAnswer.the-variants as found
-use Rattle.query_rows.specs.declared.RowAnswer.the-variants as rows
+use Rattle.query_access.specs.declared.SpanAnswer.the-variants as span
+use Rattle.query_rank.specs.declared.CountAnswer.the-variants as count
+use Rattle.query_select.specs.declared.FindAnswer.the-variants as find
+use Rattle.query_rows.specs.declared.RowAnswer.the-variants as row
 use Rattle.query_places.specs.declared.PlacesAnswer.the-variants as places
 use Rattle.query_row_filter.specs.declared.NextRowAnswer.the-variants as next
-use Rattle.build_by_search.specs.declared.BuildAnswer.the-variants as built
-use Rattle.build_by_scan.specs.declared.BuildScannedAnswer.the-variants as scanned
+use Rattle.build_by_search.specs.declared.BuildAnswer.the-variants as build
+use Rattle.build_by_scan.specs.declared.BuildScannedAnswer.the-variants as build-scanned
 use Rattle.abi.proofs.Theorems.{calls as exported}
 use Rattle.list_lines.proofs.Theorems.{calls as listing}
 use Rattle.licence.proofs.Theorems.{calls as licence}
@@ -103,61 +103,61 @@ module _ (t : Borrowed) (S : Settings) (T : List ℕ) where
     -- A span inside the text that fits the buffer: its bytes at the start of the buffer, the rest unchanged; with the number of blocks entered.
     pub span-of : (κs : Lfts 2) (p : TextPlace) (len : ℕ) (buffer after : Borrowed) (r : SpanAnswer) → Span κs t p len buffer after r
         → p .0 + len ≤ length T → len ≤ length (now buffer)
-        → (e : ℕ) × BlocksOfSpan (now t) (S .levels) (p .0) len e × (r ≡ copied.Bytes len e) × (now after ≡ substring T (p .0) len ++ drop len (now buffer))
+        → (e : ℕ) × BlocksOfSpan (now t) (S .levels) (p .0) len e × (r ≡ span.Bytes len e) × (now after ≡ substring T (p .0) len ++ drop len (now buffer))
 
   pub record SpanRefuses : Type 0 where
     -- A span past the end of the text: 10, and the buffer is unchanged.
     pub span-past : (κs : Lfts 2) (p : TextPlace) (len : ℕ) (buffer after : Borrowed) (r : SpanAnswer) → Span κs t p len buffer after r
-        → length T < p .0 + len → (r ≡ copied.Refused 10) × (now after ≡ now buffer)
+        → length T < p .0 + len → (r ≡ span.Refused 10) × (now after ≡ now buffer)
     -- A buffer that is too short: 13, and it is unchanged.
     pub span-short : (κs : Lfts 2) (p : TextPlace) (len : ℕ) (buffer after : Borrowed) (r : SpanAnswer) → Span κs t p len buffer after r
-        → p .0 + len ≤ length T → length (now buffer) < len → (r ≡ copied.Refused 13) × (now after ≡ now buffer)
+        → p .0 + len ≤ length T → length (now buffer) < len → (r ≡ span.Refused 13) × (now after ≡ now buffer)
 
   -- docs/FORMAT.md, "Count"
   pub record CountAnswers : Type 0 where
     -- A counted byte: how often it occurs in the first i bytes, with the length of the path of place i - 1.
     pub count-of : (κs : Lfts 1) (byte i : ℕ) (r : CountAnswer) → Count κs t byte i r → CountedIn byte (S .counted) → 1 ≤ i → i ≤ length T
-        → (e : ℕ) × LengthOfPath (now t) (S .levels) (i - 1) e × (r ≡ counted.Times (countIn byte (take i T)) e)
+        → (e : ℕ) × LengthOfPath (now t) (S .levels) (i - 1) e × (r ≡ count.Times (countIn byte (take i T)) e)
     -- In 0 bytes: 0, with no block entered.
-    pub count-none : (κs : Lfts 1) (byte : ℕ) (r : CountAnswer) → Count κs t byte 0 r → CountedIn byte (S .counted) → r ≡ counted.Times 0 0
+    pub count-none : (κs : Lfts 1) (byte : ℕ) (r : CountAnswer) → Count κs t byte 0 r → CountedIn byte (S .counted) → r ≡ count.Times 0 0
 
   pub record CountRefuses : Type 0 where
     -- More bytes than the text has: 10.
-    pub count-past : (κs : Lfts 1) (byte i : ℕ) (r : CountAnswer) → Count κs t byte i r → length T < i → r ≡ counted.Refused 10
+    pub count-past : (κs : Lfts 1) (byte i : ℕ) (r : CountAnswer) → Count κs t byte i r → length T < i → r ≡ count.Refused 10
     -- A byte that is not counted: 11.
     pub count-other : (κs : Lfts 1) (byte i : ℕ) (r : CountAnswer) → Count κs t byte i r → i ≤ length T → (CountedIn byte (S .counted) → ⊥)
-        → r ≡ counted.Refused 11
+        → r ≡ count.Refused 11
 
   -- docs/FORMAT.md, "Find"
   pub record FindAnswers : Type 0 where
     -- A counted byte that occurs j times or more: the place of its j-th occurrence, with the length of that place's path.
     pub find-of : (κs : Lfts 1) (byte j : ℕ) (r : FindAnswer) → Find κs t byte j r → CountedIn byte (S .counted) → 1 ≤ j → j ≤ countIn byte T
-        → (e : ℕ) × LengthOfPath (now t) (S .levels) (placeOf byte j T) e × (r ≡ found.At (record { 0 = placeOf byte j T }) e)
+        → (e : ℕ) × LengthOfPath (now t) (S .levels) (placeOf byte j T) e × (r ≡ find.At (record { 0 = placeOf byte j T }) e)
 
   pub record FindRefuses : Type 0 where
     -- A byte that is not counted: 11.
-    pub find-other : (κs : Lfts 1) (byte j : ℕ) (r : FindAnswer) → Find κs t byte j r → (CountedIn byte (S .counted) → ⊥) → r ≡ found.Refused 11
+    pub find-other : (κs : Lfts 1) (byte j : ℕ) (r : FindAnswer) → Find κs t byte j r → (CountedIn byte (S .counted) → ⊥) → r ≡ find.Refused 11
     -- No j-th occurrence: 12.
     pub find-none : (κs : Lfts 1) (byte j : ℕ) (r : FindAnswer) → Find κs t byte j r → CountedIn byte (S .counted) → (1 ≤ j → j ≤ countIn byte T → ⊥)
-        → r ≡ found.Refused 12
+        → r ≡ find.Refused 12
 
   -- docs/FORMAT.md, "Row"
   pub record RowAnswers : Type 0 where
     -- A row of the text, which fits the buffer: its bytes at the buffer's start, the rest of the buffer unchanged.
     pub row-of : (κs : Lfts 2) (q : ℕ) (buffer after : Borrowed) (r : RowAnswer) → Row κs t q buffer after r
         → CountedIn 10 (S .counted) → 1 ≤ q → q ≤ length (rowsOf T) → length (rowOf T q) ≤ length (now buffer)
-        → (r ≡ rows.Bytes (length (rowOf T q))) × (now after ≡ rowOf T q ++ drop (length (rowOf T q)) (now buffer))
+        → (r ≡ row.Bytes (length (rowOf T q))) × (now after ≡ rowOf T q ++ drop (length (rowOf T q)) (now buffer))
 
   pub record RowRefuses : Type 0 where
     -- Byte 10 is not counted: 11, and the buffer is unchanged.
     pub row-other : (κs : Lfts 2) (q : ℕ) (buffer after : Borrowed) (r : RowAnswer) → Row κs t q buffer after r
-        → (CountedIn 10 (S .counted) → ⊥) → (r ≡ rows.Refused 11) × (now after ≡ now buffer)
+        → (CountedIn 10 (S .counted) → ⊥) → (r ≡ row.Refused 11) × (now after ≡ now buffer)
     -- No row of this number: 12, and the buffer is unchanged.
     pub row-none : (κs : Lfts 2) (q : ℕ) (buffer after : Borrowed) (r : RowAnswer) → Row κs t q buffer after r
-        → CountedIn 10 (S .counted) → (1 ≤ q → q ≤ length (rowsOf T) → ⊥) → (r ≡ rows.Refused 12) × (now after ≡ now buffer)
+        → CountedIn 10 (S .counted) → (1 ≤ q → q ≤ length (rowsOf T) → ⊥) → (r ≡ row.Refused 12) × (now after ≡ now buffer)
     -- A buffer that is too short: 13, and it is unchanged.
     pub row-short : (κs : Lfts 2) (q : ℕ) (buffer after : Borrowed) (r : RowAnswer) → Row κs t q buffer after r → CountedIn 10 (S .counted)
-        → 1 ≤ q → q ≤ length (rowsOf T) → length (now buffer) < length (rowOf T q) → (r ≡ rows.Refused 13) × (now after ≡ now buffer)
+        → 1 ≤ q → q ≤ length (rowsOf T) → length (now buffer) < length (rowOf T q) → (r ≡ row.Refused 13) × (now after ≡ now buffer)
 
   -- docs/FORMAT.md, "Places"
   pub record PlacesAnswers : Type 0 where
@@ -189,7 +189,7 @@ module _ (t : Borrowed) (S : Settings) (T : List ℕ) where
     -- The next row after the mark that matches the ranges; if there is none, the mark goes to the number of rows, or stays if it is above.
     pub match-of : (κs : Lfts 2) (ranges : Borrowed) (mark : ℕ) (r : NextRowAnswer) → NextMatch κs t ranges mark r
         → rangesOk (now ranges) ≡ true → CountedIn 10 (S .counted)
-        → r ≡ cond (eqb (nextMatch (now ranges) T mark) 0) (next.Nothing (shownFor (now ranges) T mark .mark)) (next.Row (nextMatch (now ranges) T mark))
+        → r ≡ cond (eqb (nextMatch (now ranges) T mark) 0) (next.Nothing (matchOutcome (now ranges) T mark .mark)) (next.Row (nextMatch (now ranges) T mark))
 
   pub record MatchRefuses : Type 0 where
     -- Ranges that are not ranges of 1 to 10 cuts: 19.
@@ -221,18 +221,18 @@ module _ (t : Borrowed) (S : Settings) (T : List ℕ) where
     -- T is a text by columns: row a of that text, all w bytes, at the buffer's start, the rest of the buffer unchanged.
     pub column-of : (κs : Lfts 2) (w a : ℕ) (buffer after : Borrowed) (r : SpanAnswer) → ByColumns κs t w a buffer after r
         → widthOk w (length T) ≡ true → a < length T / w → w ≤ length (now buffer)
-        → (r ≡ copied.Bytes w 0) × (now after ≡ substring (uncolumns w T) (a * w) w ++ drop w (now buffer))
+        → (r ≡ span.Bytes w 0) × (now after ≡ substring (uncolumns w T) (a * w) w ++ drop w (now buffer))
 
   pub record ColumnRefuses : Type 0 where
     -- Width 0, or the length of the text is no multiple of the width: 20, and the buffer is unchanged.
     pub column-width : (κs : Lfts 2) (w a : ℕ) (buffer after : Borrowed) (r : SpanAnswer) → ByColumns κs t w a buffer after r
-        → widthOk w (length T) ≡ false → (r ≡ copied.Refused 20) × (now after ≡ now buffer)
+        → widthOk w (length T) ≡ false → (r ≡ span.Refused 20) × (now after ≡ now buffer)
     -- A row past the last: 10, and the buffer is unchanged.
     pub column-past : (κs : Lfts 2) (w a : ℕ) (buffer after : Borrowed) (r : SpanAnswer) → ByColumns κs t w a buffer after r
-        → widthOk w (length T) ≡ true → length T / w ≤ a → (r ≡ copied.Refused 10) × (now after ≡ now buffer)
+        → widthOk w (length T) ≡ true → length T / w ≤ a → (r ≡ span.Refused 10) × (now after ≡ now buffer)
     -- A buffer that is too short: 13, and it is unchanged.
     pub column-short : (κs : Lfts 2) (w a : ℕ) (buffer after : Borrowed) (r : SpanAnswer) → ByColumns κs t w a buffer after r
-        → widthOk w (length T) ≡ true → a < length T / w → length (now buffer) < w → (r ≡ copied.Refused 13) × (now after ≡ now buffer)
+        → widthOk w (length T) ≡ true → a < length T / w → length (now buffer) < w → (r ≡ span.Refused 13) × (now after ≡ now buffer)
 
   -- All questions together: T gives the answer to each.
   pub record Answers : Type 0 where
@@ -287,7 +287,7 @@ module _ (t : Borrowed) (S : Settings) (T : List ℕ) where
   -- docs/FORMAT.md, "What is proved": the tree represents T and no other text, and T determines the answer to every question.
   pub record OnlyText : Type 0 where
     -- T fits the tree, and the counts and edges of the tree are right for T.
-    pub stands : Represents (now t) T
+    pub represents : Represents (now t) T
     -- No other text fits the tree.
     pub only : (U : List ℕ) → fits U (now t) ≡ true → U ≡ T
     -- A question that T answers has that answer.
@@ -322,14 +322,14 @@ CompleteBuilder =
     → Build κs text leaf arity levels counted out after r
     → lengthOk (length (now text)) ≡ true → sizesOk (given leaf arity levels (now counted)) ≡ true → countedOk (now counted) ≡ true
     → length (treeOf (given leaf arity levels (now counted)) (now text)) ≤ length (now out)
-    → r ≡ built.Size (length (treeOf (given leaf arity levels (now counted)) (now text)))
+    → r ≡ build.Size (length (treeOf (given leaf arity levels (now counted)) (now text)))
 
 -- Demands 2 and 3, `built-tree`: what build wrote is the block tree of its text; check accepts it; it represents that text alone, which determines the answer
 -- to every question.
 abbrev pub BuiltTree : Type 0
 BuiltTree =
     (κs : Lfts 3) (text : Borrowed) (leaf arity levels : ℕ) (counted out after : Borrowed) (size : ℕ)
-    → Build κs text leaf arity levels counted out after (built.Size size) → (t : Borrowed) → now t ≡ take size (now after)
+    → Build κs text leaf arity levels counted out after (build.Size size) → (t : Borrowed) → now t ≡ take size (now after)
     → (now t ≡ treeOf (given leaf arity levels (now counted)) (now text)) × ((κ : Lfts 1) (r : ℕ) → Check κ t r → r ≡ 0)
     × OnlyText t (given leaf arity levels (now counted)) (now text)
 
@@ -337,7 +337,7 @@ BuiltTree =
 abbrev pub ScannedTree : Type 0
 ScannedTree =
     (κs : Lfts 4) (text : Borrowed) (leaf arity levels : ℕ) (counted words table out after : Borrowed) (size windows : ℕ)
-    → BuildScanned κs text leaf arity levels counted words table out after (scanned.Size size windows) → (t : Borrowed) → now t ≡ take size (now after)
+    → BuildScanned κs text leaf arity levels counted words table out after (build-scanned.Size size windows) → (t : Borrowed) → now t ≡ take size (now after)
     → (windows ≡ windowsOf (given leaf arity levels (now counted)) (now text))
     × (now t ≡ treeOf (given leaf arity levels (now counted)) (now text)) × ((κ : Lfts 1) (r : ℕ) → Check κ t r → r ≡ 0)
     × OnlyText t (given leaf arity levels (now counted)) (now text)

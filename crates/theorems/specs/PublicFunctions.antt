@@ -8,11 +8,11 @@ use Rattle.search.proofs.occurs_earlier as occurs-earlier-code
 use Rattle.build_by_search.proofs.build as build-code
 use Rattle.build_by_scan.proofs.build_scanned as build-scanned-code
 use Rattle.build_by_scan.proofs.scan_words as scan-words-code
-use Rattle.build_size_bound.proofs.size_bound as enough-code
+use Rattle.build_size_bound.proofs.size_bound as size-bound-code
 use Rattle.tree.proofs.check as check-code
 use Rattle.query_access.proofs.byte as byte-code
 use Rattle.query_access.proofs.run as run-code
-use Rattle.query_access.proofs.run_range as run-part-code
+use Rattle.query_access.proofs.run_range as run-range-code
 use Rattle.query_access.proofs.span as span-code
 use Rattle.query_rank.proofs.count as count-code
 use Rattle.query_rank.proofs.uncounted.uncounted as uncounted-code
@@ -23,7 +23,7 @@ use Rattle.query_rows.proofs.row_count as row-count-code
 use Rattle.query_places.proofs.places as places-code
 use Rattle.query_places.proofs.places_words as places-words-code
 use Rattle.query_key_match.proofs.next_match as next-match-code
-use Rattle.query_key_match.proofs.advance_mark as show-code
+use Rattle.query_key_match.proofs.advance_mark as advance-mark-code
 use Rattle.query_prefix.proofs.next_with_prefix as prefix-code
 use Rattle.query_prefix.proofs.next_with_prefix_guided as guided-code
 use Rattle.columns.proofs.to_columns as to-columns-code
@@ -61,7 +61,7 @@ abbrev pub scan-words-function : Function
 scan-words-function = record { routine = scan-words-code.Symbol.routine; signature = scan-words-code.signature; clauses = scan-words-code.spec }
 
 abbrev pub size-bound-function : Function
-size-bound-function = record { routine = enough-code.Symbol.routine; signature = enough-code.signature; clauses = enough-code.spec }
+size-bound-function = record { routine = size-bound-code.Symbol.routine; signature = size-bound-code.signature; clauses = size-bound-code.spec }
 
 abbrev pub check-function : Function
 check-function = record { routine = check-code.Symbol.routine; signature = check-code.signature; clauses = check-code.spec }
@@ -72,8 +72,8 @@ byte-function = record { routine = byte-code.Symbol.routine; signature = byte-co
 abbrev pub run-function : Function
 run-function = record { routine = run-code.Symbol.routine; signature = run-code.signature; clauses = run-code.spec }
 
-abbrev pub run-part-function : Function
-run-part-function = record { routine = run-part-code.Symbol.routine; signature = run-part-code.signature; clauses = run-part-code.spec }
+abbrev pub run-range-function : Function
+run-range-function = record { routine = run-range-code.Symbol.routine; signature = run-range-code.signature; clauses = run-range-code.spec }
 
 abbrev pub span-function : Function
 span-function = record { routine = span-code.Symbol.routine; signature = span-code.signature; clauses = span-code.spec }
@@ -105,8 +105,8 @@ places-words-function = record { routine = places-words-code.Symbol.routine; sig
 abbrev pub next-match-function : Function
 next-match-function = record { routine = next-match-code.Symbol.routine; signature = next-match-code.signature; clauses = next-match-code.spec }
 
-abbrev pub show-function : Function
-show-function = record { routine = show-code.Symbol.routine; signature = show-code.signature; clauses = show-code.spec }
+abbrev pub advance-mark-function : Function
+advance-mark-function = record { routine = advance-mark-code.Symbol.routine; signature = advance-mark-code.signature; clauses = advance-mark-code.spec }
 
 abbrev pub next-row-with-prefix-function : Function
 next-row-with-prefix-function = record { routine = prefix-code.Symbol.routine; signature = prefix-code.signature; clauses = prefix-code.spec }
@@ -171,7 +171,7 @@ functions =
     ∷ check-function
     ∷ byte-function
     ∷ run-function
-    ∷ run-part-function
+    ∷ run-range-function
     ∷ span-function
     ∷ count-function
     ∷ uncounted-function
@@ -182,7 +182,7 @@ functions =
     ∷ places-function
     ∷ places-words-function
     ∷ next-match-function
-    ∷ show-function
+    ∷ advance-mark-function
     ∷ next-row-with-prefix-function
     ∷ next-row-with-prefix-guided-function
     ∷ to-columns-function

@@ -8,7 +8,7 @@ use Rattle.format.specs.Layout.{Settings}
 use Rattle.format.specs.Blocks.{treeOf}
 use Rattle.format.specs.TreeReading.{linksOk, textOf, countsTrue, edgesTrue, headerResult, checkResult}
 use Rattle.format.specs.FittingText.{fits}
-use Rattle.format.specs.CheckResultLaws as verdicts
+use Rattle.format.specs.CheckResultLaws as check-results
 use Rattle.theory_paths.specs.Theorems as paths
 use Rattle.theory_built.specs.BlockSizes.{Taken}
 use Rattle.theory_built.specs.Built.{built, built-accepted}
@@ -23,13 +23,13 @@ pub record Represents (t T : List ℕ) : Type 0 where
 
 module _ (t : List ℕ) where
   -- An accepted tree represents the text that its paths give.
-  pub accepted-stands : checkResult t ≡ 0 → Represents t (textOf t)
-  accepted-stands v = record {
-    header-result = verdicts.accepted-header t v;
-    linked = verdicts.accepted-links t v;
-    fitting = paths.text-fits t (verdicts.accepted-header t v) (verdicts.accepted-links t v);
-    counted = verdicts.accepted-counts t v;
-    edged = verdicts.accepted-edges t v;
+  pub accepted-represents : checkResult t ≡ 0 → Represents t (textOf t)
+  accepted-represents v = record {
+    header-result = check-results.accepted-header t v;
+    linked = check-results.accepted-links t v;
+    fitting = paths.text-fits t (check-results.accepted-header t v) (check-results.accepted-links t v);
+    counted = check-results.accepted-counts t v;
+    edged = check-results.accepted-edges t v;
   }
 
   -- The tree represents no other text: exactly one text fits a tree that passes questions 5 to 8.
@@ -37,14 +37,14 @@ module _ (t : List ℕ) where
   one-text = paths.only-text t
 
   -- A tree that represents some text is accepted.
-  pub stands-accepted : (T : List ℕ) → Represents t T → checkResult t ≡ 0
-  stands-accepted T s =
+  pub represents-accepted : (T : List ℕ) → Represents t T → checkResult t ≡ 0
+  represents-accepted T s =
       let e : T ≡ textOf t = one-text (s .header-result) (s .linked) T (s .fitting) in
-      verdicts.accepted t (s .header-result) (s .linked) (rw e at (s .counted)) (rw e at (s .edged))
+      check-results.accepted t (s .header-result) (s .linked) (rw e at (s .counted)) (rw e at (s .edged))
 
   -- The check accepts bytes exactly if questions 5 to 8 pass, some text fits, and the counts and edges are right for it.
   pub accepts : (checkResult t ≡ 0) ↔ ((T : List ℕ) × Represents t T)
-  accepts = (λ v. (textOf t, accepted-stands v), λ s. stands-accepted (s .0) (s .1))
+  accepts = (λ v. (textOf t, accepted-represents v), λ s. represents-accepted (s .0) (s .1))
 
 -- For every text and all settings that pass questions 1 to 3:
 module _ (S : Settings) (T : List ℕ) (h : Taken S T) where

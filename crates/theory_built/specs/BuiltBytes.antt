@@ -24,9 +24,9 @@ abbrev pub BytesAt : List ℕ → ℕ → ℕ → Type 0
 BytesAt t i v = (r : ℕ) → r < 4 → getD t (i + r) 0 ≡ getD (wordBytes v) r 0
 
 -- The word at i is read there.
-pub stands-word : (t : List ℕ) (i v : ℕ) → BytesAt t i v → v < 4294967296 → wordAt t i ≡ v
+pub bytes-word : (t : List ℕ) (i v : ℕ) → BytesAt t i v → v < 4294967296 → wordAt t i ≡ v
 unfolding wordAt wordBytes
-stands-word t i v s small = rw (first, s 1 (omega arith), s 2 (omega arith), s 3 (omega arith)) (digits v small)
+bytes-word t i v s small = rw (first, s 1 (omega arith), s 2 (omega arith), s 3 (omega arith)) (digits v small)
   where
     first : getD t i 0 ≡ getD (wordBytes v) 0 0
     first = ap (λ (k : ℕ). getD t k 0) (let e : i ≡ i + 0 = omega arith in e) ∙ s 0 (omega arith)
@@ -63,26 +63,26 @@ byte-in (w ∷ ws) B (suc j) r l k =
     rw (words-cons w ws B, e) (next-byte w (wordsBytes ws ++ B) (4 * j + r) ∙ byte-in ws B j r (omega arith) k)
 
 -- Word j of the words ws after A.
-stands-at : (A ws B : List ℕ) (a j : ℕ) → length A ≡ a → j < length ws → BytesAt (A ++ (wordsBytes ws ++ B)) (a + 4 * j) (getD ws j 0)
-stands-at A ws B a j e l r k =
+tree-bytes-at : (A ws B : List ℕ) (a j : ℕ) → length A ≡ a → j < length ws → BytesAt (A ++ (wordsBytes ws ++ B)) (a + 4 * j) (getD ws j 0)
+tree-bytes-at A ws B a j e l r k =
     rw (← e, add-assoc (length A) (4 * j) r) (getD-append-add A (wordsBytes ws ++ B) (4 * j + r) 0 ∙ byte-in ws B j r l k)
 
 module _ (S : Settings) (T : List ℕ) (h : Taken S T) where
   limits : BuiltBounds S T
   limits = bounds S T h
 
-  pub six-stands : (j : ℕ) → j < 6 → BytesAt (treeOf S T) (4 * j) (getD (sixWords S T) j 0)
+  pub six-bytes : (j : ℕ) → j < 6 → BytesAt (treeOf S T) (4 * j) (getD (sixWords S T) j 0)
   unfolding sixWords
-  six-stands j l r k =
+  six-bytes j l r k =
       let e : 4 * j ≡ 0 + 4 * j = omega arith in
-      rw (tree-is S T, e) (stands-at [] (sixWords S T) _ 0 j refl l r k)
+      rw (tree-is S T, e) (tree-bytes-at [] (sixWords S T) _ 0 j refl l r k)
 
-  pub counted-stands : (x : ℕ) → x < maxCounted → getD (treeOf S T) (countedAt + x) 0 ≡ getD (countedPlaces S T) x 0
-  counted-stands x l = counted-place S T h x ∙ List·getD-append (countedPlaces S T) _ 0 x (omega (arith, length-places S T h))
+  pub counted-byte-is : (x : ℕ) → x < maxCounted → getD (treeOf S T) (countedAt + x) 0 ≡ getD (countedPlaces S T) x 0
+  counted-byte-is x l = counted-place S T h x ∙ List·getD-append (countedPlaces S T) _ 0 x (omega (arith, length-places S T h))
 
-  pub level-stands : (j : ℕ) → j < 2 * maxLevels + 2 → BytesAt (treeOf S T) (pairsAt + 4 * j) (getD (levelWordsOf S T) j 0)
-  level-stands j l r k =
-      rw (tree-levels S T h) (stands-at (head S T h)
+  pub level-bytes : (j : ℕ) → j < 2 * maxLevels + 2 → BytesAt (treeOf S T) (pairsAt + 4 * j) (getD (levelWordsOf S T) j 0)
+  level-bytes j l r k =
+      rw (tree-levels S T h) (tree-bytes-at (head S T h)
       (levelWordsOf S T) _ pairsAt j (length-head S T h) (rw (length-levelWordsOf S T (limits .levels-high)) l) r k)
 
   -- Byte x of the record of block i of level l.
@@ -98,17 +98,17 @@ module _ (S : Settings) (T : List ℕ) (h : Taken S T) where
       rw place (record-byte-at S T h j below ∙ record-byte S T l i x e il xl)
 
   -- Word f of it.
-  pub record-stands : (l i f : ℕ) → l < S .levels → i < count S T l → f < recordWords S T
+  pub record-field-bytes : (l i f : ℕ) → l < S .levels → i < count S T l → f < recordWords S T
       → BytesAt (treeOf S T) (offset S T l + i * recordBytes S + 4 * f) (getD (recordAt S T l i) f 0)
-  record-stands l i f e il fl r k =
+  record-field-bytes l i f e il fl r k =
       rw (add-assoc (offset S T l + i * recordBytes S) (4 * f) r)
       (record-at l i (4 * f + r) e il (omega (arith, record-bytes S T))
       ∙ rw (bytes-are S T l i) (byte-in (recordAt S T l i) (edgesIn S T l i) f r (rw (length-record S T l i) fl) k))
 
   -- Byte x of its edges.
-  pub edge-stands : (l i x : ℕ) → l < S .levels → i < count S T l → x < S .leaf + S .leaf
+  pub edge-byte-is : (l i x : ℕ) → l < S .levels → i < count S T l → x < S .leaf + S .leaf
       → getD (treeOf S T) (offset S T l + i * recordBytes S + 4 * recordWords S T + x) 0 ≡ getD (edgesIn S T l i) x 0
-  edge-stands l i x e il xl =
+  edge-byte-is l i x e il xl =
       rw (add-assoc (offset S T l + i * recordBytes S) (4 * recordWords S T) x)
       (record-at l i (4 * recordWords S T + x) e il (omega (arith, record-bytes S T))
       ∙ rw (bytes-are S T l i) (after (wordsBytes (recordAt S T l i))

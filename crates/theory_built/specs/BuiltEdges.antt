@@ -18,7 +18,7 @@ use Rattle.format.specs.TreeReading.{blockEdgesTrue, edgesTrue}
 use Rattle.theory_built.specs.BlockSizes.{Taken}
 use Rattle.theory_built.specs.Structure.{count, start, bytesIn}
 use Rattle.theory_built.specs.BuiltRecords.{edgesIn}
-use Rattle.theory_built.specs.BuiltBytes.{edge-stands}
+use Rattle.theory_built.specs.BuiltBytes.{edge-byte-is}
 use Rattle.theory_built.specs.ReadBack.{read-layout, read-settings, read-levelCount, read-edgesAt, read-start, read-blockLength}
 use Rattle.theory_built.specs.BuiltHeader.{built-header}
 use Rattle.theory_built.specs.BuiltLinks.{levels-are}
@@ -46,7 +46,7 @@ module _ (S : Settings) (T : List ℕ) (h : Taken S T) where
         ext-getD 0 (substring t (at.edgesAt t l i) (m + m))
         (edgesIn S T l i) (length-substring t (at.edgesAt t l i) (m + m) inside ∙ sym (length-edges m (substring T (start S T l i) (bytesIn S T l i))))
         (λ x hx. (let low : x < m + m = rw (length-substring t (at.edgesAt t l i) (m + m) inside) at hx in
-        getD-substring t (at.edgesAt t l i) (m + m) x low ∙ rw (read-edgesAt S T h l i e il) (edge-stands S T h l i x e il low)))
+        getD-substring t (at.edgesAt t l i) (m + m) x low ∙ rw (read-edgesAt S T h l i e il) (edge-byte-is S T h l i x e il low)))
 
     same-edges : substring t (at.edgesAt t l i) (at.settings t .leaf + at.settings t .leaf)
         ≡ edgesOf (at.settings t .leaf) (substring T (at.start t l i) (at.blockLengthAt t l i))

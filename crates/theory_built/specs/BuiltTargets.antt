@@ -14,7 +14,7 @@ use Rattle.text.specs.TextLaws.{leftmost-le, leftmost-same}
 use Rattle.theory_built.specs.OccurrencesLand.{First, Pair}
 use Rattle.theory_built.specs.Descent.{holder, ends-before}
 use Rattle.theory_built.specs.KeptRule.{byteAt, first-leftmost}
-use Rattle.theory_built.specs.Structure.{size, count, start, bytesIn, keptAt, HoldsAt, bytesIn-is, level-at, landing, landed-kept, landed-next}
+use Rattle.theory_built.specs.Structure.{size, count, start, bytesIn, keptAt, HoldsAt, bytesIn-is, level-at, first-held, holder-kept, holder-next-kept}
 
 module _ (S : Settings) (T : List ℕ) where
   -- Where the bytes of block i first occur, and the block that holds that place.
@@ -57,23 +57,23 @@ module _ (S : Settings) (T : List ℕ) where
     not-after : placeOf l i ≤ start S T l i
     not-after = rw (placeOf-is l i) (leftmost-le T (start S T l i) (bytesIn S T l i))
 
-    landed : (j : ℕ) × HoldsAt S T l j (placeOf l i) (bytesIn S T l i)
-    landed = landing S T h l (omega arith) (placeOf l i) (bytesIn S T l i) first some-bytes small
+    held : (j : ℕ) × HoldsAt S T l j (placeOf l i) (bytesIn S T l i)
+    held = first-held S T h l (omega arith) (placeOf l i) (bytesIn S T l i) first some-bytes small
 
-    target-is : targetOf l i ≡ landed .0
+    target-is : targetOf l i ≡ held .0
     unfolding target
     target-is = holder (byteAt T)
-        (length T) (size S T l) (count S T l) (start S T l) (level-at S T h l (omega arith)) (placeOf l i) (bytesIn S T l i) (landed .0) (landed .1)
+        (length T) (size S T l) (count S T l) (start S T l) (level-at S T h l (omega arith)) (placeOf l i) (bytesIn S T l i) (held .0) (held .1)
 
     module _ (points : keptAt S T l i ≡ false) (j : ℕ) (hold : HoldsAt S T l j (placeOf l i) (bytesIn S T l i)) where
       j-kept : keptAt S T l j ≡ true
-      j-kept = landed-kept S T h l (placeOf l i) (bytesIn S T l i) j k first small hold
+      j-kept = holder-kept S T h l (placeOf l i) (bytesIn S T l i) j k first small hold
 
       j-next : Pair (byteAt T) (length T) (size S T l) (count S T l) (start S T l) j → keptAt S T l (suc j) ≡ true
-      j-next = landed-next S T h l (placeOf l i) (bytesIn S T l i) j k first small hold
+      j-next = holder-next-kept S T h l (placeOf l i) (bytesIn S T l i) j k first small hold
 
-      to-landed : PointsTo l i j
-      to-landed = record {
+      to-holder : PointsTo l i j
+      to-holder = record {
         below = hold .below;
         kept = j-kept;
         from = hold .from;
@@ -92,4 +92,4 @@ module _ (S : Settings) (T : List ℕ) where
 
     -- The pointing block's occurrence lies in kept blocks and ends at or before the block's own start.
     pub points-to : keptAt S T l i ≡ false → PointsTo l i (targetOf l i)
-    points-to points = rw target-is (to-landed points (landed .0) (landed .1))
+    points-to points = rw target-is (to-holder points (held .0) (held .1))

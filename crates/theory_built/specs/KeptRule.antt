@@ -1,4 +1,4 @@
--- The rule by which blocks are kept, as the facts that the landing of first occurrences needs.
+-- The rule by which blocks are kept, as the facts from which it follows that first occurrences are in kept blocks.
 use mathlib.Core.List.{List}
 use mathlib.Core.Bool.{true, false, _||_}
 use mathlib.Core.Path.{_≡_, refl, _∙_}

@@ -15,7 +15,7 @@ use Rattle.theory_built.specs.BlockSizes.{Taken, BuiltBounds, bounds}
 use Rattle.theory_built.specs.Structure.{size, count, start, bytesIn, keptAt, bytesIn-is, level-at}
 use Rattle.theory_built.specs.BuiltLeafBytes.{leaves-le}
 use Rattle.theory_built.specs.Pairs.{offset, levelWordsOf, word-count, word-offset, word-none, word-leaf-offset, word-leaf-count}
-use Rattle.theory_built.specs.BuiltBytes.{stands-word, record-stands}
+use Rattle.theory_built.specs.BuiltBytes.{bytes-word, record-field-bytes}
 use Rattle.theory_built.specs.BuiltRecords.{recordAt, recordWords, record-start, record-kind, record-link, record-gap, record-before}
 use Rattle.theory_built.specs.BuiltRecords.{record-inside, record-skip, kindOf, linkOf, gapOf, beforeOf, insideOf, skipOf}
 use Rattle.theory_built.specs.Shape.{sixWords, six-word, countedPlaces, counted-places, level-word, leaf-place}
@@ -117,7 +117,7 @@ module _ (S : Settings) (T : List ℕ) (h : Taken S T) where
   module _ (l i : ℕ) (e : l < S .levels) (il : i < count S T l) where
     read-field : (f : ℕ) → f < recordWords S T → getD (recordAt S T l i) f 0 < 4294967296 → at.field (treeOf S T) l i f ≡ getD (recordAt S T l i) f 0
     unfolding at.field
-    read-field f fl small = rw (read-levelOffset l e, read-recordSize) (stands-word (treeOf S T) _ _ (record-stands S T h l i f e il fl) small)
+    read-field f fl small = rw (read-levelOffset l e, read-recordSize) (bytes-word (treeOf S T) _ _ (record-field-bytes S T h l i f e il fl) small)
 
     pub read-edgesAt : at.edgesAt (treeOf S T) l i ≡ offset S T l + i * recordBytes S + 4 * recordWords S T
     unfolding at.edgesAt recordWords

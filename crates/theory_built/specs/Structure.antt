@@ -1,4 +1,4 @@
--- The levels of the block tree of a text: their blocks, and where first occurrences land.
+-- The levels of the block tree of a text: their blocks, and which of them contain first occurrences.
 use mathlib.Core.List.{List, []}
 use mathlib.Core.Bool.{Bool, true, false, cond}
 use mathlib.Core.Path.{_≡_, refl, ap, _∙_}
@@ -128,12 +128,12 @@ module _ (S : Settings) (T : List ℕ) where
 
     -- A block that holds a first occurrence is kept, and so is the next where they are a pair.
     module _ (l p len i : ℕ) (k : suc l < S .levels) (f : First (byteAt T) (length T) p len) (small : len ≤ size l) (hold : HoldsAt l i p len) where
-      pub landed-kept : keptAt l i ≡ true
-      landed-kept = kept-upper l i k ∙ holds-kept (byteAt T) (length T) (size l) (count l) (start l) p len small f
+      pub holder-kept : keptAt l i ≡ true
+      holder-kept = kept-upper l i k ∙ holds-kept (byteAt T) (length T) (size l) (count l) (start l) p len small f
           (λ i. keptByPairs T (size l) (startsAt S T l) i ≡ true) (marks T (size l) (startsAt S T l)) i hold
 
-      pub landed-next : Pair (byteAt T) (length T) (size l) (count l) (start l) i → keptAt l (suc i) ≡ true
-      landed-next pr = kept-upper l (suc i) k ∙ holds-next (byteAt T) (length T) (size l) (count l) (start l) p len small f
+      pub holder-next-kept : Pair (byteAt T) (length T) (size l) (count l) (start l) i → keptAt l (suc i) ≡ true
+      holder-next-kept pr = kept-upper l (suc i) k ∙ holds-next (byteAt T) (length T) (size l) (count l) (start l) p len small f
           (λ i. keptByPairs T (size l) (startsAt S T l) i ≡ true) (marks T (size l) (startsAt S T l)) i hold pr
 
     -- Level 0 covers the text.
@@ -165,12 +165,12 @@ module _ (S : Settings) (T : List ℕ) where
             rw count-top (lt-pieces (length T) (size 0) (suc i) (size-pos S T h 0) (omega (arith, suc-mul i (size 0), start-top i il))) in
             inr (sl, omega (arith, start-top i il, start-top (suc i) sl, suc-mul i (size 0)))
 
-    -- First occurrences land in kept blocks.
-    pub landing : (l : ℕ) → l < S .levels → (p len : ℕ) → First (byteAt T) (length T) p len → 0 < len → len ≤ size l → (i : ℕ) × HoldsAt l i p len
-    landing zero k p len f some small = holds-top p len some (f .within)
-    landing (suc l) k p len f some small =
+    -- Every level has a block, or two adjacent ones, that contain a first occurrence.
+    pub first-held : (l : ℕ) → l < S .levels → (p len : ℕ) → First (byteAt T) (length T) p len → 0 < len → len ≤ size l → (i : ℕ) × HoldsAt l i p len
+    first-held zero k p len f some small = holds-top p len some (f .within)
+    first-held (suc l) k p len f some small =
         let small′ : len ≤ size l = omega (arith, size-le S T h l k) in
-        let r = landing l (omega arith) p len f some small′ in
+        let r = first-held l (omega arith) p len f some small′ in
         holds-below (byteAt T) (length T) (size l) (count l) (start l) (keptAt l) (widthOf l) (size (suc l)) (count (suc l)) (start (suc l))
         (level-at l (omega arith)) (cut-at l k) p len (r .0) some (f .within) (r .1)
-        (landed-kept l p len (r .0) k f small′ (r .1)) (landed-next l p len (r .0) k f small′ (r .1))
+        (holder-kept l p len (r .0) k f small′ (r .1)) (holder-next-kept l p len (r .0) k f small′ (r .1))

@@ -1,4 +1,4 @@
--- Stretches of the text that counts speak of: in two parts, the leaf bytes of a block, the bytes of a pointing block.
+-- Substrings of the text whose counts are compared: one in two parts, the leaf bytes of a block, the bytes of a pointing block.
 use mathlib.Core.List.{List}
 use mathlib.Core.Bool.{false}
 use mathlib.Core.Path.{_≡_, sym, ap}

@@ -15,13 +15,13 @@ use Rattle.format.specs.Layout as at
 use Rattle.format.specs.TreeReading.{targetBlock, targetPlace, lastLevel, textOf, countsTrue}
 use Rattle.theory_paths.specs.Links.{H, N, b, s, len, Linked}
 use Rattle.theory_paths.specs.BlockStarts.{child, len-pos, target-full}
-use Rattle.theory_paths.specs.PlacesLand.{target}
-use Rattle.theory_counts.specs.CountsLocal.{upLength, handBlock, handPlace, handPlus, upTo, beforeLocal, lastChild, keptInside, keptLocal}
+use Rattle.theory_paths.specs.PlacesResolved.{target}
+use Rattle.theory_counts.specs.CountsLocal.{upLength, holderBlock, holderPlace, holderPlus, upTo, beforeLocal, lastChild, keptInside, keptLocal}
 use Rattle.theory_counts.specs.CountsLocal.{pointingSkip, pointingInside, pointingLocal, blockLocal, levelLocal, countsLocal}
 use Rattle.theory_counts.specs.LevelTrue.{tally, parentPlace, Block, Level, counts-facts, counts-make}
 use Rattle.theory_counts.specs.CountedSubstrings.{tally-none, tally-parts, leaves-tally}
 use Rattle.theory_counts.specs.SiblingCounts.{kept-step, last-child-tally, at-parent, neighbour}
-use Rattle.theory_counts.specs.PointedCounts.{points-hand, handed}
+use Rattle.theory_counts.specs.PointedCounts.{points-holder, holder-counts}
 
 module _ (t : List ℕ) (k : Readable t) (d : Linked t) where
   -- The counts of the levels below l are true.
@@ -38,9 +38,9 @@ module _ (t : List ℕ) (k : Readable t) (d : Linked t) where
       let j = at.link t l i + o / b t (l + 1) in
       let p = o % b t (l + 1) in
       let q = child t k d l i o hl hi kept ho in
-      let w = handed t k d (l + 1) j p c hl (q .below) (q .inside) hc (h (l + 1) (omega arith) hl) in
+      let w = holder-counts t k d (l + 1) j p c hl (q .below) (q .inside) hc (h (l + 1) (omega arith) hl) in
       let ih = up-to below (l + 1)
-      (handBlock t (l + 1) j p) (handPlace t (l + 1) j p) c (omega arith) (w .below) (w .kept) (w .inside) hc (λ m lt hm. h m (omega arith) hm) in
+      (holderBlock t (l + 1) j p) (holderPlace t (l + 1) j p) c (omega arith) (w .below) (w .kept) (w .inside) hc (λ m lt hm. h m (omega arith) hm) in
       omega (arith, ih, w .count, kept-step t k d l i o c hl hi kept ho (h (l + 1) (omega arith) hl j c (q .below) hc))
 
   -- What a block is compared with is what the text gives.
@@ -84,7 +84,7 @@ module _ (t : List ℕ) (k : Readable t) (d : Linked t) where
 
     pub pointing-inside : at.isKept t l i ≡ false → at.inside t l (at.link t l i) c ≡ tally t c (s t l (at.link t l i)) (len t l (at.link t l i))
         → pointingInside t l i c ≡ tally t c (s t l (at.link t l i)) (at.gap t l i) + tally t c (s t l i) (len t l i)
-    unfolding pointingInside handPlus handBlock handPlace lastLevel
+    unfolding pointingInside holderPlus holderBlock holderPlace lastLevel
     pointing-inside un ins =
         let o = len t l i - 1 in
         let pos = len-pos t k d l i hl hi in
@@ -92,7 +92,7 @@ module _ (t : List ℕ) (k : Readable t) (d : Linked t) where
         let w = target t k d l i o hi p (omega arith) in
         let one : o + 1 ≡ len t l i = omega arith in
         let u = up-to (H t - 1 - l) l (targetBlock t l i o) (targetPlace t l i o) c (omega arith) (w .below) (w .kept) (w .inside) hc h in
-        rw un (rw u (rw one at (points-hand t k d l i o c hi un p (omega arith) ins)))
+        rw un (rw u (rw one at (points-holder t k d l i o c hi un p (omega arith) ins)))
 
     -- The counts of the left neighbour are right.
     abbrev LeftTrue : Type 0

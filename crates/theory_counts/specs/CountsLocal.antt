@@ -25,17 +25,17 @@ module _ (t : List ℕ) where
 
   -- The count walk: place o of block i refers to a kept block of its level, which is i itself or a target of i. For a target the skip is subtracted, and the
   -- count inside of the first target is added if the second is entered.
-  unfoldable pub handBlock : ℕ → ℕ → ℕ → ℕ
-  handBlock l i o = cond (at.isKept t l i) i (targetBlock t l i o)
+  unfoldable pub holderBlock : ℕ → ℕ → ℕ → ℕ
+  holderBlock l i o = cond (at.isKept t l i) i (targetBlock t l i o)
 
-  unfoldable pub handPlace : ℕ → ℕ → ℕ → ℕ
-  handPlace l i o = cond (at.isKept t l i) o (targetPlace t l i o)
+  unfoldable pub holderPlace : ℕ → ℕ → ℕ → ℕ
+  holderPlace l i o = cond (at.isKept t l i) o (targetPlace t l i o)
 
-  unfoldable pub handPlus : ℕ → ℕ → ℕ → ℕ → ℕ
-  handPlus l i o c = cond (at.isKept t l i) 0 (cond (ltb (at.gap t l i + o) (at.fullLength t l)) 0 (at.inside t l (at.link t l i) c))
+  unfoldable pub holderPlus : ℕ → ℕ → ℕ → ℕ → ℕ
+  holderPlus l i o c = cond (at.isKept t l i) 0 (cond (ltb (at.gap t l i + o) (at.fullLength t l)) 0 (at.inside t l (at.link t l i) c))
 
-  unfoldable pub handMinus : ℕ → ℕ → ℕ → ℕ
-  handMinus l i c = cond (at.isKept t l i) 0 (at.skip t l i c)
+  unfoldable pub holderMinus : ℕ → ℕ → ℕ → ℕ
+  holderMinus l i c = cond (at.isKept t l i) 0 (at.skip t l i c)
 
   -- How often byte number c occurs in kept block i of level l up to place o, included; the block has `below` levels under it.
   unfoldable pub upTo : ℕ → ℕ → ℕ → ℕ → ℕ → ℕ
@@ -43,7 +43,7 @@ module _ (t : List ℕ) where
   upTo (suc below) l i o c =
       let j = at.link t l i + o / at.fullLength t (l + 1) in
       let p = o % at.fullLength t (l + 1) in
-      at.before t (l + 1) j c + handPlus (l + 1) j p c + upTo below (l + 1) (handBlock (l + 1) j p) (handPlace (l + 1) j p) c - handMinus (l + 1) j c
+      at.before t (l + 1) j c + holderPlus (l + 1) j p c + upTo below (l + 1) (holderBlock (l + 1) j p) (holderPlace (l + 1) j p) c - holderMinus (l + 1) j c
 
   -- Before: 0 at the parent's start, else that of the left neighbour with its inside.
   unfoldable pub beforeLocal : ℕ → ℕ → ℕ → ℕ
@@ -69,7 +69,7 @@ module _ (t : List ℕ) where
   unfoldable pub pointingInside : ℕ → ℕ → ℕ → ℕ
   pointingInside l i c =
       let o = at.blockLengthAt t l i - 1 in
-      handPlus l i o c + upTo (lastLevel t - l) l (handBlock l i o) (handPlace l i o) c
+      holderPlus l i o c + upTo (lastLevel t - l) l (holderBlock l i o) (holderPlace l i o) c
 
   unfoldable pub pointingLocal : ℕ → ℕ → ℕ → Bool
   pointingLocal l i c = eqb (at.skip t l i c) (pointingSkip l i c) && eqb (at.skip t l i c + at.inside t l i c) (pointingInside l i c)

@@ -22,7 +22,7 @@ use Rattle.format.specs.Answers.{total, pathLength}
 use Rattle.theory_paths.specs.Links.{H, N, b, s, len, Pointing, Follows, Linked, pointing-kind}
 use Rattle.theory_paths.specs.BlockStarts.{len-small, len-inside, len-pos, start-below, Parent, in-parent, child, last-kept, leaf-below, target-full}
 use Rattle.theory_paths.specs.BlockStarts.{second-inside}
-use Rattle.theory_paths.specs.PlacesLand.{kept-block, kept-not, pointing-block, from-last, from-kept, from-pointing, target, target-first, target-second}
+use Rattle.theory_paths.specs.PlacesResolved.{kept-block, kept-not, pointing-block, from-last, from-kept, from-pointing, target, target-first, target-second}
 use Rattle.theory_paths.specs.PathWalk.{path-from-holds}
 use Rattle.theory_paths.specs.OneText.{text-length}
 use Rattle.theory_counts.specs.CountsLocal.{byteOf, inLeafBytes}

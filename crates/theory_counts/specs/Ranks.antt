@@ -21,14 +21,14 @@ use Rattle.format.specs.Answers.{pathLength}
 use Rattle.format.specs.Answers.{indexOf, addedAfter, added, takenAfter, taken, lastPlace, leavesReached, countOf, isCounted, numberOfByte, countAnswer}
 use Rattle.theory_paths.specs.Links.{H, N, b, s, len, Linked}
 use Rattle.theory_paths.specs.BlockStarts.{child, len-reach}
-use Rattle.theory_paths.specs.PlacesLand.{kept-block, target, target-first, target-second}
+use Rattle.theory_paths.specs.PlacesResolved.{kept-block, target, target-first, target-second}
 use Rattle.theory_paths.specs.Visits.{Goes, goes}
 use Rattle.theory_paths.specs.PathWalk.{path-holds}
 use Rattle.theory_counts.specs.CountsLocal.{byteOf, inLeafBytes}
 use Rattle.theory_counts.specs.LevelTrue.{tally, parentPlace, Level}
 use Rattle.theory_counts.specs.CountedSubstrings.{tally-parts, leaves-tally}
 use Rattle.theory_counts.specs.SiblingCounts.{kept-step}
-use Rattle.theory_counts.specs.PointedCounts.{points-hand, skip-points}
+use Rattle.theory_counts.specs.PointedCounts.{points-holder, skip-points}
 
 module _ (t : List ℕ) where
   -- The last level's count that a path's end gives.
@@ -175,7 +175,7 @@ module _ (t : List ℕ) where
           leaf-rest c w g (next-level l),
           walked g (omega arith) (q .below) (q .inside),
           kept-step t k d l j y c hl (r .below) (r .kept) (r .inside) (a (l + 1) hl _ c (q .below) hc),
-          points-hand t k d l i o c hi un₁ p ho (a l hl₀ (at.link t l i) c (p .target-below) hc .inside-is),
+          points-holder t k d l i o c hi un₁ p ho (a l hl₀ (at.link t l i) c (p .target-below) hc .inside-is),
           skip-points t k d l i c un₁ (a l hl₀ i c hi hc),
         )
 

@@ -63,8 +63,8 @@ module _ (t : List ℕ) (v : checkResult t ≡ 0) where
 
   -- If questions 11 and 12 pass for find or row, the text has a j-th occurrence.
   module _ (byte j : ℕ) (s : Selected t byte j) where
-    pub stands : Nth byte j (textOf t) 0 (placeOf byte j (textOf t))
-    stands = place-nth byte j (textOf t) (s .low) (rw (total-of-text byte (s .counted)) at (s .high))
+    pub is-nth : Nth byte j (textOf t) 0 (placeOf byte j (textOf t))
+    is-nth = place-nth byte j (textOf t) (s .low) (rw (total-of-text byte (s .counted)) at (s .high))
 
     pub place-below : placeOf byte j (textOf t) < at.textLength t
-    place-below = omega (arith, stands .within, text-length t)
+    place-below = omega (arith, is-nth .within, text-length t)

@@ -8,7 +8,7 @@ use native.Mathlib.Omega.{arith}
 use lib.ListN.{length, length-append}
 use lib.Dec.{leb, ltb}
 use Rattle.format.specs.Layout as at
-use Rattle.format.specs.TreeReading.{Visit, visit, keptBlock, pointingBlock, lands, landBlock, landPlace, landVisits, provided}
+use Rattle.format.specs.TreeReading.{Visit, visit, keptBlock, pointingBlock, resolves, resolvedBlock, resolvedPlace, resolvedVisits, provided}
 use Rattle.format.specs.TreeReading.{Short, led, byEdges, inLeaf, shortFrom, shortOf}
 
 -- What is found was found with at least one block entered, and at most n.
@@ -50,9 +50,9 @@ module _ (t : List ℕ) where
       let q : Short = record { visits = visit l i o ∷ []; from = at.leafOffset t + (at.link t l i + o); size = len; next = 0 } in
       few-allowed 2 (keptBlock t l i && leb (at.link t l i + o + len) (at.leafCount t)) (some q) (few-some 2 q (omega arith) (omega arith))
 
-  lands-two : (l i o : ℕ) → length (landVisits t l i o) ≤ 2
-  unfolding landVisits
-  lands-two l i o = go (keptBlock t l i) _ _
+  resolved-visits-two : (l i o : ℕ) → length (resolvedVisits t l i o) ≤ 2
+  unfolding resolvedVisits
+  resolved-visits-two l i o = go (keptBlock t l i) _ _
     where
       go : (y : Bool) (u v : Visit) → length (cond y (u ∷ []) (u ∷ v ∷ [])) ≤ 2
       go true u v = omega arith
@@ -62,13 +62,14 @@ module _ (t : List ℕ) where
   unfolding shortFrom
   short-few zero l i o len = few-cond 2 (leb (o + len) (at.fullLength t l)) _ _ (leaf-one l i o len) (edges-two l i o)
   short-few (suc below) l i o len =
-      let j = landBlock t l i o in
-      let p = landPlace t l i o in
+      let j = resolvedBlock t l i o in
+      let p = resolvedPlace t l i o in
       let child = at.fullLength t (l + 1) in
       let down = shortFrom t below (l + 1) (at.link t l j + p / child) (p % child) len in
-      let inside : Few (2 * suc below + 2) (provided (lands t l i o) (led (landVisits t l i o) down)) =
-      few-allowed (2 * suc below + 2) (lands t l i o) _ (few-more (2 + (2 * below + 2)) (2 * suc below + 2) _ (omega arith)
-      (few-led (2 * below + 2) 2 (landVisits t l i o) down (lands-two l i o) (short-few below (l + 1) (at.link t l j + p / child) (p % child) len))) in
+      let inside : Few (2 * suc below + 2) (provided (resolves t l i o) (led (resolvedVisits t l i o) down)) =
+      few-allowed (2 * suc below + 2) (resolves t l i o) _ (few-more (2 + (2 * below + 2)) (2 * suc below + 2) _ (omega arith)
+      (few-led (2 * below + 2) 2 (resolvedVisits t l i o) down (resolved-visits-two l i o)
+      (short-few below (l + 1) (at.link t l j + p / child) (p % child) len))) in
       let between : Few (2 * suc below + 2) (provided (pointingBlock t l i) (led (visit l i o ∷ []) (byEdges t l j p))) =
       few-allowed (2 * suc below + 2) (pointingBlock t l i) _ (few-more (1 + 2) (2 * suc below + 2) _ (omega arith)
       (few-led 2 1 (visit l i o ∷ []) (byEdges t l j p) (omega arith) (edges-two l j p))) in

@@ -13,11 +13,11 @@ use lib.Dec.{leb, ltb}
 use Rattle.text.specs.ListLaws.{lt-or-ge, bool-cases, and-right}
 use Rattle.format.specs.Layout as at
 use Rattle.format.specs.LayoutLaws.{Readable, full-pos, edges-inside, leaf-start-inside}
-use Rattle.format.specs.TreeReading.{Visit, visit, keptBlock, pointingBlock, targetPlace, lands, landBlock, landPlace, landVisits, provided}
+use Rattle.format.specs.TreeReading.{Visit, visit, keptBlock, pointingBlock, targetPlace, resolves, resolvedBlock, resolvedPlace, resolvedVisits, provided}
 use Rattle.format.specs.TreeReading.{Short, led, byEdges, inLeaf, shortFrom, shortOf}
 use Rattle.format.specs.ReadAnswerLaws.{ShortSpan}
 use Rattle.theory_paths.specs.Links.{H, N, b}
-use Rattle.theory_paths.specs.PlacesLand.{target-first, target-second}
+use Rattle.theory_paths.specs.PlacesResolved.{target-first, target-second}
 
 -- The len bytes are in the tree in two parts.
 pub record Inside (t : List ℕ) (len : ℕ) (q : Short) : Type 0 where
@@ -76,9 +76,9 @@ module _ (t : List ℕ) (k : Readable t) (two : at.layout t ≡ 2) (x : ℕ) (lo
       }))
 
   -- A place in the target of a pointing block is below its length.
-  land-low : (l i o : ℕ) → o < b t l → pointingBlock t l i ≡ true → landPlace t l i o < b t l
-  unfolding landPlace pointingBlock
-  land-low l i o ho pt = go (bool-cases (keptBlock t l i)) (lt-or-ge (at.gap t l i + o) (b t l))
+  resolved-low : (l i o : ℕ) → o < b t l → pointingBlock t l i ≡ true → resolvedPlace t l i o < b t l
+  unfolding resolvedPlace pointingBlock
+  resolved-low l i o ho pt = go (bool-cases (keptBlock t l i)) (lt-or-ge (at.gap t l i + o) (b t l))
     where
       gap-low : at.gap t l i < b t l
       gap-low = ltb-true _ _ (and-right (ltb i (N t l) && at.isPointing t l i) (ltb (at.gap t l i) (b t l)) pt)
@@ -94,16 +94,16 @@ module _ (t : List ℕ) (k : Readable t) (two : at.layout t ≡ 2) (x : ℕ) (lo
   short-in zero l i o lev ho =
       cond-in (leb (o + x) (b t l)) _ _ (λ y. leaf-in l i o) (λ y. edges-in l i o (omega arith) ho (leb-false (o + x) (b t l) y))
   short-in (suc below) l i o lev ho =
-      let j = landBlock t l i o in
-      let p = landPlace t l i o in
+      let j = resolvedBlock t l i o in
+      let p = resolvedPlace t l i o in
       let c = b t (l + 1) in
       let down = shortFrom t below (l + 1) (at.link t l j + p / c) (p % c) x in
-      let inside : Found (provided (lands t l i o) (led (landVisits t l i o) down)) =
-      allowed-in (lands t l i o) _ (λ y. led-in
-      (landVisits t l i o) down (short-in below (l + 1) (at.link t l j + p / c) (p % c) (omega arith) (mod-lt p (full-pos t k (l + 1))))) in
+      let inside : Found (provided (resolves t l i o) (led (resolvedVisits t l i o) down)) =
+      allowed-in (resolves t l i o) _ (λ y. led-in
+      (resolvedVisits t l i o) down (short-in below (l + 1) (at.link t l j + p / c) (p % c) (omega arith) (mod-lt p (full-pos t k (l + 1))))) in
       let between : leb (p + x) (b t l) ≡ false → Found (provided (pointingBlock t l i) (led (visit l i o ∷ []) (byEdges t l j p))) =
       λ z. allowed-in (pointingBlock t l i)
-      _ (λ y. led-in (visit l i o ∷ []) (byEdges t l j p) (edges-in l j p (omega arith) (land-low l i o ho y) (leb-false (p + x) (b t l) z))) in
+      _ (λ y. led-in (visit l i o ∷ []) (byEdges t l j p) (edges-in l j p (omega arith) (resolved-low l i o ho y) (leb-false (p + x) (b t l) z))) in
       cond-in (leb (o + x) (b t l)) _ _ (λ y. cond-in (leb (p + x) (b t l)) _ _ (λ z. inside) between)
       (λ y. edges-in l i o (omega arith) ho (leb-false (o + x) (b t l) y))
 

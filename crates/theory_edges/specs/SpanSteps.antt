@@ -7,7 +7,7 @@ use Prim.Native.Nat.{ℕ, zero, suc, _+_, _-_, _/_, _%_, _≤_, _<_}
 use borrow.Author.Tests.{lt-ltb, le-leb, lt-leb}
 use lib.Dec.{leb}
 use Rattle.format.specs.Layout as at
-use Rattle.format.specs.TreeReading.{visit, keptBlock, pointingBlock, targetBlock, targetPlace, lands, landBlock, landPlace, landVisits}
+use Rattle.format.specs.TreeReading.{visit, keptBlock, pointingBlock, targetBlock, targetPlace, resolves, resolvedBlock, resolvedPlace, resolvedVisits}
 use Rattle.format.specs.TreeReading.{Short, led, byEdges, inLeaf, shortFrom}
 use Rattle.theory_paths.specs.Links.{N, b}
 
@@ -41,7 +41,7 @@ module _ (t : List ℕ) where
 
     pub kept-step : (below : ℕ) → keptBlock t l i ≡ true
         → shortFrom t (suc below) l i o len ≡ led (visit l i o ∷ []) (shortFrom t below (l + 1) (at.link t l i + o / b t (l + 1)) (o % b t (l + 1)) len)
-    unfolding shortFrom lands landBlock landPlace landVisits
+    unfolding shortFrom resolves resolvedBlock resolvedPlace resolvedVisits
     kept-step below kept = rw (le-leb (o + len) (b t l) inside, kept, le-leb (o + len) (b t l) inside)
 
     -- A pointing block, whose target holds the span, or whose two targets do.
@@ -49,12 +49,12 @@ module _ (t : List ℕ) where
         → keptBlock t l i ≡ false → pointingBlock t l i ≡ true → keptBlock t l (targetBlock t l i o) ≡ true → targetPlace t l i o + len ≤ b t l
         → shortFrom t (suc below) l i o len ≡ led (visit l i o ∷ visit l (targetBlock t l i o) (targetPlace t l i o) ∷ [])
         (shortFrom t below (l + 1) (at.link t l (targetBlock t l i o) + targetPlace t l i o / b t (l + 1)) (targetPlace t l i o % b t (l + 1)) len)
-    unfolding shortFrom lands landBlock landPlace landVisits
+    unfolding shortFrom resolves resolvedBlock resolvedPlace resolvedVisits
     points-step below un pt kept h = rw (le-leb (o + len) (b t l) inside, un, pt, kept, le-leb (targetPlace t l i o + len) (b t l) h)
 
     pub between-step : (below : ℕ) → keptBlock t l i ≡ false → pointingBlock t l i ≡ true → b t l < targetPlace t l i o + len
         → shortFrom t (suc below) l i o len ≡ led (visit l i o ∷ []) (byEdges t l (targetBlock t l i o) (targetPlace t l i o))
-    unfolding shortFrom landBlock landPlace
+    unfolding shortFrom resolvedBlock resolvedPlace
     between-step below un pt h = rw (le-leb (o + len) (b t l) inside, un, pt, lt-leb (targetPlace t l i o + len) (b t l) h)
 
     -- On the last level, and where the walk breaks.
@@ -63,12 +63,12 @@ module _ (t : List ℕ) where
     last-is = rw (le-leb (o + len) (b t l) inside)
 
     pub off-step : (below : ℕ) → keptBlock t l i ≡ false → pointingBlock t l i ≡ false → shortFrom t (suc below) l i o len ≡ none
-    unfolding shortFrom lands
+    unfolding shortFrom resolves
     off-step below un pt =
-        rw (le-leb (o + len) (b t l) inside, un, pt) (cond-same (leb (landPlace t l i o + len) (b t l)))
+        rw (le-leb (o + len) (b t l) inside, un, pt) (cond-same (leb (resolvedPlace t l i o + len) (b t l)))
 
     pub off-target : (below : ℕ)
         → keptBlock t l i ≡ false → pointingBlock t l i ≡ true → keptBlock t l (targetBlock t l i o) ≡ false → targetPlace t l i o + len ≤ b t l
         → shortFrom t (suc below) l i o len ≡ none
-    unfolding shortFrom lands landPlace
+    unfolding shortFrom resolves resolvedPlace
     off-target below un pt off h = rw (le-leb (o + len) (b t l) inside, un, pt, off, le-leb (targetPlace t l i o + len) (b t l) h)

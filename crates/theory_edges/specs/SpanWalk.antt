@@ -18,7 +18,7 @@ use Rattle.format.specs.LayoutLaws.{Readable, full-pos, full-last, full-falls, 
 use Rattle.format.specs.TreeReading.{Visit, visit, targetBlock, targetPlace, Short, led, byEdges, shortFrom, shortOf, shortBytes}
 use Rattle.theory_paths.specs.Links.{H, N, b, s, len, Linked, Pointing, pointing-kind}
 use Rattle.theory_paths.specs.BlockStarts.{len-small, len-end, start-below, child, last-kept, leaf-below}
-use Rattle.theory_paths.specs.PlacesLand.{kept-block, kept-not, pointing-block, target, target-first, target-second}
+use Rattle.theory_paths.specs.PlacesResolved.{kept-block, kept-not, pointing-block, target, target-first, target-second}
 use Rattle.theory_paths.specs.FitsFacts.{Fitting}
 use Rattle.theory_edges.specs.EdgesMatchTree.{Edged}
 use Rattle.theory_edges.specs.SpanSteps.{edges-give, over, last-step, kept-step, points-step, between-step}

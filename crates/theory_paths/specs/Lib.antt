@@ -1,6 +1,6 @@
 pub mod Links
 pub mod BlockStarts
-pub mod PlacesLand
+pub mod PlacesResolved
 pub mod Visits
 pub mod Shift
 pub mod PathWalk

@@ -13,7 +13,7 @@ use Rattle.format.specs.TreeReading.{visit, targetBlock, targetPlace, pathFrom,
 use Rattle.format.specs.FittingText.{fits}
 use Rattle.theory_paths.specs.Links.{H, N, s, len, pointing-kind, points-not-kept, Linked}
 use Rattle.theory_paths.specs.BlockStarts.{len-inside, last-kept, leaf-below}
-use Rattle.theory_paths.specs.PlacesLand.{leaf-entered, from-last, kept-block, kept-not, pointing-block, from-pointing, target}
+use Rattle.theory_paths.specs.PlacesResolved.{leaf-entered, from-last, kept-block, kept-not, pointing-block, from-pointing, target}
 use Rattle.theory_paths.specs.PathWalk.{Carries, walk-text}
 use Rattle.theory_paths.specs.Reach.{reach-leaf}
 use Rattle.theory_paths.specs.FitsFacts.{fits-facts, fits-make}

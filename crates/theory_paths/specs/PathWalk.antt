@@ -13,7 +13,7 @@ use Rattle.format.specs.Layout as at
 use Rattle.format.specs.TreeReading.{Path, Visit, visit, entered, targetBlock, targetPlace, pathFrom, pathOf}
 use Rattle.theory_paths.specs.Links.{H, N, b, s, len, Pointing, Linked}
 use Rattle.theory_paths.specs.BlockStarts.{len-reach, child, last-kept, leaf-below}
-use Rattle.theory_paths.specs.PlacesLand.{kept-block, kept-not, pointing-block, from-last, from-kept, from-pointing, target}
+use Rattle.theory_paths.specs.PlacesResolved.{kept-block, kept-not, pointing-block, from-last, from-kept, from-pointing, target}
 
 module _ (t : List ℕ) (k : Readable t) (d : Linked t) where
   -- A relation of leaf bytes to places of the text that holds at last-level blocks, and that a pointing block takes over from its occurrence.

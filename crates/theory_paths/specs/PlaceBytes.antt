@@ -70,12 +70,12 @@ module _ (t : List ℕ) (r : headerResult t ≡ 0) (p : ℕ) (low : p < at.textL
   pub byte-broken : (byteAnswer t p .number ≡ 0 → ⊥) → byteAnswer t p .number ≡ 14
   byte-broken n = go (pathOf t p) refl
     where
-      said : (o : Option Path) → pathOf t p ≡ o → byteAnswer t p .number ≡ byteOf t o .number
-      said o e = ap (λ (s : Answer). s .number) (byte-path ∙ ap (byteOf t) e)
+      number-is : (o : Option Path) → pathOf t p ≡ o → byteAnswer t p .number ≡ byteOf t o .number
+      number-is o e = ap (λ (s : Answer). s .number) (byte-path ∙ ap (byteOf t) e)
 
       go : (o : Option Path) → pathOf t p ≡ o → byteAnswer t p .number ≡ 14
-      go none e = said none e
-      go (some q) e = absurd (n (said (some q) e))
+      go none e = number-is none e
+      go (some q) e = absurd (n (number-is (some q) e))
 
   -- A result has entered a block, so what has entered none is a refusal.
   pub only-14 : (q : ℕ) → refused q ≡ byteAnswer t p → byteAnswer t p .number ≡ 14

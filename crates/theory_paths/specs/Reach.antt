@@ -9,7 +9,7 @@ use Rattle.format.specs.Layout as at
 use Rattle.format.specs.TreeReading.{Visit, visit, entered, pathFrom, pathOf, leafOf}
 use Rattle.theory_paths.specs.Links.{H, N, b, s, len, Linked}
 use Rattle.theory_paths.specs.BlockStarts.{len-small, Parent, parent, in-parent}
-use Rattle.theory_paths.specs.PlacesLand.{entered-none, entered-twice, leaf-entered, kept-block, from-kept}
+use Rattle.theory_paths.specs.PlacesResolved.{entered-none, entered-twice, leaf-entered, kept-block, from-kept}
 
 module _ (t : List ℕ) where
   -- The visits that lead to place o of block i of level l: of its ancestors, all kept, at the place of the text that this is.
@@ -18,14 +18,15 @@ module _ (t : List ℕ) where
     under : {l i o a j : ℕ} {vs : List Visit}
         → Parent t l i a j → Above l a (j * b t (l + 1) + o) vs → Above (l + 1) i o (vs ++ visit l a (j * b t (l + 1) + o) ∷ [])
 
-  pub record Reached (l i o : ℕ) : Type 0 where
+  -- The path of the place of the text passes through place o of block i of level l, after the visits that lead there.
+  pub record PathReaches (l i o : ℕ) : Type 0 where
     pub visits : List Visit
     pub lead : Above l i o visits
     pub path : pathOf t (s t l i + o) ≡ entered visits (pathFrom t (H t - 1 - l) l i o)
 
   module _ (k : Readable t) (d : Linked t) where
     -- From a parent to its child.
-    reach-next : (l i o a j : ℕ) → l + 1 < H t → o < len t (l + 1) i → Parent t l i a j → Reached l a (j * b t (l + 1) + o) → Reached (l + 1) i o
+    reach-next : (l i o a j : ℕ) → l + 1 < H t → o < len t (l + 1) i → Parent t l i a j → PathReaches l a (j * b t (l + 1) + o) → PathReaches (l + 1) i o
     reach-next l i o a j hl ho p r =
         let x = j * b t (l + 1) + o in
         let h = in-parent t k d l i a j o hl p ho in
@@ -39,7 +40,7 @@ module _ (t : List ℕ) where
           path = rw place (r .path ∙ rw down (entered-twice (r .visits) (visit l a x ∷ []) (pathFrom t below (l + 1) i o)));
         }
 
-    pub reach : (l i o : ℕ) → l < H t → i < N t l → o < len t l i → Reached l i o
+    pub reach : (l i o : ℕ) → l < H t → i < N t l → o < len t l i → PathReaches l i o
     unfolding pathOf
     reach zero i o hl hi ho =
         let small : o < b t 0 = omega (arith, len-small t 0 i) in

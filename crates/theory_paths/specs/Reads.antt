@@ -17,7 +17,7 @@ use Rattle.format.specs.LayoutLaws.{Readable, full-pos}
 use Rattle.format.specs.Answers.{Answer, byteAnswer, leftOver, runAnswer, pathsHold, spanQuestions, bufferAfter, copyRefusal, copyBuffer}
 use Rattle.theory_paths.specs.Links.{H, b}
 use Rattle.theory_paths.specs.Visits.{Goes, goes, goes-leaf}
-use Rattle.theory_paths.specs.Shift.{left-most, left-within, within-left, goes-within, path-further}
+use Rattle.theory_paths.specs.Shift.{left-most, left-in-blocks, in-blocks-left, goes-in-blocks, path-further}
 use Rattle.theory_paths.specs.FitsFacts.{substring-tabulate}
 use Rattle.theory_paths.specs.OneText.{text-length, text-at}
 
@@ -51,15 +51,15 @@ module _ (t : List ℕ) (k : Readable t) (r : headerResult t ≡ 0) (p : ℕ) (h
 
   size-low : 1 ≤ size
   size-low =
-      within-left t (q .visits) (min (at.textLength t - p) (at.leafCount t - q .leaf)) 0
-      (goes-within t (full-pos t k) goes-of-path (mod-lt p (full-pos t k 0))) (omega (arith, goes-leaf t goes-of-path))
+      in-blocks-left t (q .visits) (min (at.textLength t - p) (at.leafCount t - q .leaf)) 0
+      (goes-in-blocks t (full-pos t k) goes-of-path (mod-lt p (full-pos t k 0))) (omega (arith, goes-leaf t goes-of-path))
 
   -- A byte of the run is the text's.
   run-byte : (d : ℕ) → d < size → at.leafByte t (q .leaf + d) ≡ getD (textOf t) (p + d) 0
   run-byte d h =
       let most = min (at.textLength t - p) (at.leafCount t - q .leaf) in
       let less : d < most = omega (arith, left-most t (q .visits) most) in
-      let w = left-within t (q .visits) most d h in
+      let w = left-in-blocks t (q .visits) most d h in
       sym (text-at t (p + d) (omega arith) ∙ ap (leafOf t) (path-further t p d q e w (omega arith)))
 
   part-of-path : Part t p (at.leafOffset t + q .leaf) size

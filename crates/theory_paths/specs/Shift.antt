@@ -16,7 +16,7 @@ use Rattle.format.specs.Layout as at
 use Rattle.format.specs.TreeReading.{Path, Visit, visit, pointingBlock, targetBlock, targetPlace, pathOf}
 use Rattle.format.specs.Answers.{leftOver}
 use Rattle.theory_paths.specs.Links.{H, b, N}
-use Rattle.theory_paths.specs.PlacesLand.{target-first, target-second}
+use Rattle.theory_paths.specs.PlacesResolved.{target-first, target-second}
 use Rattle.theory_paths.specs.Visits.{Goes, ends, down, points, goes, goes-path}
 
 -- A step that stays within a block of c bytes.
@@ -36,10 +36,10 @@ length-further d [] = refl
 length-further d (v ∷ vs) = ap suc (length-further d vs)
 
 module _ (t : List ℕ) where
-  -- d more bytes stay within each block entered
-  abbrev pub Within : ℕ → List Visit → Type 0
-  Within d [] = Unit {0}
-  Within d (v ∷ vs) = (v .place + d < b t (v .level)) × Within d vs
+  -- Each place on a path, shifted by d bytes, stays in its block.
+  abbrev pub ShiftInBlocks : ℕ → List Visit → Type 0
+  ShiftInBlocks d [] = Unit {0}
+  ShiftInBlocks d (v ∷ vs) = (v .place + d < b t (v .level)) × ShiftInBlocks d vs
 
   -- What is left of every block and of `most`.
 
@@ -48,20 +48,20 @@ module _ (t : List ℕ) where
   left-most [] most = omega arith
   left-most (v ∷ vs) most = omega (arith, left-most vs (min most (b t (v .level) - v .place)))
 
-  pub left-within : (vs : List Visit) (most d : ℕ) → d < leftOver t vs most → Within d vs
+  pub left-in-blocks : (vs : List Visit) (most d : ℕ) → d < leftOver t vs most → ShiftInBlocks d vs
   unfolding leftOver
-  left-within [] most d h = tt
-  left-within (v ∷ vs) most d h =
+  left-in-blocks [] most d h = tt
+  left-in-blocks (v ∷ vs) most d h =
       let rest = min most (b t (v .level) - v .place) in
-      (omega (arith, left-most vs rest), left-within vs rest d h)
+      (omega (arith, left-most vs rest), left-in-blocks vs rest d h)
 
-  pub within-left : (vs : List Visit) (most d : ℕ) → Within d vs → d < most → d < leftOver t vs most
+  pub in-blocks-left : (vs : List Visit) (most d : ℕ) → ShiftInBlocks d vs → d < most → d < leftOver t vs most
   unfolding leftOver
-  within-left [] most d w h = h
-  within-left (v ∷ vs) most d w h = within-left vs (min most (b t (v .level) - v .place)) d (w .1) (omega (arith, w .0))
+  in-blocks-left [] most d w h = h
+  in-blocks-left (v ∷ vs) most d w h = in-blocks-left vs (min most (b t (v .level) - v .place)) d (w .1) (omega (arith, w .0))
 
   -- The first block entered is the given one.
-  pub goes-first : {below l i o x : ℕ} {vs : List Visit} (d : ℕ) → Goes t below l i o vs x → Within d vs → o + d < b t l
+  pub goes-first : {below l i o x : ℕ} {vs : List Visit} (d : ℕ) → Goes t below l i o vs x → ShiftInBlocks d vs → o + d < b t l
   goes-first d (ends kept h) w = w .0
   goes-first d (down kept g) w = w .0
   goes-first d (points un pt kept g) w = w .0
@@ -83,7 +83,7 @@ module _ (t : List ℕ) where
           (f .0 ∙ sym (e .0), omega (arith, e .1, f .1))
 
   -- The same blocks are entered, and the end of the path moves with the place.
-  pub shift : {below l i o x : ℕ} {vs : List Visit} (d : ℕ) → Goes t below l i o vs x → Within d vs → x + d < at.leafCount t
+  pub shift : {below l i o x : ℕ} {vs : List Visit} (d : ℕ) → Goes t below l i o vs x → ShiftInBlocks d vs → x + d < at.leafCount t
       → Goes t below l i (o + d) (further d vs) (x + d)
   shift {l = l} {i = i} {o = o} d (ends kept h) w fits = rw (add-assoc (at.link t l i) o d) (ends {o = o + d} kept (omega arith))
   shift {l = l} {i = i} {o = o} {x = x} d (down {below = below} {vs = vs} kept g) w fits =
@@ -100,7 +100,7 @@ module _ (t : List ℕ) where
       rw (e .0, e .1) at go
 
   -- The path of the place d further on.
-  pub path-further : (p d : ℕ) (q : Path) → pathOf t p ≡ some q → Within d (q .visits) → q .leaf + d < at.leafCount t
+  pub path-further : (p d : ℕ) (q : Path) → pathOf t p ≡ some q → ShiftInBlocks d (q .visits) → q .leaf + d < at.leafCount t
       → pathOf t (p + d) ≡ some (record { visits = further d (q .visits); leaf = q .leaf + d })
   unfolding pathOf
   path-further p d q e w fits =
@@ -130,8 +130,8 @@ module _ (t : List ℕ) where
       go (inl k) = omega (arith, target-first t l i o k .1)
       go (inr k) = omega (arith, target-second t l i o k .1, gap-small)
 
-  pub goes-within : {below l i o x : ℕ} {vs : List Visit} → ((j : ℕ) → 0 < b t j) → Goes t below l i o vs x → o < b t l → Within 0 vs
-  goes-within pos (ends kept h) small = (omega arith, tt)
-  goes-within {l = l} {o = o} pos (down kept g) small = (omega arith, goes-within pos g (mod-lt o (pos (l + 1))))
-  goes-within {l = l} {i = i} {o = o} pos (points un pt kept g) small =
-      (omega arith, (omega (arith, target-small l i o pt small), goes-within pos g (mod-lt (targetPlace t l i o) (pos (l + 1)))))
+  pub goes-in-blocks : {below l i o x : ℕ} {vs : List Visit} → ((j : ℕ) → 0 < b t j) → Goes t below l i o vs x → o < b t l → ShiftInBlocks 0 vs
+  goes-in-blocks pos (ends kept h) small = (omega arith, tt)
+  goes-in-blocks {l = l} {o = o} pos (down kept g) small = (omega arith, goes-in-blocks pos g (mod-lt o (pos (l + 1))))
+  goes-in-blocks {l = l} {i = i} {o = o} pos (points un pt kept g) small =
+      (omega arith, (omega (arith, target-small l i o pt small), goes-in-blocks pos g (mod-lt (targetPlace t l i o) (pos (l + 1)))))

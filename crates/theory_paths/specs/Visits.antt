@@ -11,9 +11,9 @@ use lib.ListN.{length}
 use lib.Dec.{ltb}
 use Rattle.text.specs.ListLaws.{and-left, and-right, bool-cases}
 use Rattle.format.specs.Layout as at
-use Rattle.format.specs.TreeReading.{Path, Visit, visit, entered, provided, keptBlock, pointingBlock, targetBlock, targetPlace, lands, pathFrom, pathOf}
+use Rattle.format.specs.TreeReading.{Path, Visit, visit, entered, provided, keptBlock, pointingBlock, targetBlock, targetPlace, resolves, pathFrom, pathOf}
 use Rattle.theory_paths.specs.Links.{b}
-use Rattle.theory_paths.specs.PlacesLand.{from-last, from-kept, from-points}
+use Rattle.theory_paths.specs.PlacesResolved.{from-last, from-kept, from-points}
 
 module _ (t : List ℕ) where
   -- From place o of block i of level l, with `below` levels under it, these blocks are entered and leaf byte x is reached.
@@ -36,12 +36,12 @@ module _ (t : List ℕ) where
   entered-some vs none q h = absurd (let z : _≡_ {A = ℕ} 0 1 = cc in omega arith)
   entered-some vs (some p) q h = (p, refl, cc, cc)
 
-  lands-of : (below l i o : ℕ) (q : Path) → pathFrom t (suc below) l i o ≡ some q
+  resolves-of : (below l i o : ℕ) (q : Path) → pathFrom t (suc below) l i o ≡ some q
       → (keptBlock t l i ≡ true) ⊎ ((keptBlock t l i ≡ false) × (pointingBlock t l i ≡ true) × (keptBlock t l (targetBlock t l i o) ≡ true))
-  unfolding pathFrom lands
-  lands-of below l i o q h = go (bool-cases (keptBlock t l i)) (provided-some (lands t l i o) _ q h .0)
+  unfolding pathFrom resolves
+  resolves-of below l i o q h = go (bool-cases (keptBlock t l i)) (provided-some (resolves t l i o) _ q h .0)
     where
-      go : (keptBlock t l i ≡ true) ⊎ (keptBlock t l i ≡ false) → lands t l i o ≡ true
+      go : (keptBlock t l i ≡ true) ⊎ (keptBlock t l i ≡ false) → resolves t l i o ≡ true
           → (keptBlock t l i ≡ true) ⊎ ((keptBlock t l i ≡ false) × (pointingBlock t l i ≡ true) × (keptBlock t l (targetBlock t l i o) ≡ true))
       go (inl kept) e = inl kept
       go (inr un) e =
@@ -66,7 +66,7 @@ module _ (t : List ℕ) where
       let vs : q .visits ≡ visit l i o ∷ [] = cc in
       let x : q .leaf ≡ at.link t l i + o = cc in
       goes-same 0 l i o _ _ _ _ vs x (ends (and-left (keptBlock t l i) inside (p .0)) (ltb-true _ _ (and-right (keptBlock t l i) inside (p .0))))
-  goes (suc below) l i o q h = go (λ j p. goes below (l + 1) j p) (lands-of below l i o q h)
+  goes (suc below) l i o q h = go (λ j p. goes below (l + 1) j p) (resolves-of below l i o q h)
     where
       go : ((j p : ℕ) (r : Path) → pathFrom t below (l + 1) j p ≡ some r → Goes below (l + 1) j p (r .visits) (r .leaf))
           → (keptBlock t l i ≡ true) ⊎ ((keptBlock t l i ≡ false) × (pointingBlock t l i ≡ true) × (keptBlock t l (targetBlock t l i o) ≡ true))

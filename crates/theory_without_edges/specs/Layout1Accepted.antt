@@ -17,8 +17,8 @@ use Rattle.format.specs.Layout as at
 use Rattle.format.specs.TreeReading.{pathOf, linksOk, textOf, countsTrue, ask, headerResult, checkResult}
 use Rattle.format.specs.FittingText.{fits}
 use Rattle.format.specs.Answers.{byteAnswer}
-use Rattle.format.specs.CheckResultLaws as verdicts
-use Rattle.theory_accepted.specs.AcceptedTrees.{Represents, accepted-stands, one-text}
+use Rattle.format.specs.CheckResultLaws as check-results
+use Rattle.theory_accepted.specs.AcceptedTrees.{Represents, accepted-represents, one-text}
 use Rattle.theory_built.specs.BlockSizes.{Taken}
 use Rattle.theory_built.specs.ReadBack as back
 use Rattle.theory_built.specs.BuiltHeader.{built-header}
@@ -75,7 +75,7 @@ module _ (t : List ℕ) (byte : AllBytes t) where
   -- Any tree that the check accepts.
   module _ (v : checkResult t ≡ 0) where
     r : headerResult t ≡ 0
-    r = verdicts.accepted-header t v
+    r = check-results.accepted-header t v
 
     -- The check accepts the result.
     pub layout1-accepted : checkResult (withoutEdges t) ≡ 0
@@ -83,10 +83,10 @@ module _ (t : List ℕ) (byte : AllBytes t) where
 
     -- The result represents the tree's text, and no other.
     pub layout1-represents : Represents (withoutEdges t) (textOf t)
-    layout1-represents = rw (layout1-text r) at (accepted-stands (withoutEdges t) layout1-accepted)
+    layout1-represents = rw (layout1-text r) at (accepted-represents (withoutEdges t) layout1-accepted)
 
     pub layout1-only : (T : List ℕ) → fits T (withoutEdges t) ≡ true → T ≡ textOf t
-    layout1-only T f = one-text (withoutEdges t) (layout1-header r) (verdicts.accepted-links (withoutEdges t) layout1-accepted) T f ∙ layout1-text r
+    layout1-only T f = one-text (withoutEdges t) (layout1-header r) (check-results.accepted-links (withoutEdges t) layout1-accepted) T f ∙ layout1-text r
 
 -- The size: header, words of every record, leaf bytes. A tree of layout 2 is larger by two edges of the leaf length for each block.
 module _ (t : List ℕ) (r : headerResult t ≡ 0) where

@@ -23,7 +23,7 @@ use Rattle.theory_built.specs.Gather.{concat-suc, in-part}
 use Rattle.theory_built.specs.BuiltRecords.{recordAt, bytesAt, edgesIn, bytes-are, records, recordWords, length-record}
 use Rattle.theory_built.specs.BuiltRecords.{record-bytes, record-byte, length-records}
 use Rattle.theory_built.specs.Shape.{sixWords, countedPlaces, length-places, record-byte-at, leaf-place, tree-length}
-use Rattle.theory_built.specs.BuiltBytes.{BytesAt, six-stands, counted-stands, level-stands}
+use Rattle.theory_built.specs.BuiltBytes.{BytesAt, six-bytes, counted-byte-is, level-bytes}
 use Rattle.theory_built.specs.ReadBack as back
 use Rattle.theory_built.specs.BuiltHeader.{built-header}
 use Rattle.theory_without_edges.specs.WithoutEdges.{edgelessLayout, layout1RecordSize, layout1Offset, layout1Header, recordCount}
@@ -181,7 +181,7 @@ module _ (S : Settings) (T : List ℕ) (h : Taken S T) where
   -- A word that is the same in both layouts.
   kept-word : (j : ℕ) → j < 2 * maxLevels + 2 → ((r : ℕ) → r < 4 → bytes.Kept t k (pairsAt + 4 * j + r)) → getD old j 0 ≡ getD new j 0
       → BytesAt (withoutEdges t) (pairsAt + 4 * j) (getD new j 0)
-  kept-word j jl stays same r m = bytes.kept-byte t k (pairsAt + 4 * j + r) (stays r m) ∙ level-stands S T h j jl r m ∙ rw same
+  kept-word j jl stays same r m = bytes.kept-byte t k (pairsAt + 4 * j + r) (stays r m) ∙ level-bytes S T h j jl r m ∙ rw same
 
   few : S .levels ≤ maxLevels
   few = limits .levels-high
@@ -219,7 +219,7 @@ module _ (S : Settings) (T : List ℕ) (h : Taken S T) where
 
       go : (l < S .levels) ⊎ (S .levels ≤ l) → BytesAt (withoutEdges t) (pairsAt + 4 * suc (2 * l)) (getD new (suc (2 * l)) 0)
       go (inl y) =
-          rw (words.word-offset edgelessLayout S T few l y, ← place, ← offset-layout1 l (omega arith)) (bytes.offset-stands t k l (rw levels-are y))
+          rw (words.word-offset edgelessLayout S T few l y, ← place, ← offset-layout1 l (omega arith)) (bytes.offset-bytes t k l (rw levels-are y))
       go (inr y) =
           kept-word (suc (2 * l)) (omega arith) (stays y)
           (pairs.word-none S T few (suc (2 * l)) (omega arith) (omega arith)
@@ -228,7 +228,7 @@ module _ (S : Settings) (T : List ℕ) (h : Taken S T) where
   leaf-offset-word : BytesAt (withoutEdges t) (pairsAt + 4 * (2 * maxLevels)) (getD new (2 * maxLevels) 0)
   leaf-offset-word =
       rw (words.word-leaf-offset edgelessLayout S T few, ← offset-layout1 (S .levels) (omega arith))
-      (rw levels-are at (bytes.leaf-offset-stands t k))
+      (rw levels-are at (bytes.leaf-offset-bytes t k))
 
   leaf-count-word : BytesAt (withoutEdges t) (pairsAt + 4 * (2 * maxLevels + 1)) (getD new (2 * maxLevels + 1) 0)
   leaf-count-word =
@@ -264,13 +264,13 @@ module _ (S : Settings) (T : List ℕ) (h : Taken S T) where
 
   six-word : (j : ℕ) → j < 6 → BytesAt (withoutEdges t) (4 * j) (getD six j 0)
   unfolding sixWords
-  six-word zero jl = bytes.layout-stands t k
+  six-word zero jl = bytes.layout-bytes t k
   six-word (suc j) jl = λ r m. bytes.kept-byte t k (4 * suc j + r) record {
     inside = omega arith;
     not-layout = omega arith;
     not-leaves = λ a b. omega arith;
     not-offset = λ x z a b. omega arith;
-  } ∙ six-stands S T h (suc j) jl r m
+  } ∙ six-bytes S T h (suc j) jl r m
 
   counted-byte : (x : ℕ) → x < maxCounted → getD (withoutEdges t) (countedAt + x) 0 ≡ getD (countedPlaces S T) x 0
   counted-byte x xl = bytes.kept-byte t k (countedAt + x) record {
@@ -278,7 +278,7 @@ module _ (S : Settings) (T : List ℕ) (h : Taken S T) where
     not-layout = omega arith;
     not-leaves = λ a b. omega arith;
     not-offset = λ l z a b. omega arith;
-  } ∙ counted-stands S T h x xl
+  } ∙ counted-byte-is S T h x xl
 
   header-is : headerIn edgelessLayout S T ≡ wordsBytes six ++ countedPlaces S T ++ wordsBytes new
   unfolding headerIn countedPlaces wordsIn offsetIn

@@ -42,11 +42,11 @@ module _ (t : List ℕ) where
       getD-setWord-other (offsetsIn t n h) (offsetAt n) (layout1Offset t n) x (λ a b. out n (omega arith) a b)
       ∙ offsets-other n h x (λ l below a b. out l (omega arith) a b)
 
-  offsets-stand : (n : ℕ) (h : List ℕ) → n ≤ maxLevels → length h ≡ headerLength → (l : ℕ) → l < n
+  offsets-bytes : (n : ℕ) (h : List ℕ) → n ≤ maxLevels → length h ≡ headerLength → (l : ℕ) → l < n
       → BytesAt (offsetsIn t n h) (offsetAt l) (layout1Offset t l)
   unfolding offsetsIn
-  offsets-stand zero h few long l below = absurd (let z : ⊥ = omega arith in z)
-  offsets-stand (suc n) h few long l below = go (below-suc l n below) (offsets-stand n h (omega arith) long l)
+  offsets-bytes zero h few long l below = absurd (let z : ⊥ = omega arith in z)
+  offsets-bytes (suc n) h few long l below = go (below-suc l n below) (offsets-bytes n h (omega arith) long l)
     where
       go : (l < n) ⊎ (l ≡ n) → (l < n → BytesAt (offsetsIn t n h) (offsetAt l) (layout1Offset t l))
           → BytesAt (setWord (offsetsIn t n h) (offsetAt n) (layout1Offset t n)) (offsetAt l) (layout1Offset t l)
@@ -100,9 +100,9 @@ module _ (t : List ℕ) where
     in-front : (i v : ℕ) → i + 4 ≤ headerLength → BytesAt (layout1Header t) i v → BytesAt (withoutEdges t) i v
     in-front i v fits s r l = front (i + r) (omega arith) ∙ s r l
 
-    pub layout-stands : BytesAt (withoutEdges t) layoutAt edgelessLayout
+    pub layout-bytes : BytesAt (withoutEdges t) layoutAt edgelessLayout
     unfolding layout1Header
-    layout-stands = in-front layoutAt edgelessLayout (omega arith) here
+    layout-bytes = in-front layoutAt edgelessLayout (omega arith) here
       where
         here : BytesAt (layout1Header t) layoutAt edgelessLayout
         here r l =
@@ -110,18 +110,18 @@ module _ (t : List ℕ) where
             ∙ offsets-other H marked (layoutAt + r) (λ x h a b. omega arith)
             ∙ written-word start layoutAt edgelessLayout (omega (arith, long)) r l
 
-    pub offset-stands : (l : ℕ) → l < H → BytesAt (withoutEdges t) (offsetAt l) (layout1Offset t l)
+    pub offset-bytes : (l : ℕ) → l < H → BytesAt (withoutEdges t) (offsetAt l) (layout1Offset t l)
     unfolding layout1Header
-    offset-stands l h = in-front (offsetAt l) (layout1Offset t l) (omega (arith, k .bounds .levels-high)) here
+    offset-bytes l h = in-front (offsetAt l) (layout1Offset t l) (omega (arith, k .bounds .levels-high)) here
       where
         here : BytesAt (layout1Header t) (offsetAt l) (layout1Offset t l)
         here r m =
             getD-setWord-other (offsetsIn t H marked) leafOffsetAt (layout1Offset t H) (offsetAt l + r) (λ a b. omega (arith, k .bounds .levels-high))
-            ∙ offsets-stand H marked (k .bounds .levels-high) long-marked l h r m
+            ∙ offsets-bytes H marked (k .bounds .levels-high) long-marked l h r m
 
-    pub leaf-offset-stands : BytesAt (withoutEdges t) leafOffsetAt (layout1Offset t H)
+    pub leaf-offset-bytes : BytesAt (withoutEdges t) leafOffsetAt (layout1Offset t H)
     unfolding layout1Header
-    leaf-offset-stands = in-front leafOffsetAt (layout1Offset t H) (omega arith) here
+    leaf-offset-bytes = in-front leafOffsetAt (layout1Offset t H) (omega arith) here
       where
         here : BytesAt (layout1Header t) leafOffsetAt (layout1Offset t H)
         here = written-word (offsetsIn t H marked) leafOffsetAt (layout1Offset t H) (omega (arith, long-offsets))

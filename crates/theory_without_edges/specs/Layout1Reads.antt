@@ -19,7 +19,7 @@ use Rattle.format.specs.Layout.{layoutAt, textLengthAt, leafAt, arityAt, levels
 use Rattle.format.specs.Layout.{leafCountAt, headerLength}
 use Rattle.format.specs.Layout as at
 use Rattle.format.specs.TreeReading.{headerResult}
-use Rattle.theory_built.specs.BuiltBytes.{stands-word}
+use Rattle.theory_built.specs.BuiltBytes.{bytes-word}
 use Rattle.theory_without_edges.specs.WithoutEdges.{edgelessLayout, layout1RecordSize, layout1Offset, withoutEdges}
 use Rattle.theory_without_edges.specs.Layout1Sizes as sizes
 use Rattle.theory_without_edges.specs.Layout1Bytes as bytes
@@ -44,7 +44,7 @@ module _ (t : List ℕ) (k : Readable t) (small : at.leafOffset t < 4294967296) 
 
   pub read-layout : at.layout u ≡ edgelessLayout
   unfolding at.layout
-  read-layout = stands-word u layoutAt edgelessLayout (bytes.layout-stands t k) (omega arith)
+  read-layout = bytes-word u layoutAt edgelessLayout (bytes.layout-bytes t k) (omega arith)
 
   read-textLength : at.textLength u ≡ at.textLength t
   unfolding at.textLength
@@ -100,12 +100,12 @@ module _ (t : List ℕ) (k : Readable t) (small : at.leafOffset t < 4294967296) 
   pub read-levelOffset : (l : ℕ) → l < H → at.levelOffset u l ≡ layout1Offset t l
   unfolding at.levelOffset
   read-levelOffset l h =
-      stands-word u (offsetAt l) (layout1Offset t l) (bytes.offset-stands t k l h) (omega (arith, sizes.offset-falls t k l (omega arith)))
+      bytes-word u (offsetAt l) (layout1Offset t l) (bytes.offset-bytes t k l h) (omega (arith, sizes.offset-falls t k l (omega arith)))
 
   pub read-leafOffset : at.leafOffset u ≡ layout1Offset t H
   unfolding at.leafOffset
   read-leafOffset =
-      stands-word u leafOffsetAt (layout1Offset t H) (bytes.leaf-offset-stands t k) (omega (arith, sizes.offset-falls t k H (omega arith)))
+      bytes-word u leafOffsetAt (layout1Offset t H) (bytes.leaf-offset-bytes t k) (omega (arith, sizes.offset-falls t k H (omega arith)))
 
   pub read-leafCount : at.leafCount u ≡ at.leafCount t
   unfolding at.leafCount

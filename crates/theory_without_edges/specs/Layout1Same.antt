@@ -26,18 +26,18 @@ digits-of a b c d w ha hb hc hd is =
     let fourth : w / 16777216 ≡ d = omega arith in
     (omega arith, rw second (omega arith), rw third (omega arith), rw fourth (omega arith))
 
-pub word-stands : (t : List ℕ) → AllBytes t → (i w : ℕ) → wordAt t i ≡ w → BytesAt t i w
+pub word-bytes : (t : List ℕ) → AllBytes t → (i w : ℕ) → wordAt t i ≡ w → BytesAt t i w
 unfolding wordAt wordBytes
-word-stands t byte i w is zero l =
+word-bytes t byte i w is zero l =
     let e : i + 0 ≡ i = omega arith in
     rw e (digits-of (getD t i 0) (getD t (i + 1) 0) (getD t (i + 2) 0) (getD t (i + 3) 0) w (byte i) (byte (i + 1)) (byte (i + 2)) (byte (i + 3)) is .0)
-word-stands t byte i w is (suc zero) l =
+word-bytes t byte i w is (suc zero) l =
     digits-of (getD t i 0) (getD t (i + 1) 0) (getD t (i + 2) 0) (getD t (i + 3) 0) w (byte i) (byte (i + 1)) (byte (i + 2)) (byte (i + 3)) is .1
-word-stands t byte i w is (suc (suc zero)) l =
+word-bytes t byte i w is (suc (suc zero)) l =
     digits-of (getD t i 0) (getD t (i + 1) 0) (getD t (i + 2) 0) (getD t (i + 3) 0) w (byte i) (byte (i + 1)) (byte (i + 2)) (byte (i + 3)) is .2
-word-stands t byte i w is (suc (suc (suc zero))) l =
+word-bytes t byte i w is (suc (suc (suc zero))) l =
     digits-of (getD t i 0) (getD t (i + 1) 0) (getD t (i + 2) 0) (getD t (i + 3) 0) w (byte i) (byte (i + 1)) (byte (i + 2)) (byte (i + 3)) is .3
-word-stands t byte i w is (suc (suc (suc (suc r)))) l = absurd (let z : ⊥ = omega arith in z)
+word-bytes t byte i w is (suc (suc (suc (suc r)))) l = absurd (let z : ⊥ = omega arith in z)
 
 module _ (t : List ℕ) (byte : AllBytes t) (k : Readable t) (edgeless : at.layout t ≡ 1) where
   abbrev u : List ℕ
@@ -60,19 +60,19 @@ module _ (t : List ℕ) (byte : AllBytes t) (k : Readable t) (edgeless : at.layo
   anew : (i v : ℕ) → BytesAt u i v → wordAt t i ≡ v → (x : ℕ) → i ≤ x → x < i + 4 → getD u x 0 ≡ getD t x 0
   anew i v s is x lo hi =
       let e : i + (x - i) ≡ x = omega arith in
-      rw e at (s (x - i) (omega arith) ∙ sym (word-stands t byte i v is (x - i) (omega arith)))
+      rw e at (s (x - i) (omega arith) ∙ sym (word-bytes t byte i v is (x - i) (omega arith)))
 
   layout-anew : (x : ℕ) → x < 4 → getD u x 0 ≡ getD t x 0
   unfolding at.layout
-  layout-anew x h = anew layoutAt 1 (bytes.layout-stands t k) edgeless x (omega arith) (omega arith)
+  layout-anew x h = anew layoutAt 1 (bytes.layout-bytes t k) edgeless x (omega arith) (omega arith)
 
   leaf-anew : (x : ℕ) → leafOffsetAt ≤ x → x < leafOffsetAt + 4 → getD u x 0 ≡ getD t x 0
   unfolding at.leafOffset
-  leaf-anew x lo hi = anew leafOffsetAt (layout1Offset t H) (bytes.leaf-offset-stands t k) (sym leaf-same) x lo hi
+  leaf-anew x lo hi = anew leafOffsetAt (layout1Offset t H) (bytes.leaf-offset-bytes t k) (sym leaf-same) x lo hi
 
   offset-anew : (l : ℕ) → l < H → (x : ℕ) → offsetAt l ≤ x → x < offsetAt l + 4 → getD u x 0 ≡ getD t x 0
   unfolding at.levelOffset
-  offset-anew l h x lo hi = anew (offsetAt l) (layout1Offset t l) (bytes.offset-stands t k l h) (sym (offset-same l h)) x lo hi
+  offset-anew l h x lo hi = anew (offsetAt l) (layout1Offset t l) (bytes.offset-bytes t k l h) (sym (offset-same l h)) x lo hi
 
   header-byte : (x : ℕ) → x < headerLength → getD u x 0 ≡ getD t x 0
   header-byte x h =

@@ -12,14 +12,14 @@ use lib.Dec.{ltb}
 use Rattle.text.specs.ListLaws.{bool-cases, bool-clash, lt-or-ge, and-left, and-right, tabulate-ext}
 use Rattle.format.specs.LayoutLaws.{Readable}
 use Rattle.format.specs.Layout as at
-use Rattle.format.specs.TreeReading.{Path, entered, keptBlock, pointingBlock, targetBlock, targetPlace, landBlock, landPlace, landVisits, lands}
+use Rattle.format.specs.TreeReading.{Path, entered, keptBlock, pointingBlock, targetBlock, targetPlace, resolvedBlock, resolvedPlace, resolvedVisits, resolves}
 use Rattle.format.specs.TreeReading.{pathFrom, pathOf, leafOf, textOf, headerResult}
 use Rattle.format.specs.Answers.{byteOf, byteAnswer}
 use Rattle.theory_paths.specs.Links.{H, N, b}
 use Rattle.theory_without_edges.specs.TreesAgree as agree
 use Rattle.theory_without_edges.specs.TreesAgree.{Agree}
 
--- A block number past the table has no landing.
+-- A block number past the table is no block: none of its places resolves to a kept block.
 module _ (t : List ℕ) (l i : ℕ) (past : N t l ≤ i) where
   kept-past : keptBlock t l i ≡ false
   unfolding keptBlock
@@ -29,18 +29,18 @@ module _ (t : List ℕ) (l i : ℕ) (past : N t l ≤ i) where
   unfolding pointingBlock
   pointing-past = rw (le-ltb i (N t l) past)
 
-  lands-past : (o : ℕ) → lands t l i o ≡ false
-  unfolding lands
-  lands-past o = rw (kept-past, pointing-past)
+  resolves-past : (o : ℕ) → resolves t l i o ≡ false
+  unfolding resolves
+  resolves-past o = rw (kept-past, pointing-past)
 
--- A place lands on a kept block of the table.
+-- The kept block that a place resolves to is in the table.
 kept-inside : (t : List ℕ) (l i : ℕ) → keptBlock t l i ≡ true → i < N t l
 unfolding keptBlock
 kept-inside t l i h = ltb-true i (N t l) (and-left (ltb i (N t l)) (at.isKept t l i) h)
 
-land-kept : (t : List ℕ) (l i o : ℕ) → lands t l i o ≡ true → landBlock t l i o < N t l
-unfolding lands landBlock
-land-kept t l i o h = go (bool-cases (keptBlock t l i))
+resolved-kept : (t : List ℕ) (l i o : ℕ) → resolves t l i o ≡ true → resolvedBlock t l i o < N t l
+unfolding resolves resolvedBlock
+resolved-kept t l i o h = go (bool-cases (keptBlock t l i))
   where
     go : (keptBlock t l i ≡ true) ⊎ (keptBlock t l i ≡ false) → cond (keptBlock t l i) i (targetBlock t l i o) < N t l
     go (inl y) = rw y (kept-inside t l i y)
@@ -69,9 +69,10 @@ module _ (t u : List ℕ) (k : Readable t) (g : Agree t u) where
       rw (agree.gap-is t u k g l i hl hi, agree.full-is t u k g l),
     )
 
-    land-in : (o : ℕ) → (landBlock u l i o ≡ landBlock t l i o) × (landPlace u l i o ≡ landPlace t l i o) × (landVisits u l i o ≡ landVisits t l i o)
-    unfolding landBlock landPlace landVisits
-    land-in o =
+    resolved-in : (o : ℕ)
+        → (resolvedBlock u l i o ≡ resolvedBlock t l i o) × (resolvedPlace u l i o ≡ resolvedPlace t l i o) × (resolvedVisits u l i o ≡ resolvedVisits t l i o)
+    unfolding resolvedBlock resolvedPlace resolvedVisits
+    resolved-in o =
         (rw (kept-in, target-in o .0), rw (kept-in, target-in o .1), rw (kept-in, target-in o .0, target-in o .1))
 
   past-too : (l i : ℕ) → l < H t → N t l ≤ i → N u l ≤ i
@@ -84,16 +85,16 @@ module _ (t u : List ℕ) (k : Readable t) (g : Agree t u) where
       go (inl h) = kept-in l i hl h
       go (inr h) = kept-past u l i (past-too l i hl h) ∙ sym (kept-past t l i h)
 
-  lands-in : (l i o : ℕ) → l < H t → i < N t l → lands u l i o ≡ lands t l i o
-  unfolding lands
-  lands-in l i o hl hi = rw (kept-in l i hl hi, pointing-in l i hl hi, target-in l i hl hi o .0, kept-same l (targetBlock t l i o) hl)
+  resolves-in : (l i o : ℕ) → l < H t → i < N t l → resolves u l i o ≡ resolves t l i o
+  unfolding resolves
+  resolves-in l i o hl hi = rw (kept-in l i hl hi, pointing-in l i hl hi, target-in l i hl hi o .0, kept-same l (targetBlock t l i o) hl)
 
-  lands-same : (l i o : ℕ) → l < H t → lands u l i o ≡ lands t l i o
-  lands-same l i o hl = go (lt-or-ge i (N t l))
+  resolves-same : (l i o : ℕ) → l < H t → resolves u l i o ≡ resolves t l i o
+  resolves-same l i o hl = go (lt-or-ge i (N t l))
     where
-      go : (i < N t l) ⊎ (N t l ≤ i) → lands u l i o ≡ lands t l i o
-      go (inl h) = lands-in l i o hl h
-      go (inr h) = lands-past u l i (past-too l i hl h) o ∙ sym (lands-past t l i h o)
+      go : (i < N t l) ⊎ (N t l ≤ i) → resolves u l i o ≡ resolves t l i o
+      go (inl h) = resolves-in l i o hl h
+      go (inr h) = resolves-past u l i (past-too l i hl h) o ∙ sym (resolves-past t l i h o)
 
   last-in : (l i o : ℕ) → l < H t → i < N t l → pathFrom u 0 l i o ≡ pathFrom t 0 l i o
   unfolding pathFrom
@@ -103,25 +104,25 @@ module _ (t u : List ℕ) (k : Readable t) (g : Agree t u) where
   unfolding pathFrom
   last-past v l i o past = rw (kept-past v l i past)
 
-  breaks : (v : List ℕ) (below l i o : ℕ) → lands v l i o ≡ false → pathFrom v (suc below) l i o ≡ none
+  breaks : (v : List ℕ) (below l i o : ℕ) → resolves v l i o ≡ false → pathFrom v (suc below) l i o ≡ none
   unfolding pathFrom
   breaks v below l i o e = rw e
 
-  below-same : (below l i o : ℕ) → l + suc below < H t → lands t l i o ≡ true → i < N t l
+  below-same : (below l i o : ℕ) → l + suc below < H t → resolves t l i o ≡ true → i < N t l
       → ((j p : ℕ) → pathFrom u below (l + 1) j p ≡ pathFrom t below (l + 1) j p) → pathFrom u (suc below) l i o ≡ pathFrom t (suc below) l i o
   unfolding pathFrom
   below-same below l i o deep e hi rest =
       let hl : l < H t = omega arith in
-      let q = land-in l i hl hi o in
-      let j = landBlock t l i o in
+      let q = resolved-in l i hl hi o in
+      let j = resolvedBlock t l i o in
       rw (
-        lands-same l i o hl,
+        resolves-same l i o hl,
         q .0,
         q .1,
         q .2,
-        agree.link-is t u k g l j hl (land-kept t l i o e),
+        agree.link-is t u k g l j hl (resolved-kept t l i o e),
         agree.full-is t u k g (l + 1),
-        rest (at.link t l j + landPlace t l i o / b t (l + 1)) (landPlace t l i o % b t (l + 1)),
+        rest (at.link t l j + resolvedPlace t l i o / b t (l + 1)) (resolvedPlace t l i o % b t (l + 1)),
       )
 
   from-same : (below l i o : ℕ) → l + below < H t → pathFrom u below l i o ≡ pathFrom t below l i o
@@ -133,16 +134,16 @@ module _ (t u : List ℕ) (k : Readable t) (g : Agree t u) where
       go : (i < N t l) ⊎ (N t l ≤ i) → pathFrom u 0 l i o ≡ pathFrom t 0 l i o
       go (inl h) = last-in l i o hl h
       go (inr h) = last-past u l i o (past-too l i hl h) ∙ sym (last-past t l i o h)
-  from-same (suc below) l i o deep = go (bool-cases (lands t l i o)) (lt-or-ge i (N t l)) (λ j p. from-same below (l + 1) j p (omega arith))
+  from-same (suc below) l i o deep = go (bool-cases (resolves t l i o)) (lt-or-ge i (N t l)) (λ j p. from-same below (l + 1) j p (omega arith))
     where
       hl : l < H t
       hl = omega arith
 
-      go : (lands t l i o ≡ true) ⊎ (lands t l i o ≡ false) → (i < N t l) ⊎ (N t l ≤ i)
+      go : (resolves t l i o ≡ true) ⊎ (resolves t l i o ≡ false) → (i < N t l) ⊎ (N t l ≤ i)
           → ((j p : ℕ) → pathFrom u below (l + 1) j p ≡ pathFrom t below (l + 1) j p) → pathFrom u (suc below) l i o ≡ pathFrom t (suc below) l i o
       go (inl e) (inl h) rest = below-same below l i o deep e h rest
-      go (inl e) (inr h) rest = bool-clash (lands t l i o) e (lands-past t l i h o)
-      go (inr e) y rest = breaks u below l i o (lands-same l i o hl ∙ e) ∙ sym (breaks t below l i o e)
+      go (inl e) (inr h) rest = bool-clash (resolves t l i o) e (resolves-past t l i h o)
+      go (inr e) y rest = breaks u below l i o (resolves-same l i o hl ∙ e) ∙ sym (breaks t below l i o e)
 
   -- Every place has the same path, broken or not.
   pub path-same : (p : ℕ) → pathOf u p ≡ pathOf t p

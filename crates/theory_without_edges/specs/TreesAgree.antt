@@ -12,7 +12,7 @@ use Rattle.format.specs.Layout.{startField, kindField, linkField, gapField, bef
 use Rattle.format.specs.LayoutLaws.{fieldCount, Readable, header-facts}
 use Rattle.format.specs.Layout as at
 use Rattle.format.specs.TreeReading.{lastLevel, widthAt, textOf, countsTrue, headerResult, checkResult}
-use Rattle.format.specs.CheckResultLaws as verdicts
+use Rattle.format.specs.CheckResultLaws as check-results
 use Rattle.theory_paths.specs.Links.{H, N, b, s, len, Kept, Follows, Pointing, Linked, linked-facts, points-not-kept}
 use Rattle.theory_paths.specs.FitsFacts.{Fitting, fits-facts, fits-make}
 use Rattle.theory_paths.specs.OneText as one
@@ -229,15 +229,15 @@ module _ (t u : List ℕ) (k : Readable t) (g : Agree t u) where
 -- If the check accepts t, it accepts every tree of layout 1 that passes questions 5 to 7 and agrees with t, and the same text fits.
 module _ (t u : List ℕ) (v : checkResult t ≡ 0) (r : headerResult u ≡ 0) (edgeless : at.layout u ≡ 1) (g : Agree t u) where
   k : Readable t
-  k = header-facts t (verdicts.accepted-header t v)
+  k = header-facts t (check-results.accepted-header t v)
 
   d : Linked t
-  d = linked-facts t (verdicts.accepted-links t v)
+  d = linked-facts t (check-results.accepted-links t v)
 
   pub agree-same-text : textOf u ≡ textOf t
   agree-same-text = agree-text t u k g d (header-facts u r)
 
   pub agree-accepted : checkResult u ≡ 0
   agree-accepted =
-      verdicts.accepted u r (linked-make u (agree-linked t u k g d)) (agree-counts t u k g d (header-facts u r) (verdicts.accepted-counts t v))
-      (verdicts.no-edges (textOf u) u edgeless)
+      check-results.accepted u r (linked-make u (agree-linked t u k g d)) (agree-counts t u k g d (header-facts u r) (check-results.accepted-counts t v))
+      (check-results.no-edges (textOf u) u edgeless)

@@ -8,7 +8,7 @@ use Rattle.text.specs.ListLaws.{bool-cases, bool-clash}
 use Rattle.format.specs.LayoutLaws.{Readable, header-facts}
 use Rattle.format.specs.Layout as at
 use Rattle.format.specs.TreeReading.{linksOk, textOf, countsTrue, edgesTrue, ask, headerResult, checkResult}
-use Rattle.format.specs.CheckResultLaws as verdicts
+use Rattle.format.specs.CheckResultLaws as check-results
 use Rattle.theory_paths.specs.Links.{linked-facts}
 use Rattle.theory_without_edges.specs.LinksMade.{linked-make}
 use Rattle.theory_without_edges.specs.TreesAgree as agree
@@ -59,7 +59,7 @@ and-true false = refl
 
 pub checked-same : (t u : List ℕ) → headerResult t ≡ 0 → headerResult u ≡ 0 → at.layout u ≡ 1 → Agree t u
     → checkResult u ≡ ask 8 (linksOk t) (ask 9 (countsTrue (textOf t) t) 0)
-checked-same t u r r₁ edgeless g = verdicts.checked-header u r₁ ∙ go (bool-cases (linksOk t))
+checked-same t u r r₁ edgeless g = check-results.checked-header u r₁ ∙ go (bool-cases (linksOk t))
   where
     k : Readable t
     k = header-facts t r
@@ -70,5 +70,5 @@ checked-same t u r r₁ edgeless g = verdicts.checked-header u r₁ ∙ go (bool
     go : (linksOk t ≡ true) ⊎ (linksOk t ≡ false)
         → ask 8 (linksOk u) (ask 9 (countsTrue (textOf u) u && edgesTrue (textOf u) u) 0) ≡ ask 8 (linksOk t) (ask 9 (countsTrue (textOf t) t) 0)
     go (inl l) =
-        rw (links-same t u k k₁ g, l, verdicts.no-edges (textOf u) u edgeless, and-true (countsTrue (textOf u) u), counts-same t u k k₁ g l)
+        rw (links-same t u k k₁ g, l, check-results.no-edges (textOf u) u edgeless, and-true (countsTrue (textOf u) u), counts-same t u k k₁ g l)
     go (inr l) = rw (links-same t u k k₁ g, l)

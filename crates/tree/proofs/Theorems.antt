@@ -20,7 +20,7 @@ use Rattle.format.specs.TreeReading.{Path, pathOf, textOf, checkResult}
 use Rattle.format.specs.FittingText.{fits}
 use Rattle.format.specs.AnswerLaws.{asks-pass}
 use Rattle.theory_built.specs.BlockSizes.{Taken}
-use Rattle.theory_accepted.specs.AcceptedTrees.{Represents, accepts, one-text, built-text, built-checked, accepted-stands}
+use Rattle.theory_accepted.specs.AcceptedTrees.{Represents, accepts, one-text, built-text, built-checked, accepted-represents}
 use Rattle.theory_paths.specs.Theorems as paths
 use Rattle.theory_edges.specs.Theorems as edges
 use Rattle.build_by_search.specs.declared.BuildAnswer.{BuildAnswer}
@@ -95,14 +95,14 @@ module _ (κs : Lfts 3) (text : RefT (List ℕ)) (leaf arity levels : ℕ) (coun
   pub build-text : textOf tree ≡ T
   build-text = rw build-writes (built-text S T (taken S T before passed))
 
-  stands : Represents tree (textOf tree)
-  stands = accepted-stands tree build-accepted
+  represents : Represents tree (textOf tree)
+  represents = accepted-represents tree build-accepted
 
   -- Demand 2, byte: at each place it returns the text's byte and the length of the path, and is not refused.
   pub build-byte : (p : ℕ) → p < at.textLength tree
       → (q : Path) × (pathOf tree p ≡ some q) × (byteAnswer tree p ≡ record { number = 0; value = getD T p 0; entered = length (q .visits) })
   build-byte p h =
-      let w = paths.byte-of-text tree (stands .header-result) (stands .linked) p h in
+      let w = paths.byte-of-text tree (represents .header-result) (represents .linked) p h in
       (w .0, w .1, rw build-text at (w .2))
 
   -- Demand 2, span: it copies the bytes of the text.

@@ -10,7 +10,7 @@ use borrow.Author.Tests.{lt-ltb, le-ltb}
 use lib.Dec.{ltb}
 use Rattle.text.specs.ListLaws.{bool-cases}
 use Rattle.format.specs.Layout as at
-use Rattle.format.specs.TreeReading.{Visit, visit, keptBlock, pointingBlock, targetBlock, targetPlace, landBlock, landPlace, landVisits, lands}
+use Rattle.format.specs.TreeReading.{Visit, visit, keptBlock, pointingBlock, targetBlock, targetPlace, resolvedBlock, resolvedPlace, resolvedVisits, resolves}
 use Rattle.theory_paths.specs.Links.{b, N}
 use Rattle.walk_path.specs.Above.{Above, enteredAbove, providedAbove, aboveFrom}
 
@@ -37,26 +37,26 @@ module _ (t : List ℕ) where
 
   pub above-kept : (n l i o : ℕ) → keptBlock t l i ≡ true
       → aboveFrom t (suc n) l i o ≡ enteredAbove (visit l i o ∷ []) (aboveFrom t n (l + 1) (at.link t l i + o / b t (l + 1)) (o % b t (l + 1)))
-  unfolding aboveFrom lands landBlock landPlace landVisits
+  unfolding aboveFrom resolves resolvedBlock resolvedPlace resolvedVisits
   above-kept n l i o kept = rw kept
 
   pub above-points : (n l i o : ℕ) → keptBlock t l i ≡ false → pointingBlock t l i ≡ true → keptBlock t l (targetBlock t l i o) ≡ true
       → aboveFrom t (suc n) l i o ≡ enteredAbove (visit l i o ∷ visit l (targetBlock t l i o) (targetPlace t l i o) ∷ [])
       (aboveFrom t n (l + 1) (at.link t l (targetBlock t l i o) + targetPlace t l i o / b t (l + 1)) (targetPlace t l i o % b t (l + 1)))
-  unfolding aboveFrom lands landBlock landPlace landVisits
+  unfolding aboveFrom resolves resolvedBlock resolvedPlace resolvedVisits
   above-points n l i o un pt kept = rw (un, pt, kept)
 
   -- A pointing block's path is its target's, with one visit more.
   pub above-pointing : (n l i o : ℕ) → keptBlock t l i ≡ false → pointingBlock t l i ≡ true → keptBlock t l (targetBlock t l i o) ≡ true
       → aboveFrom t (suc n) l i o ≡ enteredAbove (visit l i o ∷ []) (aboveFrom t (suc n) l (targetBlock t l i o) (targetPlace t l i o))
-  unfolding aboveFrom lands landBlock landPlace landVisits
+  unfolding aboveFrom resolves resolvedBlock resolvedPlace resolvedVisits
   above-pointing n l i o un pt kept =
       rw (un, pt, kept) (sym (above-twice (visit l i o ∷ []) (visit l (targetBlock t l i o) (targetPlace t l i o) ∷ [])
       (aboveFrom t n (l + 1) (at.link t l (targetBlock t l i o) + targetPlace t l i o / b t (l + 1)) (targetPlace t l i o % b t (l + 1)))))
 
   pub above-off : (n l i o : ℕ) → keptBlock t l i ≡ false → (pointingBlock t l i ≡ true → keptBlock t l (targetBlock t l i o) ≡ false)
       → aboveFrom t (suc n) l i o ≡ none
-  unfolding aboveFrom lands
+  unfolding aboveFrom resolves
   above-off n l i o un apart = go (bool-cases (pointingBlock t l i))
     where
       go : (pointingBlock t l i ≡ true) ⊎ (pointingBlock t l i ≡ false) → aboveFrom t (suc n) l i o ≡ none
@@ -64,7 +64,7 @@ module _ (t : List ℕ) where
       go (inr pt) = rw (un, pt)
 
   pub above-past : (n l i o : ℕ) → N t l ≤ i → aboveFrom t n l i o ≡ none
-  unfolding aboveFrom lands keptBlock pointingBlock
+  unfolding aboveFrom resolves keptBlock pointingBlock
   above-past zero l i o past = rw (le-ltb i (N t l) past)
   above-past (suc n) l i o past = rw (le-ltb i (N t l) past)
 

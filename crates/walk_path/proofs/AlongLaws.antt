@@ -14,8 +14,8 @@ use Rattle.format.specs.Layout as at
 use Rattle.format.specs.LayoutLaws.{Readable, full-pos}
 use Rattle.format.specs.TreeReading.{Path, Visit, visit, entered, keptBlock, pointingBlock, targetBlock, targetPlace, pathFrom, pathOf}
 use Rattle.theory_paths.specs.Links.{b, H, N}
-use Rattle.theory_paths.specs.PlacesLand.{entered-none, entered-twice, from-kept, from-points}
-use Rattle.theory_paths.specs.Shift.{step-div, step-mod, further, Within, target-step}
+use Rattle.theory_paths.specs.PlacesResolved.{entered-none, entered-twice, from-kept, from-points}
+use Rattle.theory_paths.specs.Shift.{step-div, step-mod, further, ShiftInBlocks, target-step}
 use Rattle.walk_path.specs.Above.{Above, enteredAbove, providedAbove, aboveFrom, aboveOf, throughLast}
 use Rattle.walk_path.proofs.AboveLaws.{above-last, above-kept, above-points, above-off, above-past, above-some, provided-above, Lands, lands-cases}
 use Rattle.walk_path.proofs.WalkLaws.{from-past, from-off-lands}
@@ -99,7 +99,7 @@ module _ (t : List ℕ) where
 
   -- A step to the right that stays within every block above the last level.
   above-shift : ((j : ℕ) → 0 < b t j) → (n l L base o d : ℕ) → l + n ≡ L
-      → (a : Above) → aboveFrom t n l (base + o / b t l) (o % b t l) ≡ some a → Within t d (a .visits) → a .block + (a .place + d) / b t L < N t L
+      → (a : Above) → aboveFrom t n l (base + o / b t l) (o % b t l) ≡ some a → ShiftInBlocks t d (a .visits) → a .block + (a .place + d) / b t L < N t L
       → aboveFrom t n l (base + (o + d) / b t l) ((o + d) % b t l) ≡ some (shifted L d a)
   above-shift pos zero l L base o d s a e w in-table = last-shift {l = l} (pos l) L base o d (omega arith) a (last-above l _ _ a e) in-table
   above-shift pos (suc n) l L base o d s a e w in-table = go (λ q p c f. above-shift pos n (l + 1) L q p d (omega arith) c f) (lands-cases t l i p)
@@ -110,7 +110,7 @@ module _ (t : List ℕ) where
       p : ℕ
       p = o % b t l
 
-      go : ((q x : ℕ) (c : Above) → aboveFrom t n (l + 1) (q + x / b t (l + 1)) (x % b t (l + 1)) ≡ some c → Within t d (c .visits)
+      go : ((q x : ℕ) (c : Above) → aboveFrom t n (l + 1) (q + x / b t (l + 1)) (x % b t (l + 1)) ≡ some c → ShiftInBlocks t d (c .visits)
           → c .block + (c .place + d) / b t L < N t L
           → aboveFrom t n (l + 1) (q + (x + d) / b t (l + 1)) ((x + d) % b t (l + 1)) ≡ some (shifted L d c))
           → Lands t l i p ⊎ ((keptBlock t l i ≡ false) × (pointingBlock t l i ≡ true → keptBlock t l (targetBlock t l i p) ≡ false))
@@ -118,7 +118,7 @@ module _ (t : List ℕ) where
       go rest (inl (inl kept)) =
           let c = b t (l + 1) in
           let y = above-some (visit l i p ∷ []) (aboveFrom t n (l + 1) (at.link t l i + p / c) (p % c)) a (sym (above-kept t n l i p kept) ∙ e) in
-          let v : Within t d (visit l i p ∷ y .0 .visits) = rw (y .2) at w in
+          let v : ShiftInBlocks t d (visit l i p ∷ y .0 .visits) = rw (y .2) at w in
           let on = rest (at.link t l i) p (y .0) (y .1) (v .1) (same-table L d (a .block) (a .place) _ _ (y .3) (y .4) in-table) in
           rw (step-div o d (b t l) (v .0), step-mod o d (b t l) (v .0))
           (above-kept t n l i (p + d) kept ∙ ap (enteredAbove (visit l i (p + d) ∷ [])) on
@@ -129,7 +129,7 @@ module _ (t : List ℕ) where
           let z = targetPlace t l i p in
           let vs : List Visit = visit l i p ∷ visit l j z ∷ [] in
           let y = above-some vs (aboveFrom t n (l + 1) (at.link t l j + z / c) (z % c)) a (sym (above-points t n l i p (x .0) (x .1) (x .2)) ∙ e) in
-          let v : Within t d (visit l i p ∷ visit l j z ∷ y .0 .visits) = rw (y .2) at w in
+          let v : ShiftInBlocks t d (visit l i p ∷ visit l j z ∷ y .0 .visits) = rw (y .2) at w in
           let on = rest (at.link t l j) z (y .0) (y .1) (v .1 .1) (same-table L d (a .block) (a .place) _ _ (y .3) (y .4) in-table) in
           let f = target-step t l i p d (v .1 .0) in
           let past = above-points t n l i (p + d) (x .0) (x .1) (rw (f .0) (x .2)) in
@@ -183,7 +183,7 @@ module _ (t : List ℕ) where
     unfolding pathOf aboveOf
     path-of-above p = path-through (H t - 1) 0 (p / b t 0) (p % b t 0) (omega (arith, k .bounds .levels-low))
 
-    pub above-along : (p d : ℕ) (a : Above) → aboveOf t p ≡ some a → Within t d (a .visits) → a .block + (a .place + d) / b t (H t - 1) < N t (H t - 1)
+    pub above-along : (p d : ℕ) (a : Above) → aboveOf t p ≡ some a → ShiftInBlocks t d (a .visits) → a .block + (a .place + d) / b t (H t - 1) < N t (H t - 1)
         → aboveOf t (p + d) ≡ some (shifted (H t - 1) d a)
     unfolding aboveOf
     above-along p d a e w in-table =

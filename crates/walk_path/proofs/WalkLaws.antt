@@ -13,7 +13,7 @@ use Rattle.text.specs.ListLaws.{lt-or-ge, bool-cases, and-left, and-right}
 use Rattle.format.specs.Layout.{maxText, maxLevels}
 use Rattle.format.specs.Layout as at
 use Rattle.format.specs.LayoutLaws.{byte-inside, size-low, full-last}
-use Rattle.format.specs.TreeReading.{visit, keptBlock, pointingBlock, targetBlock, targetPlace, lands, pathFrom}
+use Rattle.format.specs.TreeReading.{visit, keptBlock, pointingBlock, targetBlock, targetPlace, resolves, pathFrom}
 use Rattle.format.specs.Answers.{leftOver}
 use Rattle.theory_paths.specs.Shift.{target-small}
 use Rattle.layout.specs.declared.place.BlockNumber.{BlockNumber}
@@ -26,8 +26,8 @@ use Rattle.walk_steps.specs.declared.BlockAt.the-variants as arrived
 use Rattle.walk_path.specs.declared.WalkState.{WalkState}
 use Rattle.walk_path.specs.declared.WalkAnswer.{WalkAnswer}
 use Rattle.walk_path.specs.declared.WalkAnswer.the-variants.{At, Broken}
-use Rattle.walk_steps.specs.Steps.{OnLevel, Pointing, nextAt, childAt, landAt}
-use Rattle.walk_steps.proofs.NextLaws.{next-kept, next-points, next-off, level-below, child-at, child-off, land-at, land-off}
+use Rattle.walk_steps.specs.Steps.{OnLevel, Pointing, blockKindAt, childAt, resolvedTarget}
+use Rattle.walk_steps.proofs.NextLaws.{next-kept, next-points, next-off, level-below, child-at, child-off, resolved-at, resolved-off}
 use Rattle.walk_steps.proofs.StepLaws.{b-pos, b-small, first-there, kept-in}
 use Rattle.walk_path.specs.declared.Landing.{Landing}
 use Rattle.walk_path.specs.declared.Landing.the-variants as landed
@@ -37,25 +37,25 @@ use Rattle.walk_path.proofs.AboveLaws.{above-last, above-kept, above-po
 
 -- What is carried.
 
-pub onward-is : (trail : WalkState) (here left : ℕ) → left ≡ min (trail .left) here → record { entered = trail .entered + 1; left = left } ≡ onward trail here
+pub onward-is : (state : WalkState) (here left : ℕ) → left ≡ min (state .left) here → record { entered = state .entered + 1; left = left } ≡ onward state here
 unfolding onward
-onward-is trail here left e = rw e
+onward-is state here left e = rw e
 
 -- A block entered first is carried on.
-pub walked-enter : (t : List ℕ) (trail : WalkState) (l i o : ℕ) (r : Option Above)
-    → walked t (onward trail (at.fullLength t l - o)) r ≡ walked t trail (enteredAbove (visit l i o ∷ []) r)
+pub walked-enter : (t : List ℕ) (state : WalkState) (l i o : ℕ) (r : Option Above)
+    → walked t (onward state (at.fullLength t l - o)) r ≡ walked t state (enteredAbove (visit l i o ∷ []) r)
 unfolding walked onward leftOver
-walked-enter t trail l i o none = refl
-walked-enter t trail l i o (some a) =
-    let left = leftOver t (a .visits) (min (trail .left) (at.fullLength t l - o)) in
-    let e : trail .entered + 1 + length (a .visits) ≡ trail .entered + length (visit l i o ∷ a .visits) = omega arith in
-    ap (λ (n : ℕ). At (record { block = record { 0 = a .block }; place = record { 0 = a .place }; trail = record { entered = n; left = left } })) e
+walked-enter t state l i o none = refl
+walked-enter t state l i o (some a) =
+    let left = leftOver t (a .visits) (min (state .left) (at.fullLength t l - o)) in
+    let e : state .entered + 1 + length (a .visits) ≡ state .entered + length (visit l i o ∷ a .visits) = omega arith in
+    ap (λ (n : ℕ). At (record { block = record { 0 = a .block }; place = record { 0 = a .place }; state = record { entered = n; left = left } })) e
 
 -- Paths that break.
 
 module _ (t : List ℕ) where
   pub from-off : (n l i o : ℕ) → keptBlock t l i ≡ false → pointingBlock t l i ≡ false → pathFrom t n l i o ≡ none
-  unfolding pathFrom lands
+  unfolding pathFrom resolves
   from-off zero l i o k p = rw k
   from-off (suc n) l i o k p = rw (k, p)
 
@@ -69,7 +69,7 @@ module _ (t : List ℕ) where
 
   pub from-no-target : (n l i o : ℕ)
       → keptBlock t l i ≡ false → keptBlock t l (targetBlock t l i o) ≡ false → pointingBlock t l i ≡ true → pathFrom t (suc n) l i o ≡ none
-  unfolding pathFrom lands
+  unfolding pathFrom resolves
   from-no-target n l i o k z p = rw (k, p, z)
 
   pub from-off-lands : (n l i o : ℕ)
@@ -92,7 +92,7 @@ broken-word = refl
 
 pub packed-word : (i o entered left : ℕ) → i < 268435456 → o < 256 → entered < 16 → left ≤ maxText
     → walkedIn (i + 268435456 * (o + 256 * (entered + 16 * left)))
-    ≡ At (record { block = record { 0 = i }; place = record { 0 = o }; trail = record { entered = entered; left = left } })
+    ≡ At (record { block = record { 0 = i }; place = record { 0 = o }; state = record { entered = entered; left = left } })
 unfolding walkedIn
 packed-word i o entered left small low few short =
     let w = i + 268435456 * (o + 256 * (entered + 16 * left)) in
@@ -110,7 +110,7 @@ pub unpacked-word : (w : ℕ) → (w ≡ 18446744073709551615 → ⊥)
     → At (record {
       block = record { 0 = w % 268435456 };
       place = record { 0 = w / 268435456 % 256 };
-      trail = record { entered = w / 68719476736 % 16; left = w / 1099511627776 };
+      state = record { entered = w / 68719476736 % 16; left = w / 1099511627776 };
     }) ≡ walkedIn w
 unfolding walkedIn
 unpacked-word w ne = rw (ne-eqb w 18446744073709551615 ne)
@@ -126,36 +126,36 @@ module _ (t : List ℕ) (size level b i o entered : ℕ) (k : KeptAt t size leve
       → (below : ℕ) → below ≡ b / at.settings t .arity → (OnLevel t size (level + 1) below) × (i < at.levelCount t level)
   asks-child down below b-is = (rw b-is (level-below t size level b (k .on) down), kept-in t level i (k .kept))
 
-module _ (t : List ℕ) (size level b i o : ℕ) (trail : WalkState) (k : KeptAt t size level b i o (trail .entered)) where
+module _ (t : List ℕ) (size level b i o : ℕ) (state : WalkState) (k : KeptAt t size level b i o (state .entered)) where
   -- What is left fits a word.
-  pub left-fits : (on : WalkState) → on ≡ onward trail (b - o) → on .left ≤ maxText
+  pub left-fits : (on : WalkState) → on ≡ onward state (b - o) → on .left ≤ maxText
   unfolding onward
   left-fits on e =
-      let l : on .left ≡ min (trail .left) (b - o) = ap (λ (y : WalkState). y .left) e in
+      let l : on .left ≡ min (state .left) (b - o) = ap (λ (y : WalkState). y .left) e in
       omega (arith, b-small t size level b (k .on))
 
   module _ (down : level + 1 ≡ at.settings t .levels → ⊥) (below : ℕ) (b-is : below ≡ b / at.settings t .arity) (on : WalkState)
-      (on-is : on ≡ onward trail (b - o))
+      (on-is : on ≡ onward state (b - o))
       (x : BlockAt) (x-is : x ≡ childAt t (level + 1) (at.link t level i + o / below) (o % below)) where
     lower : OnLevel t size (level + 1) below
-    lower = asks-child t size level b i o (trail .entered) k down below b-is .0
+    lower = asks-child t size level b i o (state .entered) k down below b-is .0
 
     -- The path goes on with the child.
     kept-down : (r : WalkAnswer) → r ≡ walked t on (aboveFrom t (at.settings t .levels - 1 - (level + 1)) (level + 1) (at.link t level i + o / below)
         (o % below))
-        → r ≡ walked t trail (aboveFrom t (at.settings t .levels - 1 - level) level i o)
+        → r ≡ walked t state (aboveFrom t (at.settings t .levels - 1 - level) level i o)
     kept-down r e =
         let n = at.settings t .levels - 1 - (level + 1) in
         let s : at.settings t .levels - 1 - level ≡ suc n = omega (arith, lower .level-in) in
         rw (s, above-kept t n level i o (k .kept), ← lower .b-is)
-        (rw (on-is, k .on .b-is) at e ∙ walked-enter t trail level i o (aboveFrom t n (level + 1) (at.link t level i + o / below) (o % below)))
+        (rw (on-is, k .on .b-is) at e ∙ walked-enter t state level i o (aboveFrom t n (level + 1) (at.link t level i + o / below) (o % below)))
 
     pub child-may : (j : BlockNumber) (p : BlockPlace) → x ≡ arrived.At j p → MayPoint t size (level + 1) below (j .0) (p .0) (on .entered)
     unfolding onward
     child-may j p e =
         let z = child-at t (level + 1) (at.link t level i + o / below) (o % below) x x-is j p e in
         let m : o % below < below = mod-lt o (b-pos t size (level + 1) below lower) in
-        let n : on .entered ≡ trail .entered + 1 = ap (λ (y : WalkState). y .entered) on-is in record {
+        let n : on .entered ≡ state .entered + 1 = ap (λ (y : WalkState). y .entered) on-is in record {
           on = lower;
           block-in = rw (z .1) (z .0);
           place-in = rw (z .2) m;
@@ -164,12 +164,12 @@ module _ (t : List ℕ) (size level b i o : ℕ) (trail : WalkState) (k : KeptAt
 
     pub child-by : (r : WalkAnswer) (j : BlockNumber) (p : BlockPlace) → x ≡ arrived.At j p
         → r ≡ walked t on (aboveFrom t (at.settings t .levels - 1 - (level + 1)) (level + 1) (j .0) (p .0))
-        → r ≡ walked t trail (aboveFrom t (at.settings t .levels - 1 - level) level i o)
+        → r ≡ walked t state (aboveFrom t (at.settings t .levels - 1 - level) level i o)
     child-by r j p e f =
         let z = child-at t (level + 1) (at.link t level i + o / below) (o % below) x x-is j p e in
         kept-down r (rw (z .1, z .2) at f)
 
-    pub child-none : x ≡ arrived.Off → Broken ≡ walked t trail (aboveFrom t (at.settings t .levels - 1 - level) level i o)
+    pub child-none : x ≡ arrived.Off → Broken ≡ walked t state (aboveFrom t (at.settings t .levels - 1 - level) level i o)
     unfolding walked
     child-none e =
         let n = at.settings t .levels - 1 - (level + 1) in
@@ -182,7 +182,7 @@ module _ (t : List ℕ) (size level b i o entered : ℕ) (k : MayPoint t size le
   pub may-enter : entered ≤ 2 * maxLevels
   may-enter = omega (arith, k .few, k .on .level-in, k .on .facts .bounds .levels-high)
 
-  module _ (x : BlockKind) (x-is : x ≡ nextAt t level i o) (j : BlockNumber) (p : BlockPlace) where
+  module _ (x : BlockKind) (x-is : x ≡ blockKindAt t level i o) (j : BlockNumber) (p : BlockPlace) where
     pub may-keep : x ≡ Kept j p → KeptAt t size level b i o entered
     may-keep e = record {
       on = k .on;
@@ -195,20 +195,20 @@ module _ (t : List ℕ) (size level b i o entered : ℕ) (k : MayPoint t size le
     may-point e = record { on = k .on; place-in = k .place-in; points = next-points t level i o x x-is j p e .1 }
 
 -- The kept block for a place of a block above the last level.
-same-landing : (j : BlockNumber) (p : BlockPlace) (on : WalkState) (i o : ℕ) (trail : WalkState) → j .0 ≡ i → p .0 ≡ o → on ≡ trail
-    → landed.At j p on ≡ landed.At (record { 0 = i }) (record { 0 = o }) trail
-same-landing j p on i o trail e f g = rw (← e, ← f, g)
+same-landing : (j : BlockNumber) (p : BlockPlace) (on : WalkState) (i o : ℕ) (state : WalkState) → j .0 ≡ i → p .0 ≡ o → on ≡ state
+    → landed.At j p on ≡ landed.At (record { 0 = i }) (record { 0 = o }) state
+same-landing j p on i o state e f g = rw (← e, ← f, g)
 
-module _ (t : List ℕ) (size level b i o : ℕ) (trail : WalkState) (k : MayPoint t size level b i o (trail .entered)) (x : BlockKind)
-    (x-is : x ≡ nextAt t level i o) where
-  pub landing-off : x ≡ Off → landed.Off ≡ landingAt t trail level i o
+module _ (t : List ℕ) (size level b i o : ℕ) (state : WalkState) (k : MayPoint t size level b i o (state .entered)) (x : BlockKind)
+    (x-is : x ≡ blockKindAt t level i o) where
+  pub landing-off : x ≡ Off → landed.Off ≡ landingAt t state level i o
   unfolding landingAt
   landing-off e =
       let z = next-off t level i o x x-is e in
       rw (z .0, z .1)
 
   pub landing-kept : (j : BlockNumber) (p : BlockPlace)
-      → x ≡ Kept j p → landed.At (record { 0 = i }) (record { 0 = o }) trail ≡ landingAt t trail level i o
+      → x ≡ Kept j p → landed.At (record { 0 = i }) (record { 0 = o }) state ≡ landingAt t state level i o
   unfolding landingAt
   landing-kept j p e = rw (next-kept t level i o x x-is j p e .0)
 
@@ -219,7 +219,7 @@ module _ (t : List ℕ) (size level b i o : ℕ) (trail : WalkState) (k : MayPoi
     apart : keptBlock t level i ≡ false
     apart = next-points t level i o x x-is j p e .0
 
-    module _ (y : BlockAt) (y-is : y ≡ landAt t level i o) where
+    module _ (y : BlockAt) (y-is : y ≡ resolvedTarget t level i o) where
       -- On the last level no block points; nor does a target.
       pub land-breaks : y ≡ arrived.Off → pathFrom t (at.settings t .levels - 1 - level) level i o ≡ none
       land-breaks f = go (lt-or-ge (level + 1) (at.settings t .levels))
@@ -227,59 +227,59 @@ module _ (t : List ℕ) (size level b i o : ℕ) (trail : WalkState) (k : MayPoi
           go : (level + 1 < at.settings t .levels) ⊎ (at.settings t .levels ≤ level + 1) → pathFrom t (at.settings t .levels - 1 - level) level i o ≡ none
           go (inl more) =
               let s : at.settings t .levels - 1 - level ≡ suc (at.settings t .levels - 1 - (level + 1)) = omega arith in
-              let z : keptBlock t level (targetBlock t level i o) ≡ false = rw (lt-ltb _ _ more) at (land-off t level i o y y-is f) in
+              let z : keptBlock t level (targetBlock t level i o) ≡ false = rw (lt-ltb _ _ more) at (resolved-off t level i o y y-is f) in
               rw (s, from-no-target t (at.settings t .levels - 1 - (level + 1)) level i o apart z points)
           go (inr last) =
               let s : at.settings t .levels - 1 - level ≡ 0 = omega (arith, k .on .level-in) in
               rw (s, from-last-points t level i o apart)
 
-      pub landing-none : level + 1 < at.settings t .levels → y ≡ arrived.Off → landed.Off ≡ landingAt t trail level i o
+      pub landing-none : level + 1 < at.settings t .levels → y ≡ arrived.Off → landed.Off ≡ landingAt t state level i o
       unfolding landingAt
       landing-none more f =
-          let z : keptBlock t level (targetBlock t level i o) ≡ false = rw (lt-ltb _ _ more) at (land-off t level i o y y-is f) in
+          let z : keptBlock t level (targetBlock t level i o) ≡ false = rw (lt-ltb _ _ more) at (resolved-off t level i o y y-is f) in
           rw (apart, points, z)
 
-      module _ (on : WalkState) (on-is : on ≡ onward trail (b - o)) (m : BlockNumber) (q : BlockPlace) (f : y ≡ arrived.At m q) where
+      module _ (on : WalkState) (on-is : on ≡ onward state (b - o)) (m : BlockNumber) (q : BlockPlace) (f : y ≡ arrived.At m q) where
         pub land-to : KeptAt t size level b (m .0) (q .0) (on .entered)
         unfolding onward
         land-to =
-            let z = land-at t level i o y y-is m q f in
+            let z = resolved-at t level i o y y-is m q f in
             let small = target-small t level i o points (rw (k .on .b-is) at (k .place-in)) in
-            let n : on .entered ≡ trail .entered + 1 = ap (λ (w : WalkState). w .entered) on-is in record {
+            let n : on .entered ≡ state .entered + 1 = ap (λ (w : WalkState). w .entered) on-is in record {
               on = k .on;
               place-in = rw (z .3, k .on .b-is) small;
               kept = rw (z .2) (z .1);
               few = omega (arith, k .few);
             }
 
-        pub landing-target : landed.At m q on ≡ landingAt t trail level i o
+        pub landing-target : landed.At m q on ≡ landingAt t state level i o
         unfolding landingAt
         landing-target =
-            let z = land-at t level i o y y-is m q f in
-            rw (apart, points, z .1) (same-landing m q on _ _ _ (z .2) (z .3) (on-is ∙ ap (λ (y : ℕ). onward trail (y - o)) (k .on .b-is)))
+            let z = resolved-at t level i o y y-is m q f in
+            rw (apart, points, z .1) (same-landing m q on _ _ _ (z .2) (z .3) (on-is ∙ ap (λ (y : ℕ). onward state (y - o)) (k .on .b-is)))
 
 -- Where the walk goes on: in the block itself, or in its target.
 
-cases-at : (kept both : Bool) (i o m q : ℕ) (trail further : WalkState) (j : BlockNumber) (p : BlockPlace) (on : WalkState)
-    → landed.At j p on ≡ cond kept (landed.At (record { 0 = i }) (record { 0 = o }) trail)
+cases-at : (kept both : Bool) (i o m q : ℕ) (state further : WalkState) (j : BlockNumber) (p : BlockPlace) (on : WalkState)
+    → landed.At j p on ≡ cond kept (landed.At (record { 0 = i }) (record { 0 = o }) state)
     (cond both (landed.At (record { 0 = m }) (record { 0 = q }) further) landed.Off)
-    → ((kept ≡ true) × (j ≡ record { 0 = i }) × (p ≡ record { 0 = o }) × (on ≡ trail))
+    → ((kept ≡ true) × (j ≡ record { 0 = i }) × (p ≡ record { 0 = o }) × (on ≡ state))
     ⊎ ((kept ≡ false) × (both ≡ true) × (j ≡ record { 0 = m }) × (p ≡ record { 0 = q }) × (on ≡ further))
-cases-at true both i o m q trail further j p on e = inl (refl, cc, cc, cc)
-cases-at false true i o m q trail further j p on e = inr (refl, refl, cc, cc, cc)
-cases-at false false i o m q trail further j p on e = absurd (let z : _≡_ {A = ℕ} 0 1 = cc in omega arith)
+cases-at true both i o m q state further j p on e = inl (refl, cc, cc, cc)
+cases-at false true i o m q state further j p on e = inr (refl, refl, cc, cc, cc)
+cases-at false false i o m q state further j p on e = absurd (let z : _≡_ {A = ℕ} 0 1 = cc in omega arith)
 
-cases-off : (kept both : Bool) (i o m q : ℕ) (trail further : WalkState)
-    → landed.Off ≡ cond kept (landed.At (record { 0 = i }) (record { 0 = o }) trail)
+cases-off : (kept both : Bool) (i o m q : ℕ) (state further : WalkState)
+    → landed.Off ≡ cond kept (landed.At (record { 0 = i }) (record { 0 = o }) state)
     (cond both (landed.At (record { 0 = m }) (record { 0 = q }) further) landed.Off)
     → (kept ≡ false) × (both ≡ false)
-cases-off true both i o m q trail further e = absurd (let z : _≡_ {A = ℕ} 0 1 = cc in omega arith)
-cases-off false true i o m q trail further e = absurd (let z : _≡_ {A = ℕ} 0 1 = cc in omega arith)
-cases-off false false i o m q trail further e = (refl, refl)
+cases-off true both i o m q state further e = absurd (let z : _≡_ {A = ℕ} 0 1 = cc in omega arith)
+cases-off false true i o m q state further e = absurd (let z : _≡_ {A = ℕ} 0 1 = cc in omega arith)
+cases-off false false i o m q state further e = (refl, refl)
 
-module _ (t : List ℕ) (size level b i o : ℕ) (trail : WalkState) (k : MayPoint t size level b i o (trail .entered)) where
+module _ (t : List ℕ) (size level b i o : ℕ) (state : WalkState) (k : MayPoint t size level b i o (state .entered)) where
   -- On the last level.
-  pub last-fits : level + 1 ≡ at.settings t .levels → at.leafOffset t < 4294967296 → (i < 268435456) × (o < 256) × (trail .entered < 16)
+  pub last-fits : level + 1 ≡ at.settings t .levels → at.leafOffset t < 4294967296 → (i < 268435456) × (o < 256) × (state .entered < 16)
   last-fits last word =
       let f = k .on .facts in
       let R = at.recordSize t in
@@ -293,36 +293,36 @@ module _ (t : List ℕ) (size level b i o : ℕ) (trail : WalkState) (k : MayPoi
       )
 
   pub last-walked : level + 1 ≡ at.settings t .levels
-      → (r : WalkAnswer) → r ≡ At (record { block = record { 0 = i }; place = record { 0 = o }; trail = trail })
-      → r ≡ walked t trail (aboveFrom t (at.settings t .levels - 1 - level) level i o)
+      → (r : WalkAnswer) → r ≡ At (record { block = record { 0 = i }; place = record { 0 = o }; state = state })
+      → r ≡ walked t state (aboveFrom t (at.settings t .levels - 1 - level) level i o)
   unfolding walked leftOver
   last-walked last r e =
       let z : at.settings t .levels - 1 - level ≡ 0 = omega arith in
-      let n : trail .entered + 0 ≡ trail .entered = omega arith in
+      let n : state .entered + 0 ≡ state .entered = omega arith in
       e ∙ rw (z, above-last t level i o (k .block-in), n)
 
-  module _ (more : level + 1 < at.settings t .levels) (y : Landing) (y-is : y ≡ landingAt t trail level i o) where
+  module _ (more : level + 1 < at.settings t .levels) (y : Landing) (y-is : y ≡ landingAt t state level i o) where
     abbrev both : Bool
     both = pointingBlock t level i && keptBlock t level (targetBlock t level i o)
 
     steps : at.settings t .levels - 1 - level ≡ suc (at.settings t .levels - 1 - (level + 1))
     steps = omega arith
 
-    pub landed-off : y ≡ landed.Off → Broken ≡ walked t trail (aboveFrom t (at.settings t .levels - 1 - level) level i o)
+    pub landed-off : y ≡ landed.Off → Broken ≡ walked t state (aboveFrom t (at.settings t .levels - 1 - level) level i o)
     unfolding walked landingAt
     landed-off e =
-        let z = cases-off (keptBlock t level i) both i o _ _ trail _ (sym e ∙ y-is) in
+        let z = cases-off (keptBlock t level i) both i o _ _ state _ (sym e ∙ y-is) in
         rw (steps, above-off t (at.settings t .levels - 1 - (level + 1)) level i o (z .0) (λ pt. rw pt at (z .1)))
 
     module _ (j : BlockNumber) (p : BlockPlace) (on : WalkState) (e : y ≡ landed.At j p on) where
       abbrev Cases : Type 0
-      Cases = ((keptBlock t level i ≡ true) × (j ≡ record { 0 = i }) × (p ≡ record { 0 = o }) × (on ≡ trail))
+      Cases = ((keptBlock t level i ≡ true) × (j ≡ record { 0 = i }) × (p ≡ record { 0 = o }) × (on ≡ state))
           ⊎ ((keptBlock t level i ≡ false) × (both ≡ true) × (j ≡ record { 0 = targetBlock t level i o })
-          × (p ≡ record { 0 = targetPlace t level i o }) × (on ≡ onward trail (at.fullLength t level - o)))
+          × (p ≡ record { 0 = targetPlace t level i o }) × (on ≡ onward state (at.fullLength t level - o)))
 
       landed-cases : Cases
       unfolding landingAt
-      landed-cases = cases-at (keptBlock t level i) both i o _ _ trail _ j p on (sym e ∙ y-is)
+      landed-cases = cases-at (keptBlock t level i) both i o _ _ state _ j p on (sym e ∙ y-is)
 
       pub landed-kept : KeptAt t size level b (j .0) (p .0) (on .entered)
       unfolding onward
@@ -341,19 +341,19 @@ module _ (t : List ℕ) (size level b i o : ℕ) (trail : WalkState) (k : MayPoi
               })
 
       pub landed-by : (r : WalkAnswer) → r ≡ walked t on (aboveFrom t (at.settings t .levels - 1 - level) level (j .0) (p .0))
-          → r ≡ walked t trail (aboveFrom t (at.settings t .levels - 1 - level) level i o)
+          → r ≡ walked t state (aboveFrom t (at.settings t .levels - 1 - level) level i o)
       landed-by r f = go landed-cases
         where
-          go : Cases → r ≡ walked t trail (aboveFrom t (at.settings t .levels - 1 - level) level i o)
+          go : Cases → r ≡ walked t state (aboveFrom t (at.settings t .levels - 1 - level) level i o)
           go (inl c) = rw (c .1, c .2, c .3) at f
           go (inr c) =
               let n = at.settings t .levels - 1 - (level + 1) in
               let points = and-left (pointingBlock t level i) (keptBlock t level (targetBlock t level i o)) (c .1) in
               let kept = and-right (pointingBlock t level i) (keptBlock t level (targetBlock t level i o)) (c .1) in
-              let w : r ≡ walked t (onward trail (at.fullLength t level - o)) (aboveFrom t (suc n) level (targetBlock t level i o) (targetPlace t level i o)) =
+              let w : r ≡ walked t (onward state (at.fullLength t level - o)) (aboveFrom t (suc n) level (targetBlock t level i o) (targetPlace t level i o)) =
               rw (steps, c .2, c .3, c .4) at f in
               rw (steps, above-pointing t n level i o (c .0) points kept)
-              (w ∙ walked-enter t trail level i o (aboveFrom t (suc n) level (targetBlock t level i o) (targetPlace t level i o)))
+              (w ∙ walked-enter t state level i o (aboveFrom t (suc n) level (targetBlock t level i o) (targetPlace t level i o)))
 
 -- The start, on level 0.
 
@@ -368,9 +368,9 @@ module _ (t : List ℕ) (size b p : ℕ) (on : OnLevel t size 0 b) (x : BlockPos
         few = omega arith;
       })
 
-  pub top-by : (trail : WalkState) (r : WalkAnswer)
-      → r ≡ walked t trail (aboveFrom t (at.settings t .levels - 1 - 0) 0 (x .block .0) (x .place .0)) → r ≡ walked t trail (aboveOf t p)
+  pub top-by : (state : WalkState) (r : WalkAnswer)
+      → r ≡ walked t state (aboveFrom t (at.settings t .levels - 1 - 0) 0 (x .block .0) (x .place .0)) → r ≡ walked t state (aboveOf t p)
   unfolding aboveOf
-  top-by trail r e =
+  top-by state r e =
       let z : at.settings t .levels - 1 - 0 ≡ at.settings t .levels - 1 = omega arith in
       rw (z, x-is, on .b-is) at e

@@ -6,7 +6,7 @@ use mathlib.Core.Bool.{Bool, true, false}
 use Prim.Native.Nat.{ℕ, zero, suc, _+_, _-_, _/_, _%_}
 use lib.Dec.{ltb}
 use Rattle.format.specs.Layout as at
-use Rattle.format.specs.TreeReading.{Path, Visit, entered, landBlock, landPlace, landVisits, lands, pathFrom}
+use Rattle.format.specs.TreeReading.{Path, Visit, entered, resolvedBlock, resolvedPlace, resolvedVisits, resolves, pathFrom}
 
 -- The blocks entered, first to last; then a block of the last level, whose record has not been read, and the place in it.
 pub record Above : Type 0 where
@@ -29,10 +29,10 @@ module _ (t : List ℕ) where
   unfoldable pub aboveFrom : ℕ → ℕ → ℕ → ℕ → Option Above
   aboveFrom zero l i o = providedAbove (ltb i (at.levelCount t l)) (some (record { visits = []; block = i; place = o }))
   aboveFrom (suc below) l i o =
-      let j = landBlock t l i o in
-      let p = landPlace t l i o in
+      let j = resolvedBlock t l i o in
+      let p = resolvedPlace t l i o in
       let child = at.fullLength t (l + 1) in
-      providedAbove (lands t l i o) (enteredAbove (landVisits t l i o) (aboveFrom below (l + 1) (at.link t l j + p / child) (p % child)))
+      providedAbove (resolves t l i o) (enteredAbove (resolvedVisits t l i o) (aboveFrom below (l + 1) (at.link t l j + p / child) (p % child)))
 
   -- The path of a place of the text.
   unfoldable pub aboveOf : ℕ → Option Above

@@ -6,9 +6,8 @@ use layout::place::BlockPlace;
 use layout::place::TextPlace;
 use walk_steps::BlockAt;
 use walk_steps::BlockKind;
-use walk_steps::position::LevelAt;
 ghost use mathlib.Core.Path.{_≡_};
-ghost use Prim.Native.Nat.{_+_, _-_, _*_, _≤_, _<_};
+ghost use Prim.Native.Nat.{_+_, _-_, _*_, _/_, _≤_, _<_};
 ghost use Rattle.format.specs.Layout as at;
 ghost use Rattle.walk_steps.specs.Steps.{OnLevel};
 ghost use Rattle.format.specs.Layout.{maxText, maxLevels};
@@ -25,7 +24,7 @@ pub struct WalkState {
 pub struct PathEnd {
     pub block: BlockNumber,
     pub place: BlockPlace,
-    pub trail: WalkState,
+    pub state: WalkState,
 }
 
 pub enum WalkAnswer {
@@ -56,11 +55,11 @@ impl WalkState {
 const BROKEN: u64 = 18446744073709551615;
 
 // The result of a walk in one word: the block + 2^28 × the place + 2^36 × the blocks entered + 2^40 × the bytes left.
-fn packed(block: BlockNumber, place: BlockPlace, trail: WalkState) -> u64
-    requires { ⌜ (block .0 < 268435456) × (place .0 < 256) × (trail .entered < 16) × (trail .left ≤ maxText) ⌝ }
-    ensures { λ r. ⌜ walkedIn r ≡ WalkAnswer.At (record { block = block; place = place; trail = trail }) ⌝ }
+fn packed(block: BlockNumber, place: BlockPlace, state: WalkState) -> u64
+    requires { ⌜ (block .0 < 268435456) × (place .0 < 256) × (state .entered < 16) × (state .left ≤ maxText) ⌝ }
+    ensures { λ r. ⌜ walkedIn r ≡ WalkAnswer.At (record { block = block; place = place; state = state }) ⌝ }
 {
-    let carried = trail.entered as u64 + 16 * trail.left as u64;
+    let carried = state.entered as u64 + 16 * state.left as u64;
     block.0 as u64 + 268435456 * (place.0 as u64 + 256 * carried)
 }
 
@@ -74,7 +73,7 @@ pub fn unpacked(word: u64) -> WalkAnswer
     WalkAnswer::At(PathEnd {
         block: BlockNumber((word % 268435456) as u32),
         place: BlockPlace((word / 268435456 % 256) as u32),
-        trail: WalkState {
+        state: WalkState {
             entered: (word / 68719476736 % 16) as u32,
             left: (word / 1099511627776) as u32,
         },
@@ -85,20 +84,23 @@ pub fn unpacked(word: u64) -> WalkAnswer
 fn to_kept(
     t: &[u8],
     size: u32,
-    on: LevelAt,
+    level: u32,
+    b: u32,
     block: BlockNumber,
     place: BlockPlace,
-    trail: WalkState,
+    entered: u32,
+    left: u32,
 ) -> Landing
-    requires { ⌜ (MayPoint (now t) size (on .level) (on .b) (block .0) (place .0) (trail .entered)) × (on .level + 1 < at.settings (now t) .levels) ⌝ }
-    ensures { λ r. ⌜ r ≡ landingAt (now (t .entry)) trail (on .level) (block .0) (place .0) ⌝ }
+    requires { ⌜ (MayPoint (now t) size level b (block .0) (place .0) entered) × (level + 1 < at.settings (now t) .levels) ⌝ }
+    ensures { λ r. ⌜ r ≡ landingAt (now (t .entry)) (record { entered = entered; left = left }) level (block .0) (place .0) ⌝ }
 {
-    let here = walk_steps::classify_block(t, size, on.level, on.b, block, place);
+    let state = WalkState { entered, left };
+    let here = walk_steps::classify_block(t, size, level, b, block, place);
     match here {
-        BlockKind::Kept(_, _) => Landing::At(block, place, trail),
+        BlockKind::Kept(_, _) => Landing::At(block, place, state),
         BlockKind::Points(_, _) => {
-            let further = trail.enter(on.b, place);
-            let there = walk_steps::resolve_target(t, size, on.level, on.b, block, place);
+            let further = state.enter(b, place);
+            let there = walk_steps::resolve_target(t, size, level, b, block, place);
             let BlockAt::At(i, p) = there else {
                 return Landing::Off;
             };
@@ -108,60 +110,74 @@ fn to_kept(
     }
 }
 
-// From a kept block above the last level to the child that contains the place. The walk ends on the last level, where no block points.
+// From a kept block above the last level to the child that contains the place; `below` is the block length of the children. The walk ends on the last level,
+// where no block points.
+// Both steps take single words as arguments: a struct of two words would be packed and unpacked at each level.
 fn kept_step(
     t: &&[u8],
     size: u32,
-    on: LevelAt,
+    level: u32,
+    b: u32,
+    below: u32,
     block: BlockNumber,
     place: BlockPlace,
-    trail: WalkState,
+    entered: u32,
+    left: u32,
 ) -> u64
-    requires { ⌜ (KeptAt (now (now t)) size (on .level) (on .b) (block .0) (place .0) (trail .entered))
-        × (on .level + 1 < at.settings (now (now t)) .levels) ⌝ }
-    ensures { λ r. ⌜ walkedIn r ≡ walked (now (now (t .entry))) trail
-        (aboveFrom (now (now (t .entry))) (at.settings (now (now (t .entry))) .levels - 1 - on .level) (on .level) (block .0) (place .0)) ⌝ }
+    requires { ⌜ (KeptAt (now (now t)) size level b (block .0) (place .0) entered) × (level + 1 < at.settings (now (now t)) .levels)
+        × (below ≡ b / at.settings (now (now t)) .arity) ⌝ }
+    ensures { λ r. ⌜ walkedIn r ≡ walked (now (now (t .entry))) (record { entered = entered; left = left })
+        (aboveFrom (now (now (t .entry))) (at.settings (now (now (t .entry))) .levels - 1 - level) level (block .0) (place .0)) ⌝ }
 {
     let tree = *t;
     let shape = fields::shape_of(tree);
-    let below = walk_steps::quotient(on.b, shape.arity);
-    let further = trail.enter(on.b, place);
-    let child = walk_steps::child(tree, size, on.level, below, block, place);
+    let state = WalkState { entered, left };
+    let further = state.enter(b, place);
+    let child = walk_steps::child(tree, size, level, below, block, place);
     let BlockAt::At(i, p) = child else {
         return BROKEN;
     };
-    let down = on.level + 1;
+    let down = level + 1;
     if down + 1 == shape.levels {
         return packed(i, p, further);
     }
-    let under = LevelAt {
-        level: down,
-        b: below,
-    };
-    pointing_step(t, size, under, i, p, further)
+    pointing_step(t, size, down, below, i, p, further.entered, further.left)
 }
 
 // From a block above the last level, at which a pointer may still be followed. The one call of the step for a kept block lets the compiler join
-// the two steps.
+// the two steps; since the arity is read before any branch, it is read and tested once for all levels.
 fn pointing_step(
     t: &&[u8],
     size: u32,
-    on: LevelAt,
+    level: u32,
+    b: u32,
     block: BlockNumber,
     place: BlockPlace,
-    trail: WalkState,
+    entered: u32,
+    left: u32,
 ) -> u64
-    requires { ⌜ (MayPoint (now (now t)) size (on .level) (on .b) (block .0) (place .0) (trail .entered))
-        × (on .level + 1 < at.settings (now (now t)) .levels) ⌝ }
-    ensures { λ r. ⌜ walkedIn r ≡ walked (now (now (t .entry))) trail
-        (aboveFrom (now (now (t .entry))) (at.settings (now (now (t .entry))) .levels - 1 - on .level) (on .level) (block .0) (place .0)) ⌝ }
+    requires { ⌜ (MayPoint (now (now t)) size level b (block .0) (place .0) entered) × (level + 1 < at.settings (now (now t)) .levels) ⌝ }
+    ensures { λ r. ⌜ walkedIn r ≡ walked (now (now (t .entry))) (record { entered = entered; left = left })
+        (aboveFrom (now (now (t .entry))) (at.settings (now (now (t .entry))) .levels - 1 - level) level (block .0) (place .0)) ⌝ }
 {
     let tree = *t;
-    let there = to_kept(tree, size, on, block, place, trail);
+    let shape = fields::shape_of(tree);
+    let below = walk_steps::quotient(b, shape.arity);
+    let there = to_kept(tree, size, level, b, block, place, entered, left);
     let Landing::At(i, p, further) = there else {
         return BROKEN;
     };
-    kept_step(t, size, on, i, p, further)
+    kept_step(
+        t,
+        size,
+        level,
+        b,
+        below,
+        i,
+        p,
+        further.entered,
+        further.left,
+    )
 }
 
 // The size of a record, and the block length of level 0.
@@ -175,14 +191,12 @@ pub fn walk(t: &&[u8], top: TopLevel, p: TextPlace, left: u32) -> u64
     requires { ⌜ (OnLevel (now (now t)) (top .size) 0 (top .b)) × (p .0 < at.textLength (now (now t))) × (left ≤ maxText) ⌝ }
     ensures { λ r. ⌜ walkedIn r ≡ walked (now (now (t .entry))) (record { entered = 0; left = left }) (aboveOf (now (now (t .entry))) (p .0)) ⌝ }
 {
-    let trail = WalkState { entered: 0, left };
-    let spot = walk_steps::top_spot(p, top.b);
-    let block = spot.block;
-    let place = spot.place;
+    let position = walk_steps::top_position(p, top.b);
+    let block = position.block;
+    let place = position.place;
     let shape = fields::shape_of(*t);
     if shape.levels == 1 {
-        return packed(block, place, trail);
+        return packed(block, place, WalkState { entered: 0, left });
     }
-    let on = LevelAt { level: 0, b: top.b };
-    pointing_step(t, top.size, on, block, place, trail)
+    pointing_step(t, top.size, 0, top.b, block, place, 0, left)
 }

@@ -17,7 +17,7 @@ use Rattle.format.specs.Layout as at
 use Rattle.format.specs.TreeReading.{Visit, keptBlock, targetBlock, targetPlace, Short, led, byEdges, inLeaf}
 use Rattle.format.specs.LayoutLaws.{Readable, size-high, full-pos}
 use Rattle.theory_edges.specs.SpanSteps as edges
-use Rattle.theory_paths.specs.PlacesLand.{target-first, target-second}
+use Rattle.theory_paths.specs.PlacesResolved.{target-first, target-second}
 use Rattle.layout.specs.declared.place.BlockNumber.{BlockNumber}
 use Rattle.layout.specs.declared.place.BlockPlace.{BlockPlace}
 use Rattle.layout.specs.Record.{EdgesIn}
@@ -25,15 +25,15 @@ use Rattle.walk_steps.specs.declared.BlockKind.{BlockKind}
 use Rattle.walk_steps.specs.declared.BlockKind.the-variants as next
 use Rattle.walk_steps.specs.declared.DivRem.{DivRem}
 use Rattle.layout.specs.declared.fields.Shape.{Shape}
-use Rattle.walk_steps.specs.Steps.{nextAt, OnLevel, Pointing}
+use Rattle.walk_steps.specs.Steps.{blockKindAt, OnLevel, Pointing}
 use Rattle.layout.proofs.ShapeLaws.{Shapes}
 use Rattle.walk_steps.proofs.StepLaws.{kept-in, pointing-gap}
 use Rattle.walk_steps.proofs.NextLaws.{next-kept, next-points, next-off}
 use Rattle.walk_short.specs.declared.gather.Gathered.{Gathered}
 use Rattle.walk_short.specs.declared.gather.Gathered.the-variants.{At, Broken}
-use Rattle.walk_short.specs.declared.gather.Land.{Land}
-use Rattle.walk_short.specs.declared.gather.Land.the-variants as land
-use Rattle.walk_short.specs.Gathered.{gathered, packed, unpacked, downTo, pointedTo, landing, Crossing}
+use Rattle.walk_short.specs.declared.gather.SpanStep.{SpanStep}
+use Rattle.walk_short.specs.declared.gather.SpanStep.the-variants as step
+use Rattle.walk_short.specs.Gathered.{gathered, packed, unpacked, downTo, pointedTo, spanStep, Crossing}
 use Rattle.walk_short.proofs.PackedLaws.{unpacked-is}
 
 -- Blocks entered before are counted with those entered after.
@@ -131,7 +131,7 @@ unfolding gathered inLeaf
 leaf-none t level i o len entered un = rw un
 
 -- The block of the last level that a span lies in.
-module _ (t : List ℕ) (level i o len entered : ℕ) (x : BlockKind) (x-is : x ≡ nextAt t level i o) where
+module _ (t : List ℕ) (level i o len entered : ℕ) (x : BlockKind) (x-is : x ≡ blockKindAt t level i o) where
   pub last-kept : (j : BlockNumber) (p : BlockPlace) → x ≡ next.Kept j p → keptBlock t level (j .0) ≡ true
   last-kept j p e = let z = next-kept t level i o x x-is j p e in rw (z .1) (z .0)
 
@@ -148,7 +148,7 @@ module _ (t : List ℕ) (level i o len entered : ℕ) (x : BlockKind) (x-is : x 
 -- To the children.
 pub down-is : (t : List ℕ) (level c i o n link : ℕ) → link ≡ at.link t level i
     → (part : DivRem) → part ≡ record { blocks = o / c; place = record { 0 = o % c } }
-    → land.Down (record { 0 = link }) (part .blocks) (part .place) n ≡ downTo t level c i o n
+    → step.Down (record { 0 = link }) (part .blocks) (part .place) n ≡ downTo t level c i o n
 unfolding downTo
 down-is t level c i o n link e part part-is = rw (e, part-is)
 
@@ -175,7 +175,7 @@ module _ (t : List ℕ) (size level b c i o len : ℕ) (k : Pointing t size leve
       let e = target-first t level i o (omega (arith, gap-is, k .on .b-is)) in
       (e .0, omega (arith, e .1, gap-is))
 
-  pub pointed-over : gap + o < b → b < gap + o + len → land.Over (record { 0 = link }) (record { 0 = gap + o }) ≡ pointedTo t level i o len
+  pub pointed-over : gap + o < b → b < gap + o + len → step.Over (record { 0 = link }) (record { 0 = gap + o }) ≡ pointedTo t level i o len
   unfolding pointedTo
   pointed-over low past =
       let e = here low in
@@ -191,22 +191,22 @@ module _ (t : List ℕ) (size level b c i o len : ℕ) (k : Pointing t size leve
         go (inl low) = omega (arith, here low .1, inside low, k .on .b-is)
         go (inr high) = omega (arith, target-second t level i o (omega (arith, gap-is, k .on .b-is)) .1, gap-is, gap-low, fits, k .on .b-is)
 
-    module _ (x : BlockKind) (x-is : x ≡ nextAt t level (targetBlock t level i o) (targetPlace t level i o)) where
+    module _ (x : BlockKind) (x-is : x ≡ blockKindAt t level (targetBlock t level i o) (targetPlace t level i o)) where
       pub pointed-in : (j : BlockNumber) (p : BlockPlace)
-          → x ≡ next.Kept j p → (r : Land) → r ≡ downTo t level c (j .0) (p .0) 2 → r ≡ pointedTo t level i o len
+          → x ≡ next.Kept j p → (r : SpanStep) → r ≡ downTo t level c (j .0) (p .0) 2 → r ≡ pointedTo t level i o len
       unfolding pointedTo
       pointed-in j p e r r-is =
           let z = next-kept t level (targetBlock t level i o) (targetPlace t level i o) x x-is j p e in
           r-is ∙ rw (le-leb (targetPlace t level i o + len) (at.fullLength t level) in-target, z .0, c-is, z .1, z .2)
 
-      off : keptBlock t level (targetBlock t level i o) ≡ false → land.Off ≡ pointedTo t level i o len
+      off : keptBlock t level (targetBlock t level i o) ≡ false → step.Off ≡ pointedTo t level i o len
       unfolding pointedTo
       off un = rw (le-leb (targetPlace t level i o + len) (at.fullLength t level) in-target, un)
 
-      pub pointed-twice : (j : BlockNumber) (p : BlockPlace) → x ≡ next.Points j p → land.Off ≡ pointedTo t level i o len
+      pub pointed-twice : (j : BlockNumber) (p : BlockPlace) → x ≡ next.Points j p → step.Off ≡ pointedTo t level i o len
       pointed-twice j p e = off (next-points t level (targetBlock t level i o) (targetPlace t level i o) x x-is j p e .0)
 
-      pub pointed-off : x ≡ next.Off → land.Off ≡ pointedTo t level i o len
+      pub pointed-off : x ≡ next.Off → step.Off ≡ pointedTo t level i o len
       pointed-off e = off (next-off t level (targetBlock t level i o) (targetPlace t level i o) x x-is e .0)
 
       pub target-in : (j : BlockNumber) (p : BlockPlace) → x ≡ next.Kept j p → j .0 < at.levelCount t level
@@ -214,24 +214,24 @@ module _ (t : List ℕ) (size level b c i o len : ℕ) (k : Pointing t size leve
           let z = next-kept t level (targetBlock t level i o) (targetPlace t level i o) x x-is j p e in
           rw (z .1) (kept-in t level (targetBlock t level i o) (z .0))
 
--- Where a span lands.
-module _ (t : List ℕ) (level c i o len : ℕ) (c-is : c ≡ at.fullLength t (level + 1)) (x : BlockKind) (x-is : x ≡ nextAt t level i o) where
-  pub land-kept : (j : BlockNumber) (p : BlockPlace) → x ≡ next.Kept j p → (r : Land) → r ≡ downTo t level c (j .0) (p .0) 1 → r ≡ landing t level i o len
-  unfolding landing
-  land-kept j p e r r-is =
+-- The step of a span in a block above the last level.
+module _ (t : List ℕ) (level c i o len : ℕ) (c-is : c ≡ at.fullLength t (level + 1)) (x : BlockKind) (x-is : x ≡ blockKindAt t level i o) where
+  pub step-kept : (j : BlockNumber) (p : BlockPlace) → x ≡ next.Kept j p → (r : SpanStep) → r ≡ downTo t level c (j .0) (p .0) 1 → r ≡ spanStep t level i o len
+  unfolding spanStep
+  step-kept j p e r r-is =
       let z = next-kept t level i o x x-is j p e in
       r-is ∙ rw (z .0, c-is, z .1, z .2)
 
-  pub land-points : (j : BlockNumber) (p : BlockPlace)
-      → x ≡ next.Points j p → (r : Land) → r ≡ pointedTo t level (j .0) (p .0) len → r ≡ landing t level i o len
-  unfolding landing
-  land-points j p e r r-is =
+  pub step-points : (j : BlockNumber) (p : BlockPlace)
+      → x ≡ next.Points j p → (r : SpanStep) → r ≡ pointedTo t level (j .0) (p .0) len → r ≡ spanStep t level i o len
+  unfolding spanStep
+  step-points j p e r r-is =
       let z = next-points t level i o x x-is j p e in
       r-is ∙ rw (z .0, z .1, z .2, z .3)
 
-  pub land-off : x ≡ next.Off → land.Off ≡ landing t level i o len
-  unfolding landing
-  land-off e = let z = next-off t level i o x x-is e in rw (z .0, z .1)
+  pub step-off : x ≡ next.Off → step.Off ≡ spanStep t level i o len
+  unfolding spanStep
+  step-off e = let z = next-off t level i o x x-is e in rw (z .0, z .1)
 
   pub kept-there : (j : BlockNumber) (p : BlockPlace) → x ≡ next.Kept j p → j .0 < at.levelCount t level
   kept-there j p e = let z = next-kept t level i o x x-is j p e in rw (z .1) (kept-in t level i (z .0))

@@ -28,9 +28,9 @@ use Rattle.walk_steps.proofs.NextLaws.{level-below, on-top}
 use Rattle.walk_short.specs.declared.gather.Parts.{Parts}
 use Rattle.walk_short.specs.declared.gather.Gathered.{Gathered}
 use Rattle.walk_short.specs.declared.gather.Gathered.the-variants.{At, Broken}
-use Rattle.walk_short.specs.declared.gather.Land.{Land}
-use Rattle.walk_short.specs.declared.gather.Land.the-variants as land
-use Rattle.walk_short.specs.Gathered.{gathered, downTo, pointedTo, landing, Crossing, Walking, InRange}
+use Rattle.walk_short.specs.declared.gather.SpanStep.{SpanStep}
+use Rattle.walk_short.specs.declared.gather.SpanStep.the-variants as step
+use Rattle.walk_short.specs.Gathered.{gathered, downTo, pointedTo, spanStep, Crossing, Walking, InRange}
 use Rattle.walk_short.proofs.GatherLaws.{gathered-led, child-pos}
 
 gathered-none : (n : ℕ) → Broken ≡ gathered n none
@@ -86,19 +86,19 @@ module _ (t : List ℕ) (size level b i o len entered : ℕ) (w : Walking t size
 
       -- The cases of a level.
       record Inside (j p n : ℕ) : Type 0 where
-        land-is : landing t level i o len ≡ downTo t level c j p n
+        step-is : spanStep t level i o len ≡ downTo t level c j p n
         few : n ≤ 2
         walk-is : (vs : List Visit)
             × (length vs ≡ n) × (shortFrom t (suc below) level i o len ≡ led vs (shortFrom t below (level + 1) (at.link t level j + p / c) (p % c) len))
 
       record Between (j p : ℕ) : Type 0 where
-        land-is : landing t level i o len ≡ land.Over (record { 0 = j }) (record { 0 = p })
+        step-is : spanStep t level i o len ≡ step.Over (record { 0 = j }) (record { 0 = p })
         place-in : p < b
         past : b < p + len
         walk-is : shortFrom t (suc below) level i o len ≡ led (visit level i o ∷ []) (byEdges t level j p)
 
       record Off : Type 0 where
-        land-is : landing t level i o len ≡ land.Off
+        step-is : spanStep t level i o len ≡ step.Off
         walk-is : shortFrom t (suc below) level i o len ≡ none
 
       Cases : Type 0
@@ -111,36 +111,36 @@ module _ (t : List ℕ) (size level b i o len entered : ℕ) (w : Walking t size
       p = targetPlace t level i o
 
       kept-case : keptBlock t level i ≡ true → Inside i o 1
-      unfolding landing
+      unfolding spanStep
       kept-case kept = record {
-        land-is = rw kept;
+        step-is = rw kept;
         few = omega arith;
         walk-is = (visit level i o ∷ [], refl, edges.kept-step t level i o len fits-full below kept);
       }
 
       target-case : keptBlock t level i ≡ false → pointingBlock t level i ≡ true → p + len ≤ at.fullLength t level → keptBlock t level j ≡ true → Inside j p 2
-      unfolding landing pointedTo
+      unfolding spanStep pointedTo
       target-case un pt inside kept = record {
-        land-is = rw (un, pt, le-leb (p + len) (at.fullLength t level) inside, kept);
+        step-is = rw (un, pt, le-leb (p + len) (at.fullLength t level) inside, kept);
         few = omega arith;
         walk-is = (visit level i o ∷ visit level j p ∷ [], refl, edges.points-step t level i o len fits-full below un pt kept inside);
       }
 
       off-case : keptBlock t level i ≡ false → pointingBlock t level i ≡ true → p + len ≤ at.fullLength t level → keptBlock t level j ≡ false → Off
-      unfolding landing pointedTo
+      unfolding spanStep pointedTo
       off-case un pt inside kept = record {
-        land-is = rw (un, pt, le-leb (p + len) (at.fullLength t level) inside, kept);
+        step-is = rw (un, pt, le-leb (p + len) (at.fullLength t level) inside, kept);
         walk-is = edges.off-target t level i o len fits-full below un pt kept inside;
       }
 
       none-case : keptBlock t level i ≡ false → pointingBlock t level i ≡ false → Off
-      unfolding landing
-      none-case un pt = record { land-is = rw (un, pt); walk-is = edges.off-step t level i o len fits-full below un pt }
+      unfolding spanStep
+      none-case un pt = record { step-is = rw (un, pt); walk-is = edges.off-step t level i o len fits-full below un pt }
 
       between-case : keptBlock t level i ≡ false → pointingBlock t level i ≡ true → at.fullLength t level < p + len → Between j p
-      unfolding landing pointedTo
+      unfolding spanStep pointedTo
       between-case un pt past = record {
-        land-is = rw (un, pt, lt-leb (p + len) (at.fullLength t level) past);
+        step-is = rw (un, pt, lt-leb (p + len) (at.fullLength t level) past);
         place-in = rw (w .on .b-is) (target-small t level i o pt (omega (arith, w .place-in, w .on .b-is)));
         past = omega (arith, w .on .b-is);
         walk-is = edges.between-step t level i o len fits-full below un pt past;
@@ -160,8 +160,8 @@ module _ (t : List ℕ) (size level b i o len entered : ℕ) (w : Walking t size
           go (inr un) (inl pt) (inr inside) (inl kept) = inl (j, p, 2, target-case un pt inside kept)
           go (inr un) (inl pt) (inr inside) (inr off) = inr (inr (off-case un pt inside off))
 
-      -- What the walk does with where it lands.
-      module _ (x : Land) (x-is : x ≡ landing t level i o len) where
+      -- How the walk continues after each kind of step.
+      module _ (x : SpanStep) (x-is : x ≡ spanStep t level i o len) where
         clash : {A : Type 0} → _≡_ {A = ℕ} 0 1 → A
         clash e = absurd (let z : ⊥ = omega arith in z)
 
@@ -173,13 +173,13 @@ module _ (t : List ℕ) (size level b i o len entered : ℕ) (w : Walking t size
           block-is : f .0 + s ≡ at.link t level block + place / c
           place-is : q .0 ≡ place % c
 
-        down-case : (f : BlockNumber) (s : ℕ) (q : BlockPlace) (n : ℕ) → x ≡ land.Down f s q n → DownFrom f s q n
+        down-case : (f : BlockNumber) (s : ℕ) (q : BlockPlace) (n : ℕ) → x ≡ step.Down f s q n → DownFrom f s q n
         unfolding Cases downTo
         down-case f s q n e = go cases
           where
             go : ((j : ℕ) × (p : ℕ) × (n : ℕ) × Inside j p n) ⊎ (((j : ℕ) × (p : ℕ) × Between j p) ⊎ Off) → DownFrom f s q n
             go (inl (j, p, k, v)) =
-                let same : land.Down f s q n ≡ land.Down (record { 0 = at.link t level j }) (p / c) (record { 0 = p % c }) k = sym e ∙ x-is ∙ v .land-is in
+                let same : step.Down f s q n ≡ step.Down (record { 0 = at.link t level j }) (p / c) (record { 0 = p % c }) k = sym e ∙ x-is ∙ v .step-is in
                 let number : n ≡ k = cc in
                 let first : f .0 ≡ at.link t level j = ap (λ (y : BlockNumber). y .0) (let z : f ≡ record { 0 = at.link t level j } = cc in z) in
                 let steps : s ≡ p / c = cc in
@@ -191,14 +191,14 @@ module _ (t : List ℕ) (size level b i o len entered : ℕ) (w : Walking t size
                   place-is = ap (λ (y : BlockPlace). y .0) (let z : q ≡ record { 0 = p % c } = cc in z);
                 }
             go (inr (inl (j, p, v))) =
-                let same : land.Down f s q n ≡ land.Over (record { 0 = j }) (record { 0 = p }) = sym e ∙ x-is ∙ v .land-is in
+                let same : step.Down f s q n ≡ step.Over (record { 0 = j }) (record { 0 = p }) = sym e ∙ x-is ∙ v .step-is in
                 clash (let z : _≡_ {A = ℕ} 0 1 = cc in z)
             go (inr (inr v)) =
-                let same : land.Down f s q n ≡ land.Off = sym e ∙ x-is ∙ v .land-is in
+                let same : step.Down f s q n ≡ step.Off = sym e ∙ x-is ∙ v .step-is in
                 clash (let z : _≡_ {A = ℕ} 0 1 = cc in z)
 
         pub down-asks : (f : BlockNumber) (s : ℕ) (q : BlockPlace) (n : ℕ)
-            → x ≡ land.Down f s q n → (d : ℕ) → d ≡ at.fullLength t (level + 1) → Walking t size (level + 1) d (q .0) len (entered + n)
+            → x ≡ step.Down f s q n → (d : ℕ) → d ≡ at.fullLength t (level + 1) → Walking t size (level + 1) d (q .0) len (entered + n)
         down-asks f s q n e d d-is =
             let v = down-case f s q n e in
             record {
@@ -208,7 +208,7 @@ module _ (t : List ℕ) (size level b i o len entered : ℕ) (w : Walking t size
               few = omega (arith, w .few, v .inside .few);
             }
 
-        pub down-by : (f : BlockNumber) (s : ℕ) (q : BlockPlace) (n : ℕ) → x ≡ land.Down f s q n → (r : Gathered)
+        pub down-by : (f : BlockNumber) (s : ℕ) (q : BlockPlace) (n : ℕ) → x ≡ step.Down f s q n → (r : Gathered)
             → r ≡ gathered (entered + n) (shortFrom t (H - 1 - (level + 1)) (level + 1) (f .0 + s) (q .0) len) → Whole r
         unfolding below
         down-by f s q n e r r-is =
@@ -218,50 +218,50 @@ module _ (t : List ℕ) (size level b i o len entered : ℕ) (w : Walking t size
             r-is ∙ ap (λ (a : ℕ). down a (q .0)) (v .block-is) ∙ ap (down (at.link t level (v .block) + v .place / c)) (v .place-is)
             ∙ gathered-led (u .0) entered n _ (u .1) ∙ ap (gathered entered) (sym (u .2)) ∙ rw left
 
-        over-case : (f : BlockNumber) (q : BlockPlace) → x ≡ land.Over f q → Between (f .0) (q .0)
+        over-case : (f : BlockNumber) (q : BlockPlace) → x ≡ step.Over f q → Between (f .0) (q .0)
         unfolding Cases downTo
         over-case f q e = go cases
           where
             go : ((j : ℕ) × (p : ℕ) × (n : ℕ) × Inside j p n) ⊎ (((j : ℕ) × (p : ℕ) × Between j p) ⊎ Off) → Between (f .0) (q .0)
             go (inl (j, p, k, v)) =
-                let same : land.Over f q ≡ land.Down (record { 0 = at.link t level j }) (p / c) (record { 0 = p % c }) k = sym e ∙ x-is ∙ v .land-is in
+                let same : step.Over f q ≡ step.Down (record { 0 = at.link t level j }) (p / c) (record { 0 = p % c }) k = sym e ∙ x-is ∙ v .step-is in
                 clash (let z : _≡_ {A = ℕ} 0 1 = cc in z)
             go (inr (inl (j, p, v))) =
-                let same : land.Over f q ≡ land.Over (record { 0 = j }) (record { 0 = p }) = sym e ∙ x-is ∙ v .land-is in
+                let same : step.Over f q ≡ step.Over (record { 0 = j }) (record { 0 = p }) = sym e ∙ x-is ∙ v .step-is in
                 let first : f .0 ≡ j = ap (λ (y : BlockNumber). y .0) (let z : f ≡ record { 0 = j } = cc in z) in
                 let place : q .0 ≡ p = ap (λ (y : BlockPlace). y .0) (let z : q ≡ record { 0 = p } = cc in z) in
                 rw (first, place) v
             go (inr (inr v)) =
-                let same : land.Over f q ≡ land.Off = sym e ∙ x-is ∙ v .land-is in
+                let same : step.Over f q ≡ step.Off = sym e ∙ x-is ∙ v .step-is in
                 clash (let z : _≡_ {A = ℕ} 0 1 = cc in z)
 
-        pub between-asks : (f : BlockNumber) (q : BlockPlace) → x ≡ land.Over f q → Crossing t size level b (q .0) (entered + 1)
+        pub between-asks : (f : BlockNumber) (q : BlockPlace) → x ≡ step.Over f q → Crossing t size level b (q .0) (entered + 1)
         between-asks f q e =
             let v = over-case f q e in
             record { on = w .on; place-in = v .place-in; near = omega (arith, v .past, w .short); few = omega (arith, w .few) }
 
         pub between-by : (f : BlockNumber) (q : BlockPlace)
-            → x ≡ land.Over f q → (r : Gathered) → r ≡ gathered (entered + 1) (byEdges t level (f .0 + 0) (q .0)) → Whole r
+            → x ≡ step.Over f q → (r : Gathered) → r ≡ gathered (entered + 1) (byEdges t level (f .0 + 0) (q .0)) → Whole r
         between-by f q e r r-is =
             let v = over-case f q e in
             r-is ∙ rw (add-zero (f .0)) (gathered-led (visit level i o ∷ []) entered 1 (byEdges t level (f .0) (q .0)) refl)
             ∙ ap (gathered entered) (sym (v .walk-is)) ∙ rw left
 
-        pub off-by : x ≡ land.Off → Whole Broken
+        pub off-by : x ≡ step.Off → Whole Broken
         unfolding Cases downTo
         off-by e = go cases
           where
             go : ((j : ℕ) × (p : ℕ) × (n : ℕ) × Inside j p n) ⊎ (((j : ℕ) × (p : ℕ) × Between j p) ⊎ Off) → Whole Broken
             go (inl (j, p, k, v)) =
-                let same : land.Off ≡ land.Down (record { 0 = at.link t level j }) (p / c) (record { 0 = p % c }) k = sym e ∙ x-is ∙ v .land-is in
+                let same : step.Off ≡ step.Down (record { 0 = at.link t level j }) (p / c) (record { 0 = p % c }) k = sym e ∙ x-is ∙ v .step-is in
                 clash (let z : _≡_ {A = ℕ} 0 1 = cc in z)
             go (inr (inl (j, p, v))) =
-                let same : land.Off ≡ land.Over (record { 0 = j }) (record { 0 = p }) = sym e ∙ x-is ∙ v .land-is in
+                let same : step.Off ≡ step.Over (record { 0 = j }) (record { 0 = p }) = sym e ∙ x-is ∙ v .step-is in
                 clash (let z : _≡_ {A = ℕ} 0 1 = cc in z)
             go (inr (inr v)) = gathered-none entered ∙ ap (gathered entered) (sym (v .walk-is)) ∙ rw left
 
         -- With so few blocks entered.
-        pub down-few : (f : BlockNumber) (s : ℕ) (q : BlockPlace) (n : ℕ) → x ≡ land.Down f s q n → n ≤ 2
+        pub down-few : (f : BlockNumber) (s : ℕ) (q : BlockPlace) (n : ℕ) → x ≡ step.Down f s q n → n ≤ 2
         down-few f s q n e = down-case f s q n e .inside .few
 
 -- From a place of the text, and from a block.
@@ -305,13 +305,13 @@ module _ (t : List ℕ) (h : Header) (k : HeaderOf t h) where
   -- The same from the block of level 0 that contains the place.
   module _ (p len : ℕ) (s : BlockPosition)
       (s-is : s ≡ record { block = record { 0 = p / h .«top_length» }; place = record { 0 = p % h .«top_length» } }) where
-    pub spot-asks : len ≤ h .settings .leaf → Walking t (h .«record_size») 0 (h .«top_length») (s .place .0) len 0
-    spot-asks short = rw s-is (top-asks p len short)
+    pub position-asks : len ≤ h .settings .leaf → Walking t (h .«record_size») 0 (h .«top_length») (s .place .0) len 0
+    position-asks short = rw s-is (top-asks p len short)
 
-    pub spot-by : at.layout t ≡ 2 → 1 ≤ len → len ≤ h .settings .leaf → (r : Gathered)
+    pub position-by : at.layout t ≡ 2 → 1 ≤ len → len ≤ h .settings .leaf → (r : Gathered)
         → r ≡ gathered 0 (shortFrom t (at.settings t .levels - 1 - 0) 0 (s .block .0 + 0) (s .place .0) len)
         → (r ≡ gathered 0 (shortOf t p len)) × InRange t len r
-    spot-by two low short r e = top-by p len two low short r (rw s-is at e)
+    position-by two low short r e = top-by p len two low short r (rw s-is at e)
 
 -- The two parts that a walk finds, within the tree.
 pub parts-in : (t : List ℕ) (x : ℕ) (found : Gathered) (q : Parts) → found ≡ At q → InRange t x found

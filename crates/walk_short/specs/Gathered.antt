@@ -11,8 +11,8 @@ use Rattle.format.specs.TreeReading as format
 use Rattle.walk_steps.specs.Steps.{OnLevel}
 use Rattle.walk_short.specs.declared.gather.Gathered.{Gathered}
 use Rattle.walk_short.specs.declared.gather.Gathered.the-variants.{At, Broken}
-use Rattle.walk_short.specs.declared.gather.Land.{Land}
-use Rattle.walk_short.specs.declared.gather.Land.the-variants as land
+use Rattle.walk_short.specs.declared.gather.SpanStep.{SpanStep}
+use Rattle.walk_short.specs.declared.gather.SpanStep.the-variants as step
 
 -- The result, with the number of blocks entered before.
 unfoldable pub gathered : ℕ → Option format.Short → Gathered
@@ -38,20 +38,21 @@ module _ (t : List ℕ) where
       }))
 
   -- The step from kept block i to its children, of c bytes each.
-  unfoldable pub downTo : ℕ → ℕ → ℕ → ℕ → ℕ → Land
-  downTo l c i o n = land.Down (record { 0 = at.link t l i }) (o / c) (record { 0 = o % c }) n
+  unfoldable pub downTo : ℕ → ℕ → ℕ → ℕ → ℕ → SpanStep
+  downTo l c i o n = step.Down (record { 0 = at.link t l i }) (o / c) (record { 0 = o % c }) n
 
   -- The step from pointing block i.
-  unfoldable pub pointedTo : ℕ → ℕ → ℕ → ℕ → Land
+  unfoldable pub pointedTo : ℕ → ℕ → ℕ → ℕ → SpanStep
   pointedTo l i o len =
       let j = targetBlock t l i o in
       let p = targetPlace t l i o in
-      cond (leb (p + len) (at.fullLength t l)) (cond (keptBlock t l j) (downTo l (at.fullLength t (l + 1)) j p 2) land.Off)
-      (land.Over (record { 0 = j }) (record { 0 = p }))
+      cond (leb (p + len) (at.fullLength t l)) (cond (keptBlock t l j) (downTo l (at.fullLength t (l + 1)) j p 2) step.Off)
+      (step.Over (record { 0 = j }) (record { 0 = p }))
 
-  unfoldable pub landing : ℕ → ℕ → ℕ → ℕ → Land
-  landing l i o len =
-      cond (keptBlock t l i) (downTo l (at.fullLength t (l + 1)) i o 1) (cond (pointingBlock t l i) (pointedTo l i o len) land.Off)
+  -- The step of a span of len bytes from place o of block i.
+  unfoldable pub spanStep : ℕ → ℕ → ℕ → ℕ → SpanStep
+  spanStep l i o len =
+      cond (keptBlock t l i) (downTo l (at.fullLength t (l + 1)) i o 1) (cond (pointingBlock t l i) (pointedTo l i o len) step.Off)
 
   -- A short span crosses the end of a block of a layout 2 tree and starts fewer than m bytes before it.
   pub record Crossing (size level b o entered : ℕ) : Type 0 where

@@ -22,7 +22,7 @@ ghost use Rattle.format.specs.TreeReading.{keptBlock, byEdges, inLeaf, shortFro
 ghost use Rattle.layout.specs.HeaderFields.{HeaderOf};
 ghost use Rattle.format.specs.LayoutLaws.{Readable};
 ghost use Rattle.walk_steps.specs.Steps.{OnLevel, Pointing};
-ghost use Rattle.walk_short.specs.Gathered.{gathered, unpacked, downTo, pointedTo, landing, Crossing, Walking, InRange};
+ghost use Rattle.walk_short.specs.Gathered.{gathered, unpacked, downTo, pointedTo, spanStep, Crossing, Walking, InRange};
 
 // Where the bytes of a span are in the tree: `size` of them from `from` on, the others from `next` on; and the number of blocks entered.
 pub struct Parts {
@@ -39,14 +39,14 @@ pub enum Gathered {
 
 // The next step of a span on a level: a kept block contains it, and the span continues in the block some steps after its first child, with a number of blocks
 // entered; or the span crosses the end of a block.
-pub enum Land {
+pub enum SpanStep {
     Down(BlockNumber, u32, BlockPlace, u32),
     Over(BlockNumber, BlockPlace),
     Off,
 }
 
 // A span: the place of its first byte in a block, and its length.
-pub struct Stretch {
+pub struct BlockSpan {
     pub place: BlockPlace,
     pub len: u32,
 }
@@ -82,7 +82,7 @@ fn leaf_part(
     size: u32,
     level: u32,
     block: BlockNumber,
-    span: Stretch,
+    span: BlockSpan,
     entered: u32,
 ) -> u64
     requires { ⌜ (Readable (now t)) × (size ≡ at.recordSize (now t)) × (level < at.settings (now t) .levels)
@@ -100,7 +100,7 @@ fn leaf_part(
 }
 
 // A span in a block of the last level, where no block points.
-fn last(t: &[u8], size: u32, on: LevelAt, ahead: BlockOffset, span: Stretch, entered: u32) -> u64
+fn last(t: &[u8], size: u32, on: LevelAt, ahead: BlockOffset, span: BlockSpan, entered: u32) -> u64
     requires { ⌜ (OnLevel (now t) size (on .level) (on .b)) × (entered ≤ 2 * maxLevels) × (span .len ≤ maxLeaf) ⌝ }
     ensures { λ r. ⌜ unpacked (now (t .entry)) r
         ≡ gathered entered (inLeaf (now (t .entry)) (on .level) (ahead .first .0 + ahead .steps) (span .place .0) (span .len)) ⌝ }
@@ -108,7 +108,7 @@ fn last(t: &[u8], size: u32, on: LevelAt, ahead: BlockOffset, span: Stretch, ent
     let next = walk_steps::classify_next(t, size, on, ahead, span.place);
     match next {
         BlockKind::Kept(i, p) => {
-            let there = Stretch {
+            let there = BlockSpan {
                 place: p,
                 len: span.len,
             };
@@ -120,15 +120,15 @@ fn last(t: &[u8], size: u32, on: LevelAt, ahead: BlockOffset, span: Stretch, ent
 }
 
 // From a kept block that contains a span to its children, of c bytes each.
-fn into(t: &[u8], size: u32, level: u32, c: u32, spot: BlockPosition, entered: u32) -> Land
+fn into(t: &[u8], size: u32, level: u32, c: u32, position: BlockPosition, entered: u32) -> SpanStep
     requires { ⌜ (Readable (now t)) × (size ≡ at.recordSize (now t)) × (level < at.settings (now t) .levels)
-        × (spot .block .0 < at.levelCount (now t) level) × (0 < c) ⌝ }
-    ensures { λ r. ⌜ r ≡ downTo (now (t .entry)) level c (spot .block .0) (spot .place .0) entered ⌝ }
+        × (position .block .0 < at.levelCount (now t) level) × (0 < c) ⌝ }
+    ensures { λ r. ⌜ r ≡ downTo (now (t .entry)) level c (position .block .0) (position .place .0) entered ⌝ }
 {
-    let link = record::link(t, size, level, spot.block);
-    let part = walk_steps::div_rem(spot.place, c);
+    let link = record::link(t, size, level, position.block);
+    let part = walk_steps::div_rem(position.place, c);
     let rest = part.place;
-    Land::Down(BlockNumber(link.0), part.blocks, rest, entered)
+    SpanStep::Down(BlockNumber(link.0), part.blocks, rest, entered)
 }
 
 // Whether the end of a block of b bytes is between the first and the last byte of a span.
@@ -143,7 +143,14 @@ fn splits(b: u32, place: BlockPlace, len: u32) -> bool
 }
 
 // The next step from a pointing block: to a kept block that contains the span, or across the border of its two targets.
-fn pointed(t: &[u8], size: u32, on: LevelAt, c: u32, block: BlockNumber, span: Stretch) -> Land
+fn pointed(
+    t: &[u8],
+    size: u32,
+    on: LevelAt,
+    c: u32,
+    block: BlockNumber,
+    span: BlockSpan,
+) -> SpanStep
     requires { ⌜ (Pointing (now t) size (on .level) (on .b) (block .0) (span .place .0)) × (span .place .0 + span .len ≤ on .b)
         × (c ≡ at.fullLength (now t) (on .level + 1)) ⌝ }
     ensures { λ r. ⌜ r ≡ pointedTo (now (t .entry)) (on .level) (block .0) (span .place .0) (span .len) ⌝ }
@@ -152,7 +159,7 @@ fn pointed(t: &[u8], size: u32, on: LevelAt, c: u32, block: BlockNumber, span: S
     let gap = record::gap(t, size, on.level, block);
     let sum = BlockPlace(gap.0 + span.place.0);
     if splits(on.b, sum, span.len) {
-        return Land::Over(BlockNumber(link.0), sum);
+        return SpanStep::Over(BlockNumber(link.0), sum);
     }
     let next = walk_steps::target(t, size, on.level, on.b, block, span.place);
     match next {
@@ -164,16 +171,16 @@ fn pointed(t: &[u8], size: u32, on: LevelAt, c: u32, block: BlockNumber, span: S
             BlockPosition { block: i, place: p },
             2,
         ),
-        BlockKind::Points(_, _) => Land::Off,
-        BlockKind::Off => Land::Off,
+        BlockKind::Points(_, _) => SpanStep::Off,
+        BlockKind::Off => SpanStep::Off,
     }
 }
 
 // The next step of a span inside a block above the last level; c is the block length of the children.
-fn settle(t: &[u8], size: u32, on: LevelAt, c: u32, ahead: BlockOffset, span: Stretch) -> Land
+fn settle(t: &[u8], size: u32, on: LevelAt, c: u32, ahead: BlockOffset, span: BlockSpan) -> SpanStep
     requires { ⌜ (OnLevel (now t) size (on .level) (on .b)) × (span .place .0 < on .b) × (span .place .0 + span .len ≤ on .b)
         × (c ≡ at.fullLength (now t) (on .level + 1)) ⌝ }
-    ensures { λ r. ⌜ r ≡ landing (now (t .entry)) (on .level) (ahead .first .0 + ahead .steps) (span .place .0) (span .len) ⌝ }
+    ensures { λ r. ⌜ r ≡ spanStep (now (t .entry)) (on .level) (ahead .first .0 + ahead .steps) (span .place .0) (span .len) ⌝ }
 {
     let next = walk_steps::classify_next(t, size, on, ahead, span.place);
     match next {
@@ -186,61 +193,58 @@ fn settle(t: &[u8], size: u32, on: LevelAt, c: u32, ahead: BlockOffset, span: St
             1,
         ),
         BlockKind::Points(i, p) => {
-            let there = Stretch {
+            let there = BlockSpan {
                 place: p,
                 len: span.len,
             };
             pointed(t, size, on, c, i, there)
         }
-        BlockKind::Off => Land::Off,
+        BlockKind::Off => SpanStep::Off,
     }
 }
 
 // The walk from the block some steps after another, as one number; the levels left fall.
+// The arguments are single words: a struct of two words would be packed and unpacked at each level.
 fn gather_packed(
     t: &&[u8],
     size: u32,
-    on: LevelAt,
-    ahead: BlockOffset,
-    span: Stretch,
+    level: u32,
+    b: u32,
+    first: BlockNumber,
+    steps: u32,
+    place: BlockPlace,
+    len: u32,
     entered: u32,
 ) -> u64
-    requires { ⌜ Walking (now (now t)) size (on .level) (on .b) (span .place .0) (span .len) entered ⌝ }
+    requires { ⌜ Walking (now (now t)) size level b (place .0) len entered ⌝ }
     ensures { λ r. ⌜ unpacked (now (now (t .entry))) r ≡ gathered entered (shortFrom (now (now (t .entry)))
-        (at.settings (now (now (t .entry))) .levels - 1 - on .level) (on .level) (ahead .first .0 + ahead .steps) (span .place .0) (span .len)) ⌝ }
+        (at.settings (now (now (t .entry))) .levels - 1 - level) level (first .0 + steps) (place .0) len) ⌝ }
 {
     let tree = *t;
-    if on.b < span.place.0 + span.len {
-        return over(tree, size, on, ahead, span.place, entered);
+    let on = LevelAt { level, b };
+    let ahead = BlockOffset { first, steps };
+    if b < place.0 + len {
+        return over(tree, size, on, ahead, place, entered);
     }
+    let span = BlockSpan { place, len };
     let shape = fields::shape_of(tree);
-    let down = on.level + 1;
+    let down = level + 1;
     if down == shape.levels {
         return last(tree, size, on, ahead, span, entered);
     }
-    let c = walk_steps::quotient(on.b, shape.arity);
-    let land = settle(tree, size, on, c, ahead, span);
-    match land {
-        Land::Down(first, steps, place, n) => gather_packed(
-            t,
-            size,
-            LevelAt { level: down, b: c },
-            BlockOffset { first, steps },
-            Stretch {
-                place,
-                len: span.len,
-            },
-            entered + n,
-        ),
-        Land::Over(first, p) => over(
+    let c = walk_steps::quotient(b, shape.arity);
+    let step = settle(tree, size, on, c, ahead, span);
+    match step {
+        SpanStep::Down(i, k, p, n) => gather_packed(t, size, down, c, i, k, p, len, entered + n),
+        SpanStep::Over(i, p) => over(
             tree,
             size,
             on,
-            BlockOffset { first, steps: 0 },
+            BlockOffset { first: i, steps: 0 },
             p,
             entered + 1,
         ),
-        Land::Off => 0,
+        SpanStep::Off => 0,
     }
 }
 
@@ -250,14 +254,24 @@ pub fn gather(
     size: u32,
     on: LevelAt,
     ahead: BlockOffset,
-    span: Stretch,
+    span: BlockSpan,
     entered: u32,
 ) -> Gathered
     requires { ⌜ (Walking (now t) size (on .level) (on .b) (span .place .0) (span .len) entered) × (at.layout (now t) ≡ 2) ⌝ }
     ensures { λ r. ⌜ r ≡ gathered entered (shortFrom (now (t .entry)) (at.settings (now (t .entry)) .levels - 1 - on .level) (on .level)
         (ahead .first .0 + ahead .steps) (span .place .0) (span .len)) ⌝ }
 {
-    let code = gather_packed(&t, size, on, ahead, span, entered);
+    let code = gather_packed(
+        &t,
+        size,
+        on.level,
+        on.b,
+        ahead.first,
+        ahead.steps,
+        span.place,
+        span.len,
+        entered,
+    );
     let m = word::read(t, header::LEAF_AT);
     packed::unpack(t, size, m, code)
 }
@@ -268,16 +282,9 @@ pub fn from_text(t: &[u8], h: Header, p: TextPlace, len: u32) -> Gathered
     ensures { λ r. ⌜ (r ≡ gathered 0 (shortOf (now (t .entry)) (p .0) len)) × InRange (now (t .entry)) len r ⌝ }
 {
     let b = h.top_length;
-    let spot = walk_steps::top_spot(p, b);
-    let first = spot.block;
-    let place = spot.place;
-    let code = gather_packed(
-        &t,
-        h.record_size,
-        LevelAt { level: 0, b },
-        BlockOffset { first, steps: 0 },
-        Stretch { place, len },
-        0,
-    );
+    let position = walk_steps::top_position(p, b);
+    let first = position.block;
+    let place = position.place;
+    let code = gather_packed(&t, h.record_size, 0, b, first, 0, place, len, 0);
     packed::unpack(t, h.record_size, h.settings.leaf, code)
 }

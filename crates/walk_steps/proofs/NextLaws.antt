@@ -18,8 +18,8 @@ use Rattle.layout.specs.HeaderFields.{HeaderOf}
 use Rattle.walk_steps.specs.declared.BlockKind.{BlockKind}
 use Rattle.walk_steps.specs.declared.BlockKind.the-variants.{Kept, Points, Off}
 use Rattle.walk_steps.specs.declared.BlockAt.{BlockAt}
-use Rattle.walk_steps.specs.declared.BlockAt.the-variants as arrived
-use Rattle.walk_steps.specs.Steps.{OnLevel, nextAt, childAt, landAt, arriving}
+use Rattle.walk_steps.specs.declared.BlockAt.the-variants as block-at
+use Rattle.walk_steps.specs.Steps.{OnLevel, blockKindAt, childAt, resolvedTarget, arriving}
 
 abbrev next-cases : (kept points : Bool) (i o : ℕ) → BlockKind
 next-cases kept points i o = cond kept (Kept (record { 0 = i }) (record { 0 = o })) (cond points (Points (record { 0 = i }) (record { 0 = o })) Off)
@@ -41,21 +41,21 @@ case-off true points i o e = absurd (let z : _≡_ {A = ℕ} 0 1 = cc in omega a
 case-off false true i o e = absurd (let z : _≡_ {A = ℕ} 0 1 = cc in omega arith)
 case-off false false i o e = (refl, refl)
 
-module _ (t : List ℕ) (l i o : ℕ) (x : BlockKind) (is : x ≡ nextAt t l i o) where
+module _ (t : List ℕ) (l i o : ℕ) (x : BlockKind) (is : x ≡ blockKindAt t l i o) where
   pub next-kept : (j : BlockNumber) (p : BlockPlace) → x ≡ Kept j p → (keptBlock t l i ≡ true) × (j .0 ≡ i) × (p .0 ≡ o)
-  unfolding nextAt
+  unfolding blockKindAt
   next-kept j p e =
       let z = case-kept (keptBlock t l i) (pointingBlock t l i) i o j p (sym is ∙ e) in
       (z .0, ap (λ (n : BlockNumber). n .0) (z .1), ap (λ (n : BlockPlace). n .0) (z .2))
 
   pub next-points : (j : BlockNumber) (p : BlockPlace) → x ≡ Points j p → (keptBlock t l i ≡ false) × (pointingBlock t l i ≡ true) × (j .0 ≡ i) × (p .0 ≡ o)
-  unfolding nextAt
+  unfolding blockKindAt
   next-points j p e =
       let z = case-points (keptBlock t l i) (pointingBlock t l i) i o j p (sym is ∙ e) in
       (z .0, z .1, ap (λ (n : BlockNumber). n .0) (z .2), ap (λ (n : BlockPlace). n .0) (z .3))
 
   pub next-off : x ≡ Off → (keptBlock t l i ≡ false) × (pointingBlock t l i ≡ false)
-  unfolding nextAt
+  unfolding blockKindAt
   next-off e = case-off (keptBlock t l i) (pointingBlock t l i) i o (sym is ∙ e)
 
 module _ (t : List ℕ) where
@@ -93,39 +93,40 @@ on-top t h k = record {
 
 -- What was arrived at.
 
-case-at : (x : Bool) (i o : ℕ) (j : BlockNumber) (p : BlockPlace) → arriving x i o ≡ arrived.At j p → (x ≡ true) × (j .0 ≡ i) × (p .0 ≡ o)
+case-at : (x : Bool) (i o : ℕ) (j : BlockNumber) (p : BlockPlace) → arriving x i o ≡ block-at.At j p → (x ≡ true) × (j .0 ≡ i) × (p .0 ≡ o)
 case-at true i o j p e =
     let f : j ≡ record { 0 = i } = cc in
     let g : p ≡ record { 0 = o } = cc in
     (refl, ap (λ (n : BlockNumber). n .0) f, ap (λ (n : BlockPlace). n .0) g)
 case-at false i o j p e = absurd (let z : _≡_ {A = ℕ} 0 1 = cc in omega arith)
 
-case-none : (x : Bool) (i o : ℕ) → arriving x i o ≡ arrived.Off → x ≡ false
+case-none : (x : Bool) (i o : ℕ) → arriving x i o ≡ block-at.Off → x ≡ false
 case-none true i o e = absurd (let z : _≡_ {A = ℕ} 0 1 = cc in omega arith)
 case-none false i o e = refl
 
 module _ (t : List ℕ) (l i o : ℕ) (x : BlockAt) where
   module _ (is : x ≡ childAt t l i o) where
-    pub child-at : (j : BlockNumber) (p : BlockPlace) → x ≡ arrived.At j p → (i < at.levelCount t l) × (j .0 ≡ i) × (p .0 ≡ o)
+    pub child-at : (j : BlockNumber) (p : BlockPlace) → x ≡ block-at.At j p → (i < at.levelCount t l) × (j .0 ≡ i) × (p .0 ≡ o)
     unfolding childAt
     child-at j p e =
         let z = case-at (ltb i (at.levelCount t l)) i o j p (sym is ∙ e) in
         (ltb-true _ _ (z .0), z .1, z .2)
 
-    pub child-off : x ≡ arrived.Off → at.levelCount t l ≤ i
+    pub child-off : x ≡ block-at.Off → at.levelCount t l ≤ i
     unfolding childAt
     child-off e = ltb-false _ _ (case-none (ltb i (at.levelCount t l)) i o (sym is ∙ e))
 
-  module _ (is : x ≡ landAt t l i o) where
-    pub land-at : (j : BlockNumber) (p : BlockPlace) → x ≡ arrived.At j p
+  module _ (is : x ≡ resolvedTarget t l i o) where
+    pub resolved-at : (j : BlockNumber) (p : BlockPlace) → x ≡ block-at.At j p
         → (l + 1 < at.settings t .levels) × (keptBlock t l (targetBlock t l i o) ≡ true) × (j .0 ≡ targetBlock t l i o) × (p .0 ≡ targetPlace t l i o)
-    unfolding landAt
-    land-at j p e =
+    unfolding resolvedTarget
+    resolved-at j p e =
         let more = ltb (l + 1) (at.settings t .levels) in
         let kept = keptBlock t l (targetBlock t l i o) in
         let z = case-at (more && kept) (targetBlock t l i o) (targetPlace t l i o) j p (sym is ∙ e) in
         (ltb-true _ _ (and-left more kept (z .0)), and-right more kept (z .0), z .1, z .2)
 
-    pub land-off : x ≡ arrived.Off → (ltb (l + 1) (at.settings t .levels) && keptBlock t l (targetBlock t l i o)) ≡ false
-    unfolding landAt
-    land-off e = case-none (ltb (l + 1) (at.settings t .levels) && keptBlock t l (targetBlock t l i o)) (targetBlock t l i o) (targetPlace t l i o) (sym is ∙ e)
+    pub resolved-off : x ≡ block-at.Off → (ltb (l + 1) (at.settings t .levels) && keptBlock t l (targetBlock t l i o)) ≡ false
+    unfolding resolvedTarget
+    resolved-off e =
+        case-none (ltb (l + 1) (at.settings t .levels) && keptBlock t l (targetBlock t l i o)) (targetBlock t l i o) (targetPlace t l i o) (sym is ∙ e)

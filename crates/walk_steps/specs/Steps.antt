@@ -10,16 +10,16 @@ use Rattle.format.specs.TreeReading.{keptBlock, pointingBlock, targetBlock, tar
 use Rattle.walk_steps.specs.declared.BlockKind.{BlockKind}
 use Rattle.walk_steps.specs.declared.BlockKind.the-variants.{Kept, Points, Off}
 use Rattle.walk_steps.specs.declared.BlockAt.{BlockAt}
-use Rattle.walk_steps.specs.declared.BlockAt.the-variants as arrived
+use Rattle.walk_steps.specs.declared.BlockAt.the-variants as block-at
 
 -- The block if a test holds, else none.
 abbrev pub arriving : Bool → ℕ → ℕ → BlockAt
-arriving x i o = cond x (arrived.At (record { 0 = i }) (record { 0 = o })) arrived.Off
+arriving x i o = cond x (block-at.At (record { 0 = i }) (record { 0 = o })) block-at.Off
 
 module _ (t : List ℕ) where
   -- The kind of block i of level l, reached at place o.
-  unfoldable pub nextAt : ℕ → ℕ → ℕ → BlockKind
-  nextAt l i o =
+  unfoldable pub blockKindAt : ℕ → ℕ → ℕ → BlockKind
+  blockKindAt l i o =
       cond (keptBlock t l i) (Kept (record { 0 = i }) (record { 0 = o }))
       (cond (pointingBlock t l i) (Points (record { 0 = i }) (record { 0 = o })) Off)
 
@@ -28,8 +28,8 @@ module _ (t : List ℕ) where
   childAt l i o = arriving (ltb i (at.levelCount t l)) i o
 
   -- The kept block that place o of pointing block i of level l refers to.
-  unfoldable pub landAt : ℕ → ℕ → ℕ → BlockAt
-  landAt l i o = arriving (ltb (l + 1) (at.settings t .levels) && keptBlock t l (targetBlock t l i o)) (targetBlock t l i o) (targetPlace t l i o)
+  unfoldable pub resolvedTarget : ℕ → ℕ → ℕ → BlockAt
+  resolvedTarget l i o = arriving (ltb (l + 1) (at.settings t .levels) && keptBlock t l (targetBlock t l i o)) (targetBlock t l i o) (targetPlace t l i o)
 
   -- A level of a tree that passes questions 5 to 7, with the size of its records and its block length b.
   pub record OnLevel (size level b : ℕ) : Type 0 where

@@ -17,7 +17,7 @@ ghost use Prim.Native.Nat.{_+_, _*_, _/_, _%_, _≤_, _<_};
 ghost use lib.Dec.{ltb};
 ghost use Rattle.format.specs.Layout as at;
 ghost use Rattle.format.specs.TreeReading.{targetBlock, targetPlace};
-ghost use Rattle.walk_steps.specs.Steps.{OnLevel, InTable, Pointing, nextAt, childAt, landAt};
+ghost use Rattle.walk_steps.specs.Steps.{OnLevel, InTable, Pointing, blockKindAt, childAt, resolvedTarget};
 
 // The kind of the block that a path reaches, and the place in it.
 pub enum BlockKind {
@@ -66,7 +66,7 @@ pub fn div_rem(place: BlockPlace, b: u32) -> DivRem
 }
 
 // The block of level 0 that contains a place of the text, and the place in it; b is the block length of level 0.
-pub fn top_spot(place: TextPlace, b: u32) -> BlockPosition
+pub fn top_position(place: TextPlace, b: u32) -> BlockPosition
     requires { ⌜ 0 < b ⌝ }
     ensures { λ r. ⌜ r ≡ record { block = record { 0 = place .0 / b }; place = record { 0 = place .0 % b } } ⌝ }
 {
@@ -87,7 +87,7 @@ pub fn classify_block(
     place: BlockPlace,
 ) -> BlockKind
     requires { ⌜ InTable (now t) size level b (block .0) ⌝ }
-    ensures { λ r. ⌜ r ≡ nextAt (now (t .entry)) level (block .0) (place .0) ⌝ }
+    ensures { λ r. ⌜ r ≡ blockKindAt (now (t .entry)) level (block .0) (place .0) ⌝ }
 {
     let kind = record::kind(t, size, level, block);
     if kind == 0 {
@@ -112,7 +112,7 @@ pub fn classify_next(
     place: BlockPlace,
 ) -> BlockKind
     requires { ⌜ OnLevel (now t) size (on .level) (on .b) ⌝ }
-    ensures { λ r. ⌜ r ≡ nextAt (now (t .entry)) (on .level) (ahead .first .0 + ahead .steps) (place .0) ⌝ }
+    ensures { λ r. ⌜ r ≡ blockKindAt (now (t .entry)) (on .level) (ahead .first .0 + ahead .steps) (place .0) ⌝ }
 {
     let count = record::level_count(t, on.level) as u64;
     let number = ahead.first.0 as u64 + ahead.steps as u64;
@@ -165,7 +165,7 @@ pub fn target(
     place: BlockPlace,
 ) -> BlockKind
     requires { ⌜ Pointing (now t) size level b (block .0) (place .0) ⌝ }
-    ensures { λ r. ⌜ r ≡ nextAt (now (t .entry))
+    ensures { λ r. ⌜ r ≡ blockKindAt (now (t .entry))
         level (targetBlock (now (t .entry)) level (block .0) (place .0)) (targetPlace (now (t .entry)) level (block .0) (place .0)) ⌝ }
 {
     let link = record::link(t, size, level, block);
@@ -194,7 +194,7 @@ pub fn resolve_target(
     place: BlockPlace,
 ) -> BlockAt
     requires { ⌜ Pointing (now t) size level b (block .0) (place .0) ⌝ }
-    ensures { λ r. ⌜ r ≡ landAt (now (t .entry)) level (block .0) (place .0) ⌝ }
+    ensures { λ r. ⌜ r ≡ resolvedTarget (now (t .entry)) level (block .0) (place .0) ⌝ }
 {
     let shape = fields::shape_of(t);
     if level + 1 == shape.levels {

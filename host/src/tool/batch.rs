@@ -95,7 +95,7 @@ impl Batch<'_> {
         book::lines(&self.warnings).iter().filter(|_| !self.given.quiet()).for_each(|line| say::tell(line));
         match self.status {
             0 => Ok(()),
-            status => Err(Failure::told(status)),
+            status => Err(Failure::reported(status)),
         }
     }
 

@@ -36,9 +36,9 @@ pub fn code(given: &Given) -> Result<(), Failure> {
     }
     match (worst, found) {
         (0, true) => Ok(()),
-        (0, false) if given.quiet() => Err(Failure::told(1)),
+        (0, false) if given.quiet() => Err(Failure::reported(1)),
         (0, false) => Err(Failure::nothing(&only(&trees), format!("no row starts with '{}'", prefix.escape_ascii()))),
-        (worst, _) => Err(Failure::told(worst)),
+        (worst, _) => Err(Failure::reported(worst)),
     }
 }
 

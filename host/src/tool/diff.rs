@@ -45,7 +45,7 @@ pub fn diff(given: &Given) -> Result<(), Failure> {
     }
     match changes.is_empty() {
         true => Ok(()),
-        false => Err(Failure::told(1)),
+        false => Err(Failure::reported(1)),
     }
 }
 
@@ -163,29 +163,29 @@ mod tests {
     use super::{changes, rows, Change};
 
     /// A letter for each change, and the rows' numbers.
-    fn told(one: &str, other: &str) -> Vec<String> {
+    fn listed(one: &str, other: &str) -> Vec<String> {
         let (old, new) = (rows(one.as_bytes()), rows(other.as_bytes()));
-        let told = |change: &Change| match change {
+        let listed = |change: &Change| match change {
             Change::Removed(row) => format!("-{}", row.number),
             Change::Changed(row, other) => format!("{}>{}", row.number, other.number),
             Change::Added(row) => format!("+{}", row.number),
         };
-        changes(&old, &new).iter().map(told).collect()
+        changes(&old, &new).iter().map(listed).collect()
     }
 
     #[test]
     fn rows_by_code() {
-        assert!(told("A 1\nB 2\n", "B 2\r\nA 1").is_empty());
-        assert_eq!(told("A 1\nB 2\nC 3\n", "A 1\nC 4\nD 5\n"), ["-2", "3>2", "+3"]);
+        assert!(listed("A 1\nB 2\n", "B 2\r\nA 1").is_empty());
+        assert_eq!(listed("A 1\nB 2\nC 3\n", "A 1\nC 4\nD 5\n"), ["-2", "3>2", "+3"]);
         // of several rows of a code those that are the same are left out first
-        assert_eq!(told("A 1\nA 2\nA 3\n", "A 2\nA 3\n"), ["-1"]);
-        assert_eq!(told("A 1\nA 2\n", "A 2\nA 3\nA 1\nA 4\n"), ["+2", "+4"]);
-        assert_eq!(told("A 1\nA 1\n", "A 1\n"), ["-2"]);
+        assert_eq!(listed("A 1\nA 2\nA 3\n", "A 2\nA 3\n"), ["-1"]);
+        assert_eq!(listed("A 1\nA 2\n", "A 2\nA 3\nA 1\nA 4\n"), ["+2", "+4"]);
+        assert_eq!(listed("A 1\nA 1\n", "A 1\n"), ["-2"]);
         // of several equal rows the one that was changed is listed
-        assert_eq!(told("A 1\nB 1\nA 1\nA 1\n", "A 1\nB 1\nA 2\nA 1\n"), ["3>3"]);
-        assert_eq!(told("A 1\nB 1\nA 1\nC 1\n", "A 2\nX 1\nB 1\nA 1\nC 1\n"), ["1>1", "+2"]);
+        assert_eq!(listed("A 1\nB 1\nA 1\nA 1\n", "A 1\nB 1\nA 2\nA 1\n"), ["3>3"]);
+        assert_eq!(listed("A 1\nB 1\nA 1\nC 1\n", "A 2\nX 1\nB 1\nA 1\nC 1\n"), ["1>1", "+2"]);
         // a row without a space is its own code
-        assert_eq!(told("title\n 1\n", "Title\n 2\n"), ["-1", "2>2", "+1"]);
-        assert!(told("", "").is_empty());
+        assert_eq!(listed("title\n 1\n", "Title\n 2\n"), ["-1", "2>2", "+1"]);
+        assert!(listed("", "").is_empty());
     }
 }

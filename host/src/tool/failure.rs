@@ -57,7 +57,7 @@ impl Failure {
     }
 
     /// Everything has been reported; only the status is left.
-    pub fn told(status: u8) -> Self {
+    pub fn reported(status: u8) -> Self {
         Failure { status, ..Failure::usage("") }
     }
 

@@ -193,7 +193,7 @@ impl Given {
             status = status.max(failure.status());
         }
         if status > 0 {
-            return Err(Failure::told(status));
+            return Err(Failure::reported(status));
         }
         Ok(())
     }

@@ -58,7 +58,7 @@ pub fn import(given: &Given) -> Result<(), Failure> {
     report(given, &summary(&input.name, &name, &imported, &layout, separator, given.json()), standard)?;
     match imported.dropped.is_empty() || given.has(&LENIENT) {
         true => Ok(()),
-        false => Err(Failure::told(1)),
+        false => Err(Failure::reported(1)),
     }
 }
 

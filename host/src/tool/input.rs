@@ -92,9 +92,9 @@ impl Source {
         }
     }
 
-    fn standard(told: bool) -> Result<Self, Failure> {
+    fn standard(named: bool) -> Result<Self, Failure> {
         let stdin = io::stdin();
-        if !told && stdin.is_terminal() {
+        if !named && stdin.is_terminal() {
             return Err(Failure::usage("no file is given, and nothing is piped in; - reads from the terminal"));
         }
         let name = "standard input".to_owned();

@@ -23,7 +23,7 @@ pub fn open(given: &Given) -> Result<(), Failure> {
     if open {
         return Ok(());
     }
-    Err(Failure::told(1))
+    Err(Failure::reported(1))
 }
 
 pub fn left(given: &Given) -> Result<(), Failure> {

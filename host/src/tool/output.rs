@@ -60,8 +60,8 @@ impl Output {
         }
     }
 
-    fn standard(told: bool) -> Result<Self, Failure> {
-        if !told && io::stdout().is_terminal() {
+    fn standard(named: bool) -> Result<Self, Failure> {
+        if !named && io::stdout().is_terminal() {
             return Err(Failure::usage("this would go to the terminal; give -o FILE, or -o - if that is meant"));
         }
         Ok(Output { name: "standard output".to_owned(), place: Place::Standard, waiting: Vec::new() })

@@ -100,7 +100,7 @@ pub fn ask(given: &Given) -> Result<(), Failure> {
     }
     question.answer(tree, guide, &mut page).map_err(failure)?;
     match question.nothing() {
-        Some(_) if page.is_empty() && given.quiet() => Err(Failure::told(1)),
+        Some(_) if page.is_empty() && given.quiet() => Err(Failure::reported(1)),
         Some(words) if page.is_empty() => Err(Failure::nothing(&input.name, words)),
         _ => page.print(),
     }
@@ -173,7 +173,7 @@ impl Question {
             Question::Rows(first, Some(last)) if first == last => page.row(first, &one_row(tree, guide, first)?),
             Question::Rows(first, last) => {
                 let last = last.map_or_else(|| to_the_end(first, tree.row_count()?).ok_or(Refusal::NoSuch), Ok)?;
-                let text = stretch(tree, guide, first, last)?;
+                let text = rows_between(tree, guide, first, last)?;
                 text_rows(&text).zip(first..).for_each(|(row, q)| page.row(q, row));
             }
             Question::ColumnRows(first, last, width) => {
@@ -240,7 +240,7 @@ fn one_row(tree: Tree, guide: Option<&[u8]>, q: u32) -> Result<Vec<u8>, Refusal>
 }
 
 /// The text from the first row to the last, ends included, by two finds and one span rather than two finds for each row.
-fn stretch(tree: Tree, guide: Option<&[u8]>, first: u32, last: u32) -> Result<Vec<u8>, Refusal> {
+fn rows_between(tree: Tree, guide: Option<&[u8]>, first: u32, last: u32) -> Result<Vec<u8>, Refusal> {
     let (length, rows) = (tree.text_length(), tree.row_count()?);
     // all rows of a book that has none
     if last < first {

@@ -180,14 +180,14 @@ pub fn sizes(given: &Given) -> Result<(), Failure> {
     let length = given.figure(0)?;
     let counted = build::counted(given)?;
     let settings = build::settings(given, &counted)?.ok_or_else(|| given.usage("--leaf, --arity and --levels are missing"))?;
-    let told = format!("{}; bytes counted: {}", shape(&settings), listed(&counted));
+    let parts = format!("{}; bytes counted: {}", shape(&settings), listed(&counted));
     let tree = size_bound(length as usize, &settings)
-        .map_err(|refusal| Failure::library("", refusal, format!("{refusal}; given: {} bytes, {told}", grouped(length))))?;
+        .map_err(|refusal| Failure::library("", refusal, format!("{refusal}; given: {} bytes, {parts}", grouped(length))))?;
     let words = scan_words(length, settings.leaf);
     if given.json() {
         return say::print(Object::new().number("length", length).number("size", tree).number("table_words", words).line().as_bytes());
     }
     say::print(
-        format!("a text of {} bytes; {told}\ntree   at most {} bytes\ntable  {} words\n", grouped(length), grouped(tree), grouped(words)).as_bytes(),
+        format!("a text of {} bytes; {parts}\ntree   at most {} bytes\ntable  {} words\n", grouped(length), grouped(tree), grouped(words)).as_bytes(),
     )
 }

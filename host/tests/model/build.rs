@@ -40,8 +40,8 @@ pub fn choose(n: usize, b: usize, starts: &[usize], leftmost: &dyn Fn(usize, usi
 
 /// The leftmost occurrence of some bytes, by trying every place.
 pub fn leftmost(text: &[u8], place: usize, length: usize) -> usize {
-    let stretch = &text[place..place + length];
-    text.windows(length).position(|window| window == stretch).expect("it stands at its own place")
+    let wanted = &text[place..place + length];
+    text.windows(length).position(|window| window == wanted).expect("it occurs at its own place")
 }
 
 struct Block {
@@ -118,10 +118,10 @@ fn write_tree(layout: u32, text: &[u8], shape: Shape, counted: &[u8], levels: &[
             }
             let end = text.len().min(block.start + b);
             for sum in &sums {
-                let stretch = |from: usize, to: usize| (sum[to] - sum[from]) as usize;
-                put(&mut tree, stretch(block.parent_start, block.start));
-                put(&mut tree, stretch(block.start, end));
-                put(&mut tree, if kind == 1 { stretch(blocks[block.link].start, blocks[block.link].start + gap) } else { 0 });
+                let occurrences = |from: usize, to: usize| (sum[to] - sum[from]) as usize;
+                put(&mut tree, occurrences(block.parent_start, block.start));
+                put(&mut tree, occurrences(block.start, end));
+                put(&mut tree, if kind == 1 { occurrences(blocks[block.link].start, blocks[block.link].start + gap) } else { 0 });
             }
             if layout == WITH_EDGES {
                 tree.extend(edges(&text[block.start..end], shape.m as usize));

@@ -83,18 +83,18 @@ fn level_edges_true(tree: &Tree, level: usize, text: &[u8]) -> bool {
 
 fn level_counts_true(tree: &Tree, level: usize, c: usize, sums: &[u32]) -> bool {
     let parents = parent_starts(tree, level);
-    let stretch = |from: u64, to: u64| u64::from(sums[to as usize] - sums[from as usize]);
+    let occurrences = |from: u64, to: u64| u64::from(sums[to as usize] - sums[from as usize]);
     (0..tree.blocks(level)).all(|i| {
         let figure = |field: usize| tree.field(level, i, field + 3 * c);
         let start = tree.field(level, i, START);
         let skip = if tree.field(level, i, KIND) == 1 {
             let target = tree.field(level, tree.field(level, i, LINK), START);
-            stretch(target, target + tree.field(level, i, GAP))
+            occurrences(target, target + tree.field(level, i, GAP))
         } else {
             0
         };
-        figure(BEFORE) == stretch(parents[i as usize], start)
-            && figure(INSIDE) == stretch(start, start + tree.length(level, i))
+        figure(BEFORE) == occurrences(parents[i as usize], start)
+            && figure(INSIDE) == occurrences(start, start + tree.length(level, i))
             && figure(SKIP) == skip
     })
 }

@@ -68,15 +68,15 @@ fn window_hashes(text: &[u8], length: usize) -> Vec<u64> {
 
 /// Find, by the walk that the format describes, on a tree that the check accepts.
 pub fn find(bytes: &[u8], byte: u32, j: u32) -> (u32, u32, u32) {
-    told(try_find(bytes, byte, j, stepped))
+    figures(try_find(bytes, byte, j, stepped))
 }
 
 /// The same, with a binary search over the blocks of level 0.
 pub fn find_bisected(bytes: &[u8], byte: u32, j: u32) -> (u32, u32, u32) {
-    told(try_find(bytes, byte, j, bisected))
+    figures(try_find(bytes, byte, j, bisected))
 }
 
-fn told(found: Result<(u64, u32), u32>) -> (u32, u32, u32) {
+fn figures(found: Result<(u64, u32), u32>) -> (u32, u32, u32) {
     match found {
         Ok((place, entered)) => (0, place as u32, entered),
         Err(number) => (number, 0, 0),

@@ -11,7 +11,7 @@ pub fn order(one: &[u8], other: &[u8]) -> (u32, u32, u32, u32) {
     match compare(one, other) {
         Err(number) => (number, 0, 0, 0),
         Ok((AFTER, shared)) => (0, AFTER, shared, 2),
-        Ok((standing, shared)) => (0, standing, shared, 1),
+        Ok((ordering, shared)) => (0, ordering, shared, 1),
     }
 }
 
@@ -24,12 +24,12 @@ fn compare(one: &[u8], other: &[u8]) -> Result<(u32, u32), u32> {
             return Ok((if bytes.0 < bytes.1 { BEFORE } else { AFTER }, place));
         }
     }
-    let standing = match lengths.0.cmp(&lengths.1) {
+    let ordering = match lengths.0.cmp(&lengths.1) {
         std::cmp::Ordering::Less => BEFORE,
         std::cmp::Ordering::Equal => SAME,
         std::cmp::Ordering::Greater => AFTER,
     };
-    Ok((standing, lengths.0.min(lengths.1)))
+    Ok((ordering, lengths.0.min(lengths.1)))
 }
 
 /// The byte at a place, or the refusal.

@@ -18,12 +18,12 @@ run-spec =
     (λ c. search needs)
     (λ c. let k = laws.part-refused _ _ _ (c .before .before .before .run-range .ensures) _ (c .before .enum-told .given .1) in
     (laws.part-empty _ _ _ k, ap (λ (o : ℕ). (c .before .before .before .before .before .args .t .ptr .0, o)) (omega (arith, k .from-is))))
-    (λ c. let k = laws.part-answered _ _ _ (c .before .before .before .before .run-range .ensures) _ (c .before .before .ran .given .1) in
+    (λ c. let k = laws.part-answered _ _ _ (c .before .before .before .before .run-range .ensures) _ (c .before .before .range .given .1) in
     omega (arith, k .inside))
     (λ c. search needs)
     (λ c. search needs)
-    (λ c. let k = laws.part-answered _ _ _ (c .before .before .before .before .run-range .ensures) _ (c .before .before .ran .given .1) in k .inside)
-    (λ c. let k = laws.part-answered _ _ _ (c .before .before .before .before .before .run-range .ensures) _ (c .before .before .before .ran .given .1) in (
+    (λ c. let k = laws.part-answered _ _ _ (c .before .before .before .before .run-range .ensures) _ (c .before .before .range .given .1) in k .inside)
+    (λ c. let k = laws.part-answered _ _ _ (c .before .before .before .before .before .run-range .ensures) _ (c .before .before .before .range .given .1) in (
       laws.part-list (c .before .before .before .before .before .before .before .args .t .now) _ _ k,
       ap (λ (o : ℕ). (c .before .before .before .before .before .before .before .args .t .ptr .0, o)) (omega (arith, k .from-is)),
     )))

@@ -14,4 +14,4 @@ info-spec =
     (λ c. search needs)
     (λ c. laws.figures-answered _ _ (header-good _ _ (c .before .before .before .before .read-header .ensures) _ (c .before .before .read .given .1))
     _ (c .figures-of .ensures))
-    (λ c. laws.untold _ _ (c .before .before .before .before .read-header .ensures) _ (c .before .before .read2 .given .1)))
+    (λ c. laws.info-unread _ _ (c .before .before .before .before .read-header .ensures) _ (c .before .before .read2 .given .1)))

@@ -56,10 +56,10 @@ use Rattle.query_row_filter.proofs.NextRowAnswer.Laws as S′
 use Rattle.query_key_match.specs.declared.AdvanceAnswer.{AdvanceAnswer}
 use Rattle.query_key_match.proofs.AdvanceAnswer as U
 use Rattle.query_key_match.proofs.AdvanceAnswer.Laws as U′
-use Rattle.query_key_match.proofs.advance_mark as show
-use Rattle.query_key_match.proofs.advance_mark.Symbol as show-def
-use Rattle.query_key_match.proofs.advance_mark.Symbol.{name as #show}
-use Rattle.query_key_match.proofs.advance_mark.Met as show-thm
+use Rattle.query_key_match.proofs.advance_mark as advance-mark
+use Rattle.query_key_match.proofs.advance_mark.Symbol as advance-mark-def
+use Rattle.query_key_match.proofs.advance_mark.Symbol.{name as #advance-mark}
+use Rattle.query_key_match.proofs.advance_mark.Met as advance-mark-thm
 use Rattle.query_key_match.proofs.advance.Key.{name as #advance}
 use Rattle.query_key_match.proofs.advance as advance
 use Rattle.query_key_match.proofs.advance.Statement as stated
@@ -72,8 +72,8 @@ stayed = (
 )
 
 -- The contract that the proof cites.
-abbrev Show : {M : Type 1} (𝓤 : URA M) (H : Heap 𝓤) (A : Atoms 𝓤) (mem : Memory → SProp 𝓤) (run : Routine → Fun 𝓤) → Contract 𝓤
-Show 𝓤 H A mem run = tripleOf 𝓤 H A show.signature (show.spec 𝓤 H A mem run)
+abbrev AdvanceMark : {M : Type 1} (𝓤 : URA M) (H : Heap 𝓤) (A : Atoms 𝓤) (mem : Memory → SProp 𝓤) (run : Routine → Fun 𝓤) → Contract 𝓤
+AdvanceMark 𝓤 H A mem run = tripleOf 𝓤 H A advance-mark.signature (advance-mark.spec 𝓤 H A mem run)
 
 module _ {M : Type 1} (𝓤 : URA M) (H : Heap 𝓤) (A : Atoms 𝓤) (W : Given 𝓤 H A) (at-mem : Memory → SProp 𝓤) (run : Routine → Fun 𝓤) (κ κ′ : Lft) (q q′ : Share)
     (bounds : AllOutlive 2 (advance.signature .outlives) (κ, (κ′, tt))) (t g : RefT (List ℕ)) (n : ℕ) (fits : n < 2 ^ 32) where
@@ -132,7 +132,7 @@ module _ {M : Type 1} (𝓤 : URA M) (H : Heap 𝓤) (A : Atoms 𝓤) (W : Given
   abbrev args : ℕ → GName → RefT Mark × (RefT (List ℕ) × (RefT (List ℕ) × Unit {0}))
   args l δ = (record { ptr = (l, 0); name = δ; now = on n }, (t, (g, tt)))
 
-  abbrev to : ℕ → ℕ → GName → Show 𝓤 H A at-mem run .Ghost
+  abbrev to : ℕ → ℕ → GName → AdvanceMark 𝓤 H A at-mem run .Ghost
   to α l δ = (((α ∷ [], (κ, (κ′, tt))), (fullShare, (q, (q′, tt))), tt, args l δ, (vptr l 0 ∷ [], (s ∷ [], (z ∷ [], tt)))), tt)
 
   abbrev Lent : ℕ → ℕ → GName → Fml
@@ -141,7 +141,7 @@ module _ {M : Type 1} (𝓤 : URA M) (H : Heap 𝓤) (A : Atoms 𝓤) (W : Given
   goes : (α l : ℕ) (δ : GName) → ent 𝓤 (sep 𝓤 (A .lft (α ∷ []) fullShare) (sep 𝓤 (sem 𝓤 H A (Lent α l δ))
       (sep 𝓤 (sep 𝓤 (A .lft κ q) (sep 𝓤 (A .lft κ′ q′) (sem 𝓤 H A ftrue)))
       (sem 𝓤 H A (owns (ShrSlice (named 0) κ u8 ∷ ShrSlice (named 1) κ′ u8 ∷ u32 ∷ []) a vals)))))
-      (sep 𝓤 (Show 𝓤 H A at-mem run .pre (to α l δ)) (sep 𝓤 (sem 𝓤 H A Own) (sem 𝓤 H A Own₂)))
+      (sep 𝓤 (AdvanceMark 𝓤 H A at-mem run .pre (to α l δ)) (sep 𝓤 (sem 𝓤 H A Own) (sem 𝓤 H A Own₂)))
   goes α l δ =
       qed W (‵ (flft (α ∷ []) fullShare) ∷ ‵ (Lent α l δ) ∷ (‵ (flft κ q) ⊛ ‵ (flft κ′ q′) ⊛ ‵ ftrue) ∷ ‵
       (owns (ShrSlice (named 0) κ u8 ∷ ShrSlice (named 1) κ′ u8 ∷ u32 ∷ []) a vals) ∷ []) ∵
@@ -151,7 +151,7 @@ module _ {M : Type 1} (𝓤 : URA M) (H : Heap 𝓤) (A : Atoms 𝓤) (W : Given
       -- [the question's; again; the number; t's; t's again; α's token; the mark's; the tokens]
       move ! (2 ∷ []) $ fsplit ! $ drop ! $ move ! (1 ∷ 0 ∷ []) $ fjoin ! $ move ! (2 ∷ 0 ∷ []) $ fjoin ! $ move ! (4 ∷ 0 ∷ []) $ fjoin ! $
       -- [what the call borrows; the question's; t's; α's token; the tokens]
-      move ! (3 ∷ 4 ∷ []) $ join ! $ use2 W (raw (Show 𝓤 H A at-mem run .pre (to α l δ)))
+      move ! (3 ∷ 4 ∷ []) $ join ! $ use2 W (raw (AdvanceMark 𝓤 H A at-mem run .pre (to α l δ)))
       (qed W ((‵ (flft (α ∷ []) fullShare) ⊛ ‵ (flft κ q) ⊛ ‵ (flft κ′ q′) ⊛ ‵ ftrue) ∷ ‵ (owns (MutRef (named 0) (α ∷ []) T.the-row ∷ ShrSlice
       (named 1) κ u8 ∷ ShrSlice (named 2) κ′ u8 ∷ []) (args l δ) (vptr l 0 ∷ [], (s ∷ [], (z ∷ [], tt)))) ∷ []) ∵ join ! $ frame ! $ done !) $
       frame ! $ move ! (1 ∷ 0 ∷ []) $ frame ! $ done !
@@ -167,7 +167,7 @@ module _ {M : Type 1} (𝓤 : URA M) (H : Heap 𝓤) (A : Atoms 𝓤) (W : Given
       owned ! U.the-row (Is U.the-row) (LL.makes U.the-type U′.the-plain 𝓤 H A) (record { answer = f; row = r }) _ (returned f u r is low) $
       move ! (1 ∷ 0 ∷ []) $ frame ! $ done !
 
-  module _ (C : Calls 𝓤 H) (Λ : Loops 𝓤 H) (fm : FmC 𝓤 H (W .laws) C) (known : Triple 𝓤 (C #show) (Show 𝓤 H A at-mem run)) where
+  module _ (C : Calls 𝓤 H) (Λ : Loops 𝓤 H) (fm : FmC 𝓤 H (W .laws) C) (known : Triple 𝓤 (C #advance-mark) (AdvanceMark 𝓤 H A at-mem run)) where
     walk : Is (ShrSlice (named 0) κ u8) t (s ∷ []) → Is (ShrSlice (named 1) κ′ u8) g (z ∷ [])
         → ent 𝓤 (onEntry 𝓤 H A advance.signature (κ, (κ′, tt)) (q, (q′, tt)) a vals) (WpFn 𝓤 H C Λ code.function (s ∷ z ∷ vint w32 n ∷ []) Post)
     unfolding partOf
@@ -189,14 +189,16 @@ module _ {M : Type 1} (𝓤 : URA M) (H : Heap 𝓤) (A : Atoms 𝓤) (W : Given
         (lends-ref 𝓤 H A W T.the-row (named 0) (α ∷ []) (on n) l₄ 0) $ await ! tt $ pick ! (λ δ. split ! $
         -- [the mark's; the lender's part; α's token; _7 3; _6 5; _5 7; the end of _4 9; _3 10; _2 12; _1 14; _0 16; the tokens 18; what is owned]
         move ! (18 ∷ 19 ∷ []) $ join ! $ move ! (1 ∷ 0 ∷ []) $ join ! $ move ! (2 ∷ 0 ∷ []) $ join ! $
-        use1 W (raw (Show 𝓤 H A at-mem run .pre (to α l₄ δ)) ⊛ ‵ Own ⊛ ‵ Own₂) (goes α l₄ δ) $ split ! $
+        use1 W (raw (AdvanceMark 𝓤 H A at-mem run .pre (to α l₄ δ)) ⊛ ‵ Own ⊛ ‵ Own₂) (goes α l₄ δ) $ split ! $
         -- [what `advance_mark` requires; the slices'; the lender's part; _7 3; ..]
-        calls-at ! fm (Show 𝓤 H A at-mem run) known (to α l₄ δ) (and-then ! (load ! (from ! (stop !)) (look ! 3 refl))
+        calls-at ! fm (AdvanceMark 𝓤 H A at-mem run) known (to α l₄ δ) (and-then ! (load ! (from ! (stop !)) (look ! 3 refl))
         (and-then ! (load ! (from ! (stop !)) (look ! 14 refl)) (and-then ! (load ! (from ! (stop !)) (look ! 12 refl)) (no-more !)))) (λ u.
         use1 W (later (some (λ (f : NextRowAnswer). ((‵ (flft (α ∷ []) fullShare) ⊛ ‵ (flft κ q) ⊛ ‵ (flft κ′ q′) ⊛ ‵ ftrue) ⊛ ‵ (S.the-row .own f (u ∷ [])))
-        ⊛ raw (ensured 𝓤 H A show.ended (show.clauses 𝓤 H A at-mem run) (α ∷ [], (κ, (κ′, tt))) (args l₄ δ) tt f)))) (id⊢ 𝓤 _) $ await ! tt $ pick ! (λ f.
-        split ! $ move ! (1 ∷ []) $ use1 W (some (λ (ws : Lasts show.ended (α ∷ [], (κ, (κ′, tt))) (args l₄ δ)).
-        ‵ (lasts show.ended (α ∷ [], (κ, (κ′, tt))) (args l₄ δ) ws) ⊛ raw (fact 𝓤 (Moved (t .now) (g .now) n f (ws .0 .row))))) (id⊢ 𝓤 _) $ pick ! (λ ws.
+        ⊛ raw (ensured 𝓤 H A advance-mark.ended (advance-mark.clauses 𝓤 H A at-mem run) (α ∷ [], (κ, (κ′, tt))) (args l₄ δ) tt f)))) (id⊢ 𝓤 _)
+        $ await ! tt $ pick ! (λ f.
+        split ! $ move ! (1 ∷ []) $ use1 W (some (λ (ws : Lasts advance-mark.ended (α ∷ [], (κ, (κ′, tt))) (args l₄ δ)).
+        ‵ (lasts advance-mark.ended (α ∷ [], (κ, (κ′, tt))) (args l₄ δ) ws) ⊛ raw (fact 𝓤 (Moved (t .now) (g .now) n f (ws .0 .row))))) (id⊢ 𝓤 _)
+        $ pick ! (λ ws.
         split ! $ move ! (1 ∷ []) $ heard ! (Moved (t .now) (g .now) n f (ws .0 .row)) (λ e. fsplit ! $ move ! (2 ∷ []) $ split ! $ split ! $
         move ! (2 ∷ []) $
         -- [the answer; α's token; the tokens; the last mark; no more of it; the slices'; the lender's part; _7 7; _6 9; _5 11; the end of _4 13; _3 14; ..]
@@ -223,7 +225,7 @@ module _ {M : Type 1} (𝓤 : URA M) (H : Heap 𝓤) (A : Atoms 𝓤) (W : Given
         keep ! (1 ∷ 3 ∷ []) $ by ! (exits f u (ws .0 .row) is (LL.owed T.the-type T′.the-laws (ws .0) _ was .0 .1) e))))))))))))))))))
 
 module _ {M : Type 1} (𝓤 : URA M) (H : Heap 𝓤) (A : Atoms 𝓤) (W : Given 𝓤 H A) (mem : Memory → SProp 𝓤) (run : Routine → Fun 𝓤) where
-  advance-walks : (C : Calls 𝓤 H) (Λ : Loops 𝓤 H) → FmC 𝓤 H (W .laws) C → Triple 𝓤 (C #show) (Show 𝓤 H A mem run)
+  advance-walks : (C : Calls 𝓤 H) (Λ : Loops 𝓤 H) → FmC 𝓤 H (W .laws) C → Triple 𝓤 (C #advance-mark) (AdvanceMark 𝓤 H A mem run)
       → Walks 𝓤 H A advance.ended stayed (WpFn 𝓤 H C Λ code.function) (advance.clauses 𝓤 H A mem run)
   advance-walks C Λ fm known = walked 𝓤 H A advance.ended stayed (advance.clauses 𝓤 H A mem run) (WpFn 𝓤 H C Λ code.function)
       (λ κs. (slice-vals, (slice-vals, (uint-vals w32, tt))))
@@ -232,7 +234,8 @@ module _ {M : Type 1} (𝓤 : URA M) (H : Heap 𝓤) (A : Atoms 𝓤) (W : Given
       (a .0) (a .1 .0) (a .1 .1 .0) (are .1 .1 .0 .1) C Λ fm known (are .0) (are .1 .0)))
 
 advance-meets : {M : Type 1} (𝓤 : URA M) (H : Heap 𝓤) (A : Atoms 𝓤) → Given 𝓤 H A → (mem : Memory → SProp 𝓤) (run : Routine → Fun 𝓤) (𝓣 : Tables 𝓤 H)
-    → Triple 𝓤 (𝓣 .C #show) (Show 𝓤 H A mem run) → Meets 𝓤 H A advance.signature (WpFn 𝓤 H (𝓣 .C) (𝓣 .Λ) code.function) (advance.spec 𝓤 H A mem run)
+    → Triple 𝓤 (𝓣 .C #advance-mark) (AdvanceMark 𝓤 H A mem run)
+    → Meets 𝓤 H A advance.signature (WpFn 𝓤 H (𝓣 .C) (𝓣 .Λ) code.function) (advance.spec 𝓤 H A mem run)
 advance-meets 𝓤 H A W mem run 𝓣 known =
     walk-meets 𝓤 H A advance.ended stayed W (
       goes-none-slice 𝓤 H A W 2 (0 ∷ []) tt (plain (λ _. u8)) yes,
@@ -247,4 +250,5 @@ advance-spec 𝓤 H 𝓜 𝓖 𝓡 =
     entered 𝓤 H (tripleOf 𝓤 H (𝓖 .A) advance.signature (advance.spec 𝓤 H (𝓖 .A) (𝓜 .mem) (𝓡 .run)))
     (tables 𝓤 H 𝓜 𝓡 code.env .C) (tables 𝓤 H 𝓜 𝓡 code.env .Λ) #advance code.function (code.unfolded 𝓤 H 𝓜 𝓡)
     (advance-meets 𝓤 H (𝓖 .A) (givenOf 𝓤 H 𝓜 𝓖) (𝓜 .mem) (𝓡 .run) (tablesOf 𝓤 H 𝓜 (tables 𝓤 H 𝓜 𝓡 code.env))
-    (cited 𝓤 H (Show 𝓤 H (𝓖 .A) (𝓜 .mem) (𝓡 .run)) 𝓜 𝓡 code.env #show show-def.routine code.calls-query-key-match·advance-mark (show-thm.met 𝓤 H 𝓜 𝓖 𝓡)))
+    (cited 𝓤 H (AdvanceMark 𝓤 H (𝓖 .A) (𝓜 .mem) (𝓡 .run)) 𝓜 𝓡 code.env #advance-mark advance-mark-def.routine
+    code.calls-query-key-match·advance-mark (advance-mark-thm.met 𝓤 H 𝓜 𝓖 𝓡)))

@@ -61,11 +61,11 @@ use Rattle.query_key_match.proofs.next_match.Met as next-match-thm
 use Rattle.query_key_match.proofs.after as after
 use Rattle.query_key_match.proofs.after.Symbol as after-def
 use Rattle.query_key_match.proofs.after.Met as after-thm
-use Rattle.query_key_match.proofs.advance_mark as show
+use Rattle.query_key_match.proofs.advance_mark as advance-mark
 use Rattle.query_key_match.proofs.advance_mark.Statement as stated
 use Rattle.query_key_match.proofs.advance_mark.Code as code
 
-abbrev stayed : Stays (show.ended .signature .params) (show.ended .kept)
+abbrev stayed : Stays (advance-mark.ended .signature .params) (advance-mark.ended .kept)
 stayed = (
   stay-ref (0 ∷ []) tt (plain (λ _. T.the-row)),
   (stay-none-slice (1 ∷ []) tt (plain (λ _. u8)) yes, (stay-none-slice (2 ∷ []) tt (plain (λ _. u8)) yes, tt)),
@@ -79,7 +79,7 @@ abbrev After : {M : Type 1} (𝓤 : URA M) (H : Heap 𝓤) (A : Atoms 𝓤) (mem
 After 𝓤 H A mem run = tripleOf 𝓤 H A after.signature (after.spec 𝓤 H A mem run)
 
 module _ {M : Type 1} (𝓤 : URA M) (H : Heap 𝓤) (A : Atoms 𝓤) (W : Given 𝓤 H A) (at-mem : Memory → SProp 𝓤) (run : Routine → Fun 𝓤) (κ κ′ κ″ : Lft) (q q′
-    q″ : Share) (bounds : AllOutlive 3 (show.signature .outlives) (κ, (κ′, (κ″, tt)))) (b o : ℕ) (γ : GName) (h : Mark) (t g : RefT (List ℕ)) where
+    q″ : Share) (bounds : AllOutlive 3 (advance-mark.signature .outlives) (κ, (κ′, (κ″, tt)))) (b o : ℕ) (γ : GName) (h : Mark) (t g : RefT (List ℕ)) where
   -- The machine values of the slices, and of a mark on row m.
   abbrev s : Val
   s = sliceVal (t .ptr) (length (t .now))
@@ -97,7 +97,7 @@ module _ {M : Type 1} (𝓤 : URA M) (H : Heap 𝓤) (A : Atoms 𝓤) (W : Given
   vals = (vptr b o ∷ [], (s ∷ [], (z ∷ [], tt)))
 
   abbrev Post : Val → SProp 𝓤
-  Post = walkOf 𝓤 H A show.ended stayed (show.clauses 𝓤 H A at-mem run) .post (((κ, (κ′, (κ″, tt))), (q, (q′, (q″, tt))), bounds, a, vals), tt)
+  Post = walkOf 𝓤 H A advance-mark.ended stayed (advance-mark.clauses 𝓤 H A at-mem run) .post (((κ, (κ′, (κ″, tt))), (q, (q′, (q″, tt))), bounds, a, vals), tt)
 
   abbrev Own : Fml
   Own = ShrSlice (named 1) κ′ u8 .own t (s ∷ [])
@@ -133,9 +133,9 @@ module _ {M : Type 1} (𝓤 : URA M) (H : Heap 𝓤) (A : Atoms 𝓤) (W : Given
       (t, (g, (h .row, tt))) (s ∷ [], (z ∷ [], (vint w32 (h .row) ∷ [], tt)))) ∷ []) ∵ join ! $ frame ! $ done !) $
       frame ! $ move ! (1 ∷ 0 ∷ []) $ frame ! $ done !
 
-  said : (f : NextRowAnswer) → ent 𝓤
+  answered-next : (f : NextRowAnswer) → ent 𝓤
       (ensured 𝓤 H A next-match.ended (next-match.clauses 𝓤 H A at-mem run) (κ′, (κ″, tt)) (t, (g, (h .row, tt))) tt f) (fact 𝓤 (Found f))
-  said f = exE 𝓤 _ (λ ws. snd∗ 𝓤 (sem 𝓤 H A (lasts next-match.ended (κ′, (κ″, tt)) (t, (g, (h .row, tt))) ws)) (fact 𝓤 (Found f)))
+  answered-next f = exE 𝓤 _ (λ ws. snd∗ 𝓤 (sem 𝓤 H A (lasts next-match.ended (κ′, (κ″, tt)) (t, (g, (h .row, tt))) ws)) (fact 𝓤 (Found f)))
 
   -- The call of `after`, at the answer f with the machine value u.
   abbrev to-after : NextRowAnswer → Val → After 𝓤 H A at-mem run .Ghost
@@ -146,9 +146,9 @@ module _ {M : Type 1} (𝓤 : URA M) (H : Heap 𝓤) (A : Atoms 𝓤) (W : Given
       qed W (‵ (S.the-row .own f (u ∷ [])) ∷ []) ∵ nothing ! $ owned ! u32
       (Is u32) (uint-makes 𝓤 H A W w32) (h .row) _ (refl, at-fits) $ fjoin ! $ move ! (1 ∷ 0 ∷ []) $ fjoin ! $ nothing ! $ join ! $ frame ! $ done !
 
-  said-after : (f : NextRowAnswer) (r : ℕ)
+  answered-after : (f : NextRowAnswer) (r : ℕ)
       → ent 𝓤 (ensured 𝓤 H A after.ended (after.clauses 𝓤 H A at-mem run) tt (f, (h .row, tt)) tt r) (fact 𝓤 (r ≡ outcomeOf (h .row) f .mark))
-  said-after f r = exE 𝓤 _ (λ ws. snd∗ 𝓤 (sem 𝓤 H A (lasts after.ended tt (f, (h .row, tt)) ws)) (fact 𝓤 (r ≡ outcomeOf (h .row) f .mark)))
+  answered-after f r = exE 𝓤 _ (λ ws. snd∗ 𝓤 (sem 𝓤 H A (lasts after.ended tt (f, (h .row, tt)) ws)) (fact 𝓤 (r ≡ outcomeOf (h .row) f .mark)))
 
   made : (r : ℕ) → r < 2 ^ 32 → Is (T.the-row) (moved r) (mark-value r ∷ [])
   made r fits = LL.owes T.the-type T′.the-laws (moved r) ((refl, fits), tt)
@@ -159,8 +159,9 @@ module _ {M : Type 1} (𝓤 : URA M) (H : Heap 𝓤) (A : Atoms 𝓤) (W : Given
   exits f u r is e e′ =
       qed W (‵ (fobs γ (T.the-row .coded .code (moved r))) ∷ ‵
       (fbor κ (Body (mem (T.the-row)) b o γ)) ∷ ‵ (flft κ q) ∷ (‵ (flft κ′ q′) ⊛ ‵ (flft κ″ q″) ⊛ ‵ ftrue) ∷ (‵ Own ⊛ ‵ Own₂) ∷ []) ∵
-      suffices ! _ (ends-at 𝓤 H A show.ended stayed (show.clauses 𝓤 H A at-mem run) W (((κ, (κ′, (κ″, tt))), (q, (q′, (q″, tt))), bounds, a, vals), tt)
-      u f (moved r, (tt, (tt, tt))) (tt, (tt, (tt, tt)))) $ says ! (record { answer = e; mark-is = e′ }) $
+      suffices ! _ (ends-at 𝓤 H A advance-mark.ended stayed (advance-mark.clauses 𝓤 H A at-mem run) W
+      (((κ, (κ′, (κ″, tt))), (q, (q′, (q″, tt))), bounds, a, vals), tt) u f (moved r, (tt, (tt, tt))) (tt, (tt, (tt, tt))))
+      $ says ! (record { answer = e; mark-is = e′ }) $
       move ! (2 ∷ 3 ∷ []) $ join ! $ frame ! $ feqI ! (List Val) (vptr b o ∷ []) (vptr b o ∷ []) refl $ fjoin3 ! $
       move ! (1 ∷ []) $ split ! $ nothing ! $ move ! (2 ∷ 0 ∷ []) $ fjoin ! $ move ! (1 ∷ 0 ∷ []) $ fjoin ! $ move ! (1 ∷ 0 ∷ []) $ fjoin ! $
       owned ! S.the-row (Is S.the-row) (EL.makes S.the-type S′.the-plain 𝓤 H A) f _ is $ move ! (1 ∷ 0 ∷ []) $ frame ! $ done !
@@ -168,7 +169,7 @@ module _ {M : Type 1} (𝓤 : URA M) (H : Heap 𝓤) (A : Atoms 𝓤) (W : Given
   module _ (C : Calls 𝓤 H) (Λ : Loops 𝓤 H) (fm : FmC 𝓤 H (W .laws) C) (known : Triple 𝓤 (C #key_match·next-match) (NextMatch 𝓤 H A at-mem run))
       (known-after : Triple 𝓤 (C #key_match·after) (After 𝓤 H A at-mem run)) where
     walk : Is (ShrSlice (named 1) κ′ u8) t (s ∷ []) → Is (ShrSlice (named 2) κ″ u8) g (z ∷ [])
-        → ent 𝓤 (onEntry 𝓤 H A show.signature (κ, (κ′, (κ″, tt))) (q, (q′, (q″, tt))) a vals) (WpFn 𝓤 H C Λ code.function (vptr b o ∷ s ∷ z ∷ []) Post)
+        → ent 𝓤 (onEntry 𝓤 H A advance-mark.signature (κ, (κ′, (κ″, tt))) (q, (q′, (q″, tt))) a vals) (WpFn 𝓤 H C Λ code.function (vptr b o ∷ s ∷ z ∷ []) Post)
     walk p p₂ =
         qed W ((‵ (flft κ q) ⊛ ‵ (flft κ′ q′) ⊛ ‵ (flft κ″ q″) ⊛ ‵ ftrue) ∷ ‵ (owns (MutRef (named 0) κ (T.the-row) ∷ ShrSlice
         (named 1) κ′ u8 ∷ ShrSlice (named 2) κ″ u8 ∷ []) a vals) ∷ []) ∵ enter ! C Λ code.function (vptr b o ∷ s ∷ z ∷ []) _ $
@@ -190,7 +191,7 @@ module _ {M : Type 1} (𝓤 : URA M) (H : Heap 𝓤) (A : Atoms 𝓤) (W : Given
         use1 W (later (some (λ (f : NextRowAnswer). ((‵ (flft κ′ q′) ⊛ ‵ (flft κ″ q″) ⊛ ‵ ftrue) ⊛ ‵ (S.the-row .own f (u ∷ [])))
         ⊛ raw (ensured 𝓤 H A next-match.ended (next-match.clauses 𝓤 H A at-mem run) (κ′, (κ″, tt)) (t, (g, (h .row, tt))) tt f))))
         (id⊢ 𝓤 _) $ await ! tt $ pick ! (λ f.
-        split ! $ move ! (1 ∷ []) $ use1 W (raw (fact 𝓤 (Found f))) (said f) $ heard ! (Found f) (λ e. split ! $ move ! (1 ∷ []) $
+        split ! $ move ! (1 ∷ []) $ use1 W (raw (fact 𝓤 (Found f))) (answered-next f) $ heard ! (Found f) (λ e. split ! $ move ! (1 ∷ []) $
         -- [the answer; t's token; what t owns; the cell; what a Mark owns; the open borrow; obs; auth; _6 8; _5 10; _4 12; _3 14; _2 16; _1 18; _0 20]
         peeks ! S.the-row (Is S.the-row) (shows 𝓤 H A S.the-row) f (u ∷ []) (λ is.
         land ! (from ! (stop !)) (init ! 10 refl (EL.lawful S.the-type S′.the-laws 𝓤 H A W tt .typed f _ is .0)) $
@@ -200,7 +201,7 @@ module _ {M : Type 1} (𝓤 : URA M) (H : Heap 𝓤) (A : Atoms 𝓤) (W : Given
         use1 W (later (some (λ (r : ℕ). (‵ ftrue ⊛ ‵ (u32 .own r (u′ ∷ [])))
         ⊛ raw (ensured 𝓤 H A after.ended (after.clauses 𝓤 H A at-mem run) tt (f, (h .row, tt)) tt r)))) (id⊢ 𝓤 _) $ await ! tt $ pick ! (λ r.
         split ! $ move ! (1 ∷ [])
-        $ use1 W (raw (fact 𝓤 (r ≡ outcomeOf (h .row) f .mark))) (said-after f r) $ heard ! (r ≡ outcomeOf (h .row) f .mark) (λ e′. split ! $ drop ! $
+        $ use1 W (raw (fact 𝓤 (r ≡ outcomeOf (h .row) f .mark))) (answered-after f r) $ heard ! (r ≡ outcomeOf (h .row) f .mark) (λ e′. split ! $ drop ! $
         -- [the number; t's token; what t owns; the cell; what a Mark owns; the open borrow; obs; auth; _6 8; _5 10; ..]
         peeks ! u32 (Is u32) (shows 𝓤 H A u32) r (u′ ∷ []) (λ is′.
         land ! (from ! (stop !)) (init ! 8 refl (uint-lawful 𝓤 H A W w32 .typed r _ is′ .0))
@@ -220,31 +221,32 @@ module _ {M : Type 1} (𝓤 : URA M) (H : Heap 𝓤) (A : Atoms 𝓤) (W : Given
         keep ! (0 ∷ 1 ∷ 2 ∷ 3 ∷ 4 ∷ []) $ by ! (exits f u r is e e′))))))))))))))))))
 
 module _ {M : Type 1} (𝓤 : URA M) (H : Heap 𝓤) (A : Atoms 𝓤) (W : Given 𝓤 H A) (mem : Memory → SProp 𝓤) (run : Routine → Fun 𝓤) where
-  show-walks : (C : Calls 𝓤 H) (Λ : Loops 𝓤 H) → FmC 𝓤 H (W .laws) C → Triple 𝓤 (C #key_match·next-match) (NextMatch 𝓤 H A mem run)
-      → Triple 𝓤 (C #key_match·after) (After 𝓤 H A mem run) → Walks 𝓤 H A show.ended stayed (WpFn 𝓤 H C Λ code.function) (show.clauses 𝓤 H A mem run)
-  show-walks C Λ fm known known-after = walked 𝓤 H A show.ended stayed (show.clauses 𝓤 H A mem run) (WpFn 𝓤 H C Λ code.function)
+  advance-mark-walks : (C : Calls 𝓤 H) (Λ : Loops 𝓤 H) → FmC 𝓤 H (W .laws) C → Triple 𝓤 (C #key_match·next-match) (NextMatch 𝓤 H A mem run)
+      → Triple 𝓤 (C #key_match·after) (After 𝓤 H A mem run)
+      → Walks 𝓤 H A advance-mark.ended stayed (WpFn 𝓤 H C Λ code.function) (advance-mark.clauses 𝓤 H A mem run)
+  advance-mark-walks C Λ fm known known-after = walked 𝓤 H A advance-mark.ended stayed (advance-mark.clauses 𝓤 H A mem run) (WpFn 𝓤 H C Λ code.function)
       (λ κs. (ptr-vals, (slice-vals, (slice-vals, tt))))
       (λ κs. (mut-tells (named 0) (κs .0) (T.the-row), (shr-slice-tells (named 1) (κs .1 .0) u8, (shr-slice-tells (named 2) (κs .1 .1 .0) u8, tt))))
       (λ κs qs bounds a g are. via 𝓤 _ (fst∗ 𝓤 _ (emp 𝓤)) (walk 𝓤 H A W mem run (κs .0) (κs .1 .0) (κs .1 .1 .0) (qs .0) (qs .1 .0) (qs .1 .1 .0)
       bounds (a .0 .ptr .0) (a .0 .ptr .1) (a .0 .name) (a .0 .now) (a .1 .0) (a .1 .1 .0) C Λ fm known known-after (are .1 .0) (are .1 .1 .0)))
 
-show-meets : {M : Type 1} (𝓤 : URA M) (H : Heap 𝓤) (A : Atoms 𝓤) → Given 𝓤 H A → (mem : Memory → SProp 𝓤) (run : Routine → Fun 𝓤) (𝓣 : Tables 𝓤 H)
+advance-mark-meets : {M : Type 1} (𝓤 : URA M) (H : Heap 𝓤) (A : Atoms 𝓤) → Given 𝓤 H A → (mem : Memory → SProp 𝓤) (run : Routine → Fun 𝓤) (𝓣 : Tables 𝓤 H)
     → Triple 𝓤 (𝓣 .C #key_match·next-match) (NextMatch 𝓤 H A mem run) → Triple 𝓤 (𝓣 .C #key_match·after) (After 𝓤 H A mem run)
-    → Meets 𝓤 H A show.signature (WpFn 𝓤 H (𝓣 .C) (𝓣 .Λ) code.function) (show.spec 𝓤 H A mem run)
-show-meets 𝓤 H A W mem run 𝓣 known known-after =
-    walk-meets 𝓤 H A show.ended stayed W (
+    → Meets 𝓤 H A advance-mark.signature (WpFn 𝓤 H (𝓣 .C) (𝓣 .Λ) code.function) (advance-mark.spec 𝓤 H A mem run)
+advance-mark-meets 𝓤 H A W mem run 𝓣 known known-after =
+    walk-meets 𝓤 H A advance-mark.ended stayed W (
       goes-ref 𝓤 H A W 3 0 tt (plain (λ _. T.the-row)),
       (goes-none-slice 𝓤 H A W 3 (1 ∷ []) tt (plain (λ _. u8)) yes, (goes-none-slice 𝓤 H A W 3 (2 ∷ []) tt (plain (λ _. u8)) yes, tt)),
     )
-    (show.clauses 𝓤 H A mem run) (WpFn 𝓤 H (𝓣 .C) (𝓣 .Λ) code.function)
-    (WpFn-mono 𝓤 H (W .laws) 𝓣 code.function) (show-walks 𝓤 H A W mem run (𝓣 .C) (𝓣 .Λ) (fmOf 𝓤 H (W .laws) 𝓣) known known-after)
+    (advance-mark.clauses 𝓤 H A mem run) (WpFn 𝓤 H (𝓣 .C) (𝓣 .Λ) code.function)
+    (WpFn-mono 𝓤 H (W .laws) 𝓣 code.function) (advance-mark-walks 𝓤 H A W mem run (𝓣 .C) (𝓣 .Λ) (fmOf 𝓤 H (W .laws) 𝓣) known known-after)
 
 pub advance-mark-spec : {M : Type 1} → stated.statement M
 unfolding code.routine tablesOf
 advance-mark-spec 𝓤 H 𝓜 𝓖 𝓡 =
-    entered 𝓤 H (tripleOf 𝓤 H (𝓖 .A) show.signature (show.spec 𝓤 H (𝓖 .A) (𝓜 .mem) (𝓡 .run)))
+    entered 𝓤 H (tripleOf 𝓤 H (𝓖 .A) advance-mark.signature (advance-mark.spec 𝓤 H (𝓖 .A) (𝓜 .mem) (𝓡 .run)))
     (tables 𝓤 H 𝓜 𝓡 code.env .C) (tables 𝓤 H 𝓜 𝓡 code.env .Λ) #key_match·advance-mark code.function (code.unfolded 𝓤 H 𝓜 𝓡)
-    (show-meets 𝓤 H (𝓖 .A) (givenOf 𝓤 H 𝓜 𝓖) (𝓜 .mem) (𝓡 .run) (tablesOf 𝓤 H 𝓜 (tables 𝓤 H 𝓜 𝓡 code.env))
+    (advance-mark-meets 𝓤 H (𝓖 .A) (givenOf 𝓤 H 𝓜 𝓖) (𝓜 .mem) (𝓡 .run) (tablesOf 𝓤 H 𝓜 (tables 𝓤 H 𝓜 𝓡 code.env))
     (cited 𝓤 H (NextMatch 𝓤 H (𝓖 .A) (𝓜 .mem) (𝓡 .run))
     𝓜 𝓡 code.env #key_match·next-match next-match-def.routine code.calls-query-key-match·next-match (next-match-thm.met 𝓤 H 𝓜 𝓖 𝓡))
     (cited 𝓤 H (After 𝓤 H (𝓖 .A) (𝓜 .mem) (𝓡 .run)) 𝓜 𝓡 code.env #key_match·after after-def.routine code.calls-query-key-match·after (after-thm.met 𝓤 H 𝓜 𝓖 𝓡)))

@@ -4,13 +4,13 @@ use mathlib.Core.Path.{_≡_, refl, _∙_}
 use native.Mathlib.Omega.{arith}
 use lib.ListN.{length, take}
 use borrow.Author.Needs.{needs}
-use Rattle.scan_rolling_hash.specs.Prints.{print}
-use Rattle.scan_rolling_hash.proofs.PrintLaws.{base-below, remainder-below, print-none, print-four, four-steps}
+use Rattle.scan_rolling_hash.specs.Fingerprints.{fingerprint}
+use Rattle.scan_rolling_hash.proofs.WindowFingerprintLaws.{base-below, remainder-below, fingerprint-none, fingerprint-four, four-steps}
 use Rattle.scan_rolling_hash.proofs.fingerprint.Statement.{statement}
 use Rattle.scan_rolling_hash.proofs.fingerprint.Tie as tie
 
 abbrev Inv-loop : tie.InvT-loop
-Inv-loop seed s by h₀ i₀ h i = (i ≤ length s) × (h < 4294967296) × (h % 2147483647 ≡ print seed (take i s))
+Inv-loop seed s by h₀ i₀ h i = (i ≤ length s) × (h < 4294967296) × (h % 2147483647 ≡ fingerprint seed (take i s))
 
 abbrev μ-loop : tie.MeasureT-loop
 μ-loop seed s by h₀ i₀ h i = length s - i
@@ -20,7 +20,7 @@ fingerprint-spec =
     tie.close
     (tie.spec Inv-loop μ-loop
     (λ c κs. search needs)
-    (λ c. let z = c .before .before in (omega arith, omega arith, print-none (z .args .seed) (z .args .s .now)))
+    (λ c. let z = c .before .before in (omega arith, omega arith, fingerprint-none (z .args .seed) (z .args .s .now)))
     (λ c. search needs)
     (λ c. search needs)
     (λ c. search needs)
@@ -41,7 +41,7 @@ fingerprint-spec =
     (λ c. let l = c .before .before .before .before .before .before in let by = l .before .first-powers .ensures in let z = l .before .before .before in (
       omega arith,
       c .push-four .ensures .1,
-      print-four (z .args .seed) (z .args .s .now) (l .loop .i) (l .loop .h) _ _ _ _ _ (omega arith) refl refl refl refl (l .loop .inv .2)
+      fingerprint-four (z .args .seed) (z .args .s .now) (l .loop .i) (l .loop .h) _ _ _ _ _ (omega arith) refl refl refl refl (l .loop .inv .2)
           (c .push-four .ensures .0 ∙ four-steps (z .args .seed) (l .loop .h) _ _ _ _ _ _ _ _ (by .0) (by .1) (by .2) (by .3)),
     ))
     (λ c κs. let v = c .before .loop .inv in (omega (arith, v .1), v .0, v .2))

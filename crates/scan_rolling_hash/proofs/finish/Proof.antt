@@ -5,13 +5,13 @@ use native.Mathlib.Omega.{arith}
 use lib.ListN.{length, take, getD}
 use lib.Seq.{take-all}
 use borrow.Author.Needs.{needs}
-use Rattle.scan_rolling_hash.specs.Prints.{print}
-use Rattle.scan_rolling_hash.proofs.PrintLaws.{base-below, print-push}
+use Rattle.scan_rolling_hash.specs.Fingerprints.{fingerprint}
+use Rattle.scan_rolling_hash.proofs.WindowFingerprintLaws.{base-below, fingerprint-push}
 use Rattle.scan_rolling_hash.proofs.finish.Statement.{statement}
 use Rattle.scan_rolling_hash.proofs.finish.Tie as tie
 
 abbrev Inv-loop : tie.InvT-loop
-Inv-loop seed h s from base g₀ i₀ g i = (i ≤ length s) × (g < 8589934592) × (g % 2147483647 ≡ print seed (take i s))
+Inv-loop seed h s from base g₀ i₀ g i = (i ≤ length s) × (g < 8589934592) × (g % 2147483647 ≡ fingerprint seed (take i s))
 
 abbrev μ-loop : tie.MeasureT-loop
 μ-loop seed h s from base g₀ i₀ g i = length s - i
@@ -33,8 +33,8 @@ finish-spec =
       omega arith,
       c .push .ensures .1,
       c .push .ensures .0 ∙ ap (λ (k : ℕ). (l .loop .g + getD (z .args .s .now) (l .loop .i) 0) * k % 2147483647) (l .before .base-of .ensures)
-          ∙ print-push (z .args .seed) (z .args .s .now) (l .loop .i) (l .loop .i + 1) (l .loop .g) _ (omega arith) refl refl (l .loop .inv .2),
+          ∙ fingerprint-push (z .args .seed) (z .args .s .now) (l .loop .i) (l .loop .i + 1) (l .loop .g) _ (omega arith) refl refl (l .loop .inv .2),
     ))
     (λ c κs. omega (arith, c .before .loop .inv .1))
     (λ c. let l = c .before .before in let z = l .before .before .before in
-    c .reduce .ensures ∙ l .loop .inv .2 ∙ ap (print (z .args .seed)) (take-all (l .loop .i) (z .args .s .now) (omega arith))))
+    c .reduce .ensures ∙ l .loop .inv .2 ∙ ap (fingerprint (z .args .seed)) (take-all (l .loop .i) (z .args .s .now) (omega arith))))

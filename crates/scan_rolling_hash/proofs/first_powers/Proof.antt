@@ -1,5 +1,5 @@
 use borrow.Author.Needs.{needs}
-use Rattle.scan_rolling_hash.proofs.PrintLaws.{first-power, next-power}
+use Rattle.scan_rolling_hash.proofs.WindowFingerprintLaws.{first-power, next-power}
 use Rattle.scan_rolling_hash.proofs.first_powers.Statement.{statement}
 use Rattle.scan_rolling_hash.proofs.first_powers.Tie as tie
 

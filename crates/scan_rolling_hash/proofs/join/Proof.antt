@@ -1,6 +1,6 @@
 use borrow.Author.Needs.{needs}
 use native.Mathlib.Omega.{arith}
-use Rattle.scan_rolling_hash.proofs.PrintLaws.{rolling-product-fits}
+use Rattle.scan_rolling_hash.proofs.WindowFingerprintLaws.{rolling-product-fits}
 use Rattle.scan_rolling_hash.proofs.join.Statement.{statement}
 use Rattle.scan_rolling_hash.proofs.join.Tie as tie
 

@@ -1,7 +1,7 @@
 use borrow.Author.Needs.{needs}
 use native.Mathlib.Omega.{arith}
 use mathlib.Core.Path.{refl}
-use Rattle.scan_rolling_hash.proofs.PrintLaws.{base-below}
+use Rattle.scan_rolling_hash.proofs.WindowFingerprintLaws.{base-below}
 use Rattle.scan_rolling_hash.proofs.WindowLaws as laws
 use Rattle.scan_rolling_hash.proofs.next_window.Statement.{statement}
 use Rattle.scan_rolling_hash.proofs.next_window.Tie as tie
@@ -17,11 +17,11 @@ next-window-spec =
     (λ c κs. search needs)
     (λ c κs. let z = c .before .before .before .before .before in (
       omega (arith, c .base-of .ensures, base-below (z .args .seed)),
-      laws.print-low _ _ _ _ _ (z .pre .0) (z .pre .1),
+      laws.fingerprint-low _ _ _ _ _ (z .pre .0) (z .pre .1),
       laws.leaving-low _ _ _ _ _ (z .pre .0) (z .pre .1),
     ))
     (λ c. let z = c .before .before .before .before .before .before .before in
     omega (arith, z .pre .0 .looked-is, z .pre .0 .few, laws.places-few _ _ _ _ _ (z .pre .0) (z .pre .1)))
     (λ c. let z = c .before .before .before .before .before .before .before in
-    laws.stands-next _ _ _ _ _ (z .pre .0) (z .pre .1) _ (laws.rolls _ _ _ _ _ (z .pre .0) (z .pre .1) _ _ _ _ (z .pre .2) refl
+    laws.window-next _ _ _ _ _ (z .pre .0) (z .pre .1) _ (laws.rolls _ _ _ _ _ (z .pre .0) (z .pre .1) _ _ _ _ (z .pre .2) refl
     (c .before .before .base-of .ensures) (c .before .roll .ensures))))

@@ -4,8 +4,8 @@ use mathlib.Core.Path.{_≡_, sym, ap, _∙_}
 use native.Mathlib.Omega.{arith}
 use native.Mathlib.Nat.{mod-lt, pow-zero}
 use borrow.Author.Needs.{needs}
-use Rattle.scan_rolling_hash.specs.Prints.{baseOf}
-use Rattle.scan_rolling_hash.proofs.PrintLaws.{base-below, power-next}
+use Rattle.scan_rolling_hash.specs.Fingerprints.{baseOf}
+use Rattle.scan_rolling_hash.proofs.WindowFingerprintLaws.{base-below, power-next}
 use Rattle.scan_rolling_hash.proofs.power.Statement.{statement}
 use Rattle.scan_rolling_hash.proofs.power.Tie as tie
 

@@ -1,6 +1,6 @@
 use borrow.Author.Needs.{needs}
 use native.Mathlib.Omega.{arith}
-use Rattle.scan_rolling_hash.proofs.PrintLaws.{push-fits, fold-fits, fold-is}
+use Rattle.scan_rolling_hash.proofs.WindowFingerprintLaws.{push-fits, fold-fits, fold-is}
 use Rattle.scan_rolling_hash.proofs.push.Statement.{statement}
 use Rattle.scan_rolling_hash.proofs.push.Tie as tie
 

@@ -1,7 +1,7 @@
 use borrow.Author.Needs.{needs}
 use native.Mathlib.Omega.{arith}
 use mathlib.Core.Path.{_∙_}
-use Rattle.scan_rolling_hash.proofs.PrintLaws.{first-fits, byte-fits, fold-is, fold-most, fold-again}
+use Rattle.scan_rolling_hash.proofs.WindowFingerprintLaws.{first-fits, byte-fits, fold-is, fold-most, fold-again}
 use Rattle.scan_rolling_hash.proofs.push_four.Statement.{statement}
 use Rattle.scan_rolling_hash.proofs.push_four.Tie as tie
 

@@ -1,6 +1,6 @@
 use borrow.Author.Needs.{needs}
 use native.Mathlib.Omega.{arith}
-use Rattle.scan_rolling_hash.proofs.PrintLaws.{power-fits}
+use Rattle.scan_rolling_hash.proofs.WindowFingerprintLaws.{power-fits}
 use Rattle.scan_rolling_hash.proofs.push_power.Statement.{statement}
 use Rattle.scan_rolling_hash.proofs.push_power.Tie as tie
 

@@ -1,6 +1,6 @@
 use borrow.Author.Needs.{needs}
 use native.Mathlib.Omega.{arith}
-use Rattle.scan_rolling_hash.proofs.PrintLaws.{roll-fits, leaving-fits}
+use Rattle.scan_rolling_hash.proofs.WindowFingerprintLaws.{roll-fits, leaving-fits}
 use Rattle.scan_rolling_hash.proofs.roll.Statement.{statement}
 use Rattle.scan_rolling_hash.proofs.roll.Tie as tie
 

@@ -8,10 +8,10 @@ classify-block-spec =
     tie.close
     (tie.spec
     (λ c κs. laws.field-there _ _ _ _ _ 1 (c .before .pre .on) (c .before .pre .block-in) (omega arith))
-    (λ c. laws.look-kept _ _ _ _ _ _ _ (c .before .before .before .pre) (c .before .kind .ensures) (c .if1 .taken))
-    (λ c. laws.look-other _ _ _ _ _ _ _ (c .before .before .before .before .pre) (c .before .before .kind .ensures) (c .before .if1 .left) (c .if2 .taken))
+    (λ c. laws.classify-kept _ _ _ _ _ _ _ (c .before .before .before .pre) (c .before .kind .ensures) (c .if1 .taken))
+    (λ c. laws.classify-other _ _ _ _ _ _ _ (c .before .before .before .before .pre) (c .before .before .kind .ensures) (c .before .if1 .left) (c .if2 .taken))
     (λ c κs. laws.field-there _ _ _ _ _ 3 (c .before .before .before .before .pre .on) (c .before .before .before .before .pre .block-in) (omega arith))
-    (λ c. let w = c .before .before .before in laws.look-points _ _ _ _ _ _ _ (w .before .before .before .before .pre)
+    (λ c. let w = c .before .before .before in laws.classify-points _ _ _ _ _ _ _ (w .before .before .before .before .pre)
     (w .before .before .kind .ensures) _ (c .before .before .gap .ensures) (w .before .if1 .left) (w .if2 .left) (c .if3 .taken))
-    (λ c. let w = c .before .before .before in laws.look-wide _ _ _ _ _ _ _ (w .before .before .before .before .pre)
+    (λ c. let w = c .before .before .before in laws.classify-wide _ _ _ _ _ _ _ (w .before .before .before .before .pre)
     (w .before .before .kind .ensures) _ (c .before .before .gap .ensures) (w .before .if1 .left) (w .if2 .left) (c .if3 .left)))

@@ -13,7 +13,7 @@ classify-next-spec =
     (λ c. search needs)
     (λ c. search needs)
     (λ c. search needs)
-    (λ c. laws.look-past _ _ _ _
+    (λ c. laws.classify-past _ _ _ _
     (c .before .before .before .before .before .pre) _ _ (omega (arith, c .before .before .before .level-count .ensures, c .if1 .taken)))
     (λ c. search needs)
     (λ c κs. search needs)

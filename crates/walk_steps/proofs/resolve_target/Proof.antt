@@ -11,17 +11,17 @@ resolve-target-spec =
     (tie.spec
     (λ c κs. search needs)
     (λ c. search needs)
-    (λ c. laws.land-last _ _ _ _ (omega (arith, shapes _ _ (c .before .before .shape-of .ensures) .levels-is, c .if1 .taken)))
+    (λ c. laws.resolved-last _ _ _ _ (omega (arith, shapes _ _ (c .before .before .shape-of .ensures) .levels-is, c .if1 .taken)))
     (λ c κs. search needs)
     (λ c. search needs)
     (λ c. search needs)
     (λ c. search needs)
-    (λ c. let e = c .before .before .before .before in laws.land-kept
+    (λ c. let e = c .before .before .before .before in laws.resolved-kept
     _ _ _ _ _ (c .before .before .before .target .ensures) _ _ (omega (
       arith,
       shapes _ _ (e .before .before .shape-of .ensures) .levels-is,
       e .if1 .left,
       e .before .before .before .before .pre .on .level-in,
     )) (c .before .i .given .1))
-    (λ c. laws.land-points _ _ _ _ _ (c .before .before .target .ensures) _ _ (c .enum-told .given .1))
-    (λ c. laws.land-off _ _ _ _ _ (c .before .before .target .ensures) (c .enum-told2 .given .1)))
+    (λ c. laws.resolved-points _ _ _ _ _ (c .before .before .target .ensures) _ _ (c .enum-told .given .1))
+    (λ c. laws.resolved-off _ _ _ _ _ (c .before .before .target .ensures) (c .enum-told2 .given .1)))

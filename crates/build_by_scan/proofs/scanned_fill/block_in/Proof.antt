@@ -15,7 +15,7 @@ block-in-spec =
     (λ c. let n = c .before .before .before .before .before .before .before .pre .0 in
     omega (arith, record-few _ _ _ (n .on .level-is) .count-few, n .on .block-in))
     (λ c κs. let p = c .before .before .before .before .before .before .before .pre in
-    let il = laws.block-here _ _ _ _ _ (p .0 .on) _ (p .1) in (omega (arith, p .1 .room, il), p .1 .twins _ il))
+    let il = laws.block-here _ _ _ _ _ (p .0 .on) _ (p .1) in (omega (arith, p .1 .room, il), p .1 .equal-before _ il))
     (λ c κs. let p = c .before .before .before .before .before .before .before .before .pre in (
       p .0 .on,
       (sym (p .0 .kept-is) ∙ c .before .before .if1 .left, c .place-of .ensures ∙ p .1 .place _ (laws.block-here _ _ _ _ _ (p .0 .on) _ (p .1))),

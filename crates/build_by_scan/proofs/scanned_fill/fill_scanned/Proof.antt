@@ -44,6 +44,6 @@ fill-scanned-spec =
     let z = v .before .before .before .before .before .before .before in let g = v .before .before .loop .inv in
     laws.going-more _ _ _ (z .pre .0 .level-is) _ _ _ _ _ g (omega (arith, v .if1 .taken)) _ (w .before .pair-in .ensures) _ (w .keeps .ensures)
     _ _ (c .before .before .put-block .ensures .0) (c .before .before .put-block .ensures .1 .0) (c .before .before .put-block .ensures .1 .1))
-    (λ c. c .before .before .loop .inv .grown .same-length)
+    (λ c. c .before .before .loop .inv .only-tree .same-length)
     (λ c. let z = c .before .before .before .before .before .before .before in let g = c .before .before .loop .inv in
-    (g .grown, laws.all-written _ _ _ (z .pre .0 .level-is) _ _ _ _ _ g (omega (arith, c .if1 .left)) (z .pre .0 .header))))
+    (g .only-tree, laws.all-written _ _ _ (z .pre .0 .level-is) _ _ _ _ _ g (omega (arith, c .if1 .left)) (z .pre .0 .header))))

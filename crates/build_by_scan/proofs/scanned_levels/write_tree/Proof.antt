@@ -1,7 +1,7 @@
 use borrow.Author.Needs.{needs}
 use mathlib.Core.Path.{refl}
 use Rattle.build_by_search.proofs.AllLevelsLaws as laws
-use Rattle.build_by_scan.proofs.ScannedLevelsLaws as along
+use Rattle.build_by_scan.proofs.ScannedLevelsLaws as levels
 use Rattle.build_by_scan.proofs.scanned_levels.write_tree.Statement.{statement}
 use Rattle.build_by_scan.proofs.scanned_levels.write_tree.Tie as tie
 
@@ -24,18 +24,18 @@ write-tree-spec =
       laws.ready-here _ _ _ _ _ _ r,
       laws.step-number _ _ _ _ _ (c .before .before .before .before .before .before .before .begin .ensures .0)
           _ _ (c .before .before .before .before .before .before .before .begin .ensures .1) _ (c .before .before .before .step .given .1),
-      along.room-of
+      levels.room-of
           _ _ _ _ _ _ r _ (w .before .before .before .before .before .before .before .before .pre .1),
     ))
     (λ c. let w = c .before .before .before .before .before .before .before .before in let v = w .before .before .before .before in
-    laws.grown-here _ _ _ _ _ _ (laws.step-reached _ _ _ _ _ (v .begin .ensures .0) _ _ (v .begin .ensures .1) _ (w .step .given .1))
+    laws.only-tree-here _ _ _ _ _ _ (laws.step-reached _ _ _ _ _ (v .begin .ensures .0) _ _ (v .begin .ensures .1) _ (w .step .given .1))
     _ (c .before .before .before .before .put-levels .ensures .0) .same-length)
     (λ c. search needs)
     (λ c. let w = c .before .before .before .before .before .before .before .before in let v = w .before .before .before .before in
     let r = laws.step-reached _ _ _ _ _ (v .begin .ensures .0) _ _ (v .begin .ensures .1) _ (w .step .given .1) in (
-      laws.grown-here _ _ _ _ _ _ r _ (c .before .before .before .before .put-levels .ensures .0),
+      laws.only-tree-here _ _ _ _ _ _ r _ (c .before .before .before .before .put-levels .ensures .0),
       (
         laws.finished-here _ _ _ _ _ _ r _ _ (c .before .before .before .before .put-levels .ensures .1 .0),
-        λ n. along.windows-of _ _ _ _ _ _ r _ (c .before .before .before .before .put-levels .ensures .1 .1 n),
+        λ n. levels.windows-of _ _ _ _ _ _ r _ (c .before .before .before .before .put-levels .ensures .1 .1 n),
       ),
     )))

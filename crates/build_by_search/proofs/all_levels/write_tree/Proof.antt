@@ -16,10 +16,10 @@ write-tree-spec =
     (λ c κs. let w = c .before .before .before .before .before .before in laws.ready-here
     _ _ _ _ _ _ (laws.step-reached _ _ _ _ _ (w .begin .ensures .0) _ _ (w .begin .ensures .1) _ (c .before .before .step .given .1)))
     (λ c. let w = c .before .before .before .before .before in let v = w .before .before .before .before in
-    laws.grown-here _ _ _ _ _ _ (laws.step-reached _ _ _ _ _ (v .begin .ensures .0) _ _ (v .begin .ensures .1) _ (w .step .given .1))
+    laws.only-tree-here _ _ _ _ _ _ (laws.step-reached _ _ _ _ _ (v .begin .ensures .0) _ _ (v .begin .ensures .1) _ (w .step .given .1))
     _ (c .before .before .put-levels .ensures .0) .same-length)
     (λ c. let w = c .before .before .before .before .before .before .before .before .before in (
-      laws.grown-here _ _ _ _ _ _
+      laws.only-tree-here _ _ _ _ _ _
           (laws.step-reached _ _ _ _ _ (w .begin .ensures .0) _ _ (w .begin .ensures .1) _ (c .before .before .before .before .before .step .given .1))
           _ (c .before .before .put-levels .ensures .0),
       laws.finished-here _ _ _ _ _ _ (laws.step-reached _ _ _ _ _ (w .begin .ensures .0)

@@ -46,6 +46,6 @@ fill-level-spec =
     laws.going-more _ _ _ (v .before .before .before .before .pre .level-is) _ _ _ _ _ (v .loop .inv)
     (omega (arith, v .loop .inv .within, w .before .before .before .if1 .taken)) _ (w .before .pair-after .ensures) _ (w .keeps .ensures)
     _ _ (c .before .before .put-block .ensures .0) (c .before .before .put-block .ensures .1 .0) (c .before .before .put-block .ensures .1 .1))
-    (λ c. c .before .before .loop .inv .grown .same-length)
+    (λ c. c .before .before .loop .inv .only-tree .same-length)
     (λ c. let w = c .before .before in let v = w .before .before .before .before in
-    (w .loop .inv .grown, laws.all-written _ _ _ (v .pre .level-is) _ _ _ _ _ (w .loop .inv) (omega (arith, c .if1 .left)) (v .pre .header))))
+    (w .loop .inv .only-tree, laws.all-written _ _ _ (v .pre .level-is) _ _ _ _ _ (w .loop .inv) (omega (arith, c .if1 .left)) (v .pre .header))))

@@ -1,6 +1,6 @@
 use borrow.Author.Needs.{needs}
 use native.Mathlib.Omega.{arith}
-use Rattle.build_levels.proofs.HeaderWrittenLaws.{head-grown, head-within}
+use Rattle.build_levels.proofs.HeaderWrittenLaws.{head-only-tree, head-within}
 use Rattle.build_levels.proofs.header_written.put_head.Statement.{statement}
 use Rattle.build_levels.proofs.header_written.put_head.Tie as tie
 use Rattle.build_records.specs.State.{recordSettingsOf}
@@ -29,7 +29,7 @@ put-head-spec =
     (λ c. search needs)
     (λ c. let w = c .before .before .before .before .before .before .before .before .before .before in let v =
     w .before .before .before .before .before in let a = v .args in let S = recordSettingsOf (a .s) (a .counted .now) in (
-      head-grown S (a .text .now)
+      head-only-tree S (a .text .now)
           (v .pre .0) (a .out .now) _ _ _ (v .pre .1) (w .put-three .ensures) (c .before .before .before .before .before .before .put-three2 .ensures)
           (c .before .before .put-counted .ensures),
       head-within S (a .text .now) (v .pre .0) (a .out .now) _ _ _ (v .pre .1)

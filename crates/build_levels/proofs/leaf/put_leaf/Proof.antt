@@ -17,7 +17,7 @@ put-leaf-spec =
       laws.len-width _ _ _ _ _ _ (w .pre .0)
           (w .pre .1) _ (c .before .before .before .before .before .before .substring-of .ensures),
       (
-        laws.leaf-grown _ _ _ _ _ _ (w .pre .0) (w .pre .1) _
+        laws.leaf-only-tree _ _ _ _ _ _ (w .pre .0) (w .pre .1) _
             (c .before .before .before .before .before .before .substring-of .ensures) _ (c .before .before .copy .ensures),
         laws.leaf-within _ _ _ _ _ _
             (w .pre .0) (w .pre .1) _ (c .before .before .before .before .before .before .substring-of .ensures) _ (c .before .before .copy .ensures),

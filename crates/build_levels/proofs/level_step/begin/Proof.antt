@@ -1,5 +1,5 @@
 use Rattle.build_levels.proofs.LevelZeroLaws as laws
-use Rattle.build_records.proofs.Growth.{grown-none}
+use Rattle.build_records.proofs.WritesOnlyTreeLaws.{only-tree-refl}
 use Rattle.theory_built.specs.BlockSizes.{bounds}
 use Rattle.build_levels.proofs.level_step.begin.Statement.{statement}
 use Rattle.build_levels.proofs.level_step.begin.Tie as tie
@@ -12,7 +12,7 @@ begin-spec =
     (λ c κs. let f = laws.few-first _ _ _ (c .before .before .before .before .pre) _ (c .first-level .ensures) in
     (f .counted-few, f .table-few, f .count-few, f .leaf-few))
     (λ c. let w = c .before .before .before .before .before .before in (
-      grown-none _ _,
+      only-tree-refl _ _,
       laws.no-first
           _ _ _ (w .pre) _ (c .before .before .first-level .ensures) (w .args .out .now) _ (c .before .place .ensures .0) (c .if1 .taken),
     ))
@@ -27,12 +27,12 @@ begin-spec =
     (v .before .before .before .before .before .pre) _ (v .before .first-level .ensures) (v .before .before .before .before .before .args .out .now)
     _ (v .place .ensures .0) (w .before .before .if1 .left) _ (w .put-head .ensures .0) (w .put-head .ensures .1) _ (c .record-size .ensures .0))
     (λ c. let w = c .before .before .before .before .before .before .before in
-    let v = w .before .before .before in laws.first-grown _ _ _ (v .before .before .before .before .before .pre) _ (v .before .first-level .ensures)
+    let v = w .before .before .before in laws.first-only-tree _ _ _ (v .before .before .before .before .before .pre) _ (v .before .first-level .ensures)
     (v .before .before .before .before .before .args .out .now) _ (v .place .ensures .0) (w .before .before .if1 .left) _ (w .put-head .ensures .0)
     (w .put-head .ensures .1) _ (c .before .before .before .record-size .ensures .0) _ (c .before .before .put-starts .ensures) .same-length)
     (λ c. let w = c .before .before .before .before .before .before .before in
     let v = w .before .before .before .before .before .before .before .before in (
-      laws.first-grown _ _ _
+      laws.first-only-tree _ _ _
           (v .pre) _ (w .before .before .before .before .first-level .ensures) (v .args .out .now) _ (w .before .before .before .place .ensures .0)
           (w .before .before .if1 .left) _ (w .put-head .ensures .0) (w .put-head .ensures .1) _ (c .before .before .before .record-size .ensures .0)
           _ (c .before .before .put-starts .ensures),

@@ -1,7 +1,7 @@
 use Prim.Native.Nat.{_≤_, _-_}
 use native.Mathlib.Omega.{arith}
 use Rattle.build_records.proofs.BelowLaws.{below-more, below-all}
-use Rattle.build_records.proofs.Growth.{grown-none, grown-then}
+use Rattle.build_records.proofs.WritesOnlyTreeLaws.{only-tree-refl, only-tree-trans}
 use Rattle.build_records.proofs.below.put_children.Statement.{statement}
 use Rattle.build_records.proofs.below.put_children.Tie as tie
 use Rattle.build_records.specs.WritesOnlyTree.{WritesOnlyTree}
@@ -22,7 +22,7 @@ put-children-spec =
     (tie.spec Inv-loop μ-loop
     (λ c. let a = c .before .before .before .args in (
       omega arith,
-      (grown-none (treeOf (recordSettingsOf (a .level .settings) (a .counted .now)) (a .text .now)) (a .out .now), c .before .before .before .pre),
+      (only-tree-refl (treeOf (recordSettingsOf (a .level .settings) (a .counted .now)) (a .text .now)) (a .out .now), c .before .before .before .pre),
     ))
     (λ c κs. (c .before .before .before .loop .inv .1 .1, c .before .if1 .taken))
     (λ c. omega (arith, c .before .before .before .before .if1 .taken))
@@ -31,7 +31,7 @@ put-children-spec =
     let S = recordSettingsOf (a .level .settings) (a .counted .now) in (
       omega (arith, w .before .before .if1 .taken),
       (
-        grown-then (treeOf S (a .text .now)) _ _ _ (v .loop .inv .1 .0) (w .put-children-of .ensures .0),
+        only-tree-trans (treeOf S (a .text .now)) _ _ _ (v .loop .inv .1 .0) (w .put-children-of .ensures .0),
         below-more
             S (a .text .now) _ _ (a .level) (a .next) _ (v .loop .inv .1 .1) (w .put-children-of .ensures .0) (w .put-children-of .ensures .1),
       ),

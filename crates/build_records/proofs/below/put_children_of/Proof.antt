@@ -1,7 +1,7 @@
 use borrow.Author.Needs.{needs}
 use native.Mathlib.Omega.{arith}
 use Rattle.build_records.proofs.BelowLaws as laws
-use Rattle.build_records.proofs.Growth.{grown-none}
+use Rattle.build_records.proofs.WritesOnlyTreeLaws.{only-tree-refl}
 use Rattle.build_records.proofs.StateLaws.{record-few}
 use Rattle.build_records.proofs.below.put_children_of.Statement.{statement}
 use Rattle.build_records.proofs.below.put_children_of.Tie as tie
@@ -17,7 +17,7 @@ put-children-of-spec =
     omega (arith, laws.record-fits _ _ _ _ _ _ (w .pre .0) (w .pre .1) _ (c .before .place .ensures .0)))
     (λ c. search needs)
     (λ c. let w = c .before .before .before .before .before .before .before in (
-      grown-none _ _,
+      only-tree-refl _ _,
       laws.no-children
           _ _ _ _ _ _ (w .pre .0) (w .pre .1) _ (c .before .before .before .place .ensures .0) _ (c .before .read .ensures) (c .if1 .taken),
     ))

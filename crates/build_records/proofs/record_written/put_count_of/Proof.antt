@@ -41,7 +41,7 @@ put-count-of-spec =
     (λ c. search needs)
     (λ c. let x = c .before .before .before .before .before .before .before in let y = x .before in let z = y .before .before .before .before .before in
     let a = z .args in let w = z .pre .0 in let S = recordSettingsOf (a .level .settings) (a .counted .now) in (
-      laws.counted-grown S (a .text .now)
+      laws.counted-only-tree S (a .text .now)
           (a .out .now) (a .level) (a .of .block .0) (a .block) w _ (a .of .byte) _ (y .place .ensures .0) (x .record-size .ensures .0)
           (z .pre .1) _ _ (c .before .before .before .before .before .count-before .ensures) (c .before .before .put-count .ensures),
       laws.counted-within S (a .text .now)

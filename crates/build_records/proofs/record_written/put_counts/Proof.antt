@@ -2,9 +2,9 @@ use Prim.Native.Nat.{_≤_, _-_, _+_, _*_}
 use lib.ListN.{length}
 use mathlib.Core.Path.{_≡_, refl, _∙_}
 use native.Mathlib.Omega.{arith}
-use Rattle.build_records.proofs.Growth.{grown-none, grown-then, within-none}
+use Rattle.build_records.proofs.WritesOnlyTreeLaws.{only-tree-refl, only-tree-trans, within-none}
 use Rattle.build_records.proofs.RecordCounts as laws
-use Rattle.build_records.proofs.StateLaws.{writing-grown}
+use Rattle.build_records.proofs.StateLaws.{writing-only-tree}
 use Rattle.build_records.proofs.record_written.put_counts.Statement.{statement}
 use Rattle.build_records.proofs.record_written.put_counts.Tie as tie
 use Rattle.build_records.specs.WritesOnlyTree.{WritesOnlyTree, AgreesOn}
@@ -30,14 +30,14 @@ put-counts-spec =
       (
         refl,
         (
-          grown-none (treeOf (recordSettingsOf (a .level .settings) (a .counted .now)) (a .text .now)) (a .out .now),
+          only-tree-refl (treeOf (recordSettingsOf (a .level .settings) (a .counted .now)) (a .text .now)) (a .out .now),
           within-none (treeOf (recordSettingsOf (a .level .settings) (a .counted .now)) (a .text .now)) _ _ _ (omega arith),
         ),
       ),
     ))
     (λ c κs. let w = c .before .before .before .before .before .before in
     let a = w .args in (
-      writing-grown (recordSettingsOf (a .level .settings) (a .counted .now))
+      writing-only-tree (recordSettingsOf (a .level .settings) (a .counted .now))
           (a .text .now) (a .out .now) _ (a .level) (a .i .0) (a .block) (w .pre) (c .before .before .loop .inv .1 .1 .0),
       c .before .loop-test .taken,
     ))
@@ -49,7 +49,7 @@ put-counts-spec =
       (
         w .put-count-of .ensures .0 .same-length ∙ v .1 .0,
         (
-          grown-then (treeOf (recordSettingsOf (a .level .settings) (a .counted .now)) (a .text .now)) _
+          only-tree-trans (treeOf (recordSettingsOf (a .level .settings) (a .counted .now)) (a .text .now)) _
               _ _ (v .1 .1 .0) (w .put-count-of .ensures .0),
           laws.one-more (treeOf (recordSettingsOf (a .level .settings) (a .counted .now)) (a .text .now))
               _ _ _ _ (v .1 .1 .1) (w .put-count-of .ensures .0) (w .put-count-of .ensures .1),

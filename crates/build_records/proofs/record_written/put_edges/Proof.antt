@@ -42,7 +42,7 @@ put-edges-spec =
     (λ c. let w = c .before .before .before .before .before .before .before .before in
     let z = w .before .before .before .before .before .before .before .before in
     let a = z .args in let S = recordSettingsOf (a .level .settings) (a .counted .now) in (
-      laws.edges-grown S (a .text .now) (a .out .now) (a .level)
+      laws.edges-only-tree S (a .text .now) (a .out .now) (a .level)
           (a .i .0) (a .block) (z .pre) _ (c .before .before .before .before .before .before .before .before .before .before .place .ensures .0)
           _ (c .before .before .before .before .before .before .before .before .before .before .before .min .ensures)
           _ (c .before .before .before .before .before .before .put-edge .ensures) _ (c .before .before .put-edge2 .ensures),

@@ -16,10 +16,10 @@ not-bytes : (f : Fault) (n : ℕ) → Wrong f ≡ Bytes n → ⊥
 not-bytes f n e = let z : _≡_ {A = ℕ} 0 1 = cc in omega arith
 
 abbrev Inv-loop : tie.InvT-loop
-Inv-loop said out₀ n₀ at₀ out n at = (at ≤ length said) × (n ≤ length out) × (length out ≡ length out₀)
+Inv-loop listed out₀ n₀ at₀ out n at = (at ≤ length listed) × (n ≤ length out) × (length out ≡ length out₀)
 
 abbrev μ-loop : tie.MeasureT-loop
-μ-loop said out₀ n₀ at₀ out n at = length said - at
+μ-loop listed out₀ n₀ at₀ out n at = length listed - at
 
 pub guide-of-spec : {M : Type 1} → statement M
 guide-of-spec =

@@ -21,21 +21,21 @@ make-spec =
     (λ c κs. search needs)
     (λ c. search needs)
     (λ c. let w = c .before .before .before .before in let a = w .before .before .before .before .before .before .args in
-    as-given (make-is (a .line .now) _ _ (length (a .out .now)) (w .before .before .gift-of .ensures) (w .enum-told .given .1) (a .script .now))
+    as-given (make-is (a .line .now) _ _ (length (a .out .now)) (w .before .before .input-kind .ensures) (w .enum-told .given .1) (a .script .now))
     (c .before .before .plain .ensures))
     (λ c. search needs)
     (λ c. let w = c .before .before .before .before in let a = w .before .before .before .before .before .before .args in
-    as-given (make-is (a .line .now) _ _ (length (a .out .now)) (w .before .before .gift-of .ensures) (w .enum-told2 .given .1) (a .script .now))
+    as-given (make-is (a .line .now) _ _ (length (a .out .now)) (w .before .before .input-kind .ensures) (w .enum-told2 .given .1) (a .script .now))
     (c .before .before .plain2 .ensures))
     (λ c. search needs)
     (λ c. let w = c .before .before .before .before in let a = w .before .before .before .before .before .before .args in
-    as-given (make-is (a .line .now) _ _ (length (a .out .now)) (w .before .before .gift-of .ensures) (w .enum-told3 .given .1) (a .script .now))
+    as-given (make-is (a .line .now) _ _ (length (a .out .now)) (w .before .before .input-kind .ensures) (w .enum-told3 .given .1) (a .script .now))
     (c .before .before .plain3 .ensures))
     (λ c. search needs)
     (λ c. let w = c .before .before .before .before in let a = w .before .before .before .before .before .before .args in
-    as-given (make-is (a .line .now) _ _ (length (a .out .now)) (w .before .before .gift-of .ensures) (w .enum-told4 .given .1) (a .script .now))
+    as-given (make-is (a .line .now) _ _ (length (a .out .now)) (w .before .before .input-kind .ensures) (w .enum-told4 .given .1) (a .script .now))
     (c .before .before .pad .ensures))
     (λ c. search needs)
     (λ c. let w = c .before .before .before .before in let a = w .before .before .before .before .before .before .args in
-    as-given (make-is (a .line .now) _ _ (length (a .out .now)) (w .before .before .gift-of .ensures) (w .enum-told5 .given .1) (a .script .now))
+    as-given (make-is (a .line .now) _ _ (length (a .out .now)) (w .before .before .input-kind .ensures) (w .enum-told5 .given .1) (a .script .now))
     (c .before .before .plain4 .ensures)))

@@ -12,4 +12,4 @@ gives-bytes-spec =
     tie.close
     (tie.spec
     (λ c κs. search needs)
-    (λ c. ap (λ (k : ℕ). ltb k 4) (c .gift-number .ensures .0)))
+    (λ c. ap (λ (k : ℕ). ltb k 4) (c .input-number .ensures .0)))

@@ -12,5 +12,5 @@ figure-spec =
     (λ c κs. search needs)
     (λ c. search needs)
     (λ c. search needs)
-    (λ c. let r = c .before .before .before in read-as valueOf _ _ _ _ (r .read-number .ensures) (r .before .token .ensures) (c .before .said .given .1))
+    (λ c. let r = c .before .before .before in read-as valueOf _ _ _ _ (r .read-number .ensures) (r .before .token .ensures) (c .before .parsed .given .1))
     (λ c. let r = c .before .before in read-as valueOf _ _ _ _ (r .read-number .ensures) (r .before .token .ensures) (c .enum-told .given .1)))

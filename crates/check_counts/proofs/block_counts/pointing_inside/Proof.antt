@@ -17,15 +17,16 @@ pointing-inside-spec =
     (λ c κs. let o = c .before .before .before in let l = o .before in let w = l .before .before in (
       w .pre .0,
       laws.points-above _ _ _ _ _ (w .pre .1) (w .pre .2) (w .pre .3),
-      laws.hand-there _ _ _ _ _ (w .pre .1) (w .pre .2) (w .pre .3) _ (l .block-length .ensures .0) _ (o .prefix-target .ensures .0),
+      laws.holder-there _ _ _ _ _ (w .pre .1) (w .pre .2) (w .pre .3) _ (l .block-length .ensures .0) _ (o .prefix-target .ensures .0),
     ))
     (λ c. let o = c .before .before .before .before .before in let l = o .before in let w = l .before .before in
     omega (
       arith,
       o .prefix-target .ensures .1,
       walk-small _ _ _ _ _ _ _ (w .pre .0)
-          (laws.hand-there _ _ _ _ _ (w .pre .1) (w .pre .2) (w .pre .3) _ (l .block-length .ensures .0) _ (o .prefix-target .ensures .0))
+          (laws.holder-there _ _ _ _ _ (w .pre .1) (w .pre .2) (w .pre .3) _ (l .block-length .ensures .0) _ (o .prefix-target .ensures .0))
           _ (c .before .up-to .ensures),
     ))
     (λ c. let o = c .before .before .before .before .before in let l = o .before in let w = l .before .before in
-    laws.hand-is _ _ _ _ _ (w .pre .1) (w .pre .2) (w .pre .3) _ (l .block-length .ensures .0) _ (o .prefix-target .ensures .0) _ (c .before .up-to .ensures)))
+    laws.holder-is _ _ _ _ _ (w .pre .1) (w .pre .2) (w .pre .3) _ (l .block-length .ensures .0) _ (o .prefix-target .ensures .0) _
+    (c .before .up-to .ensures)))

@@ -11,7 +11,7 @@ prefix-target-spec =
     (tie.spec
     (λ c κs. facts.plain-there _ _ _ _ _ (c .before .before .pre .1 .table) 1 (omega arith))
     (λ c. let w = c .before .before .before .before .before in
-    (laws.hand-kept _ _ _ _ _ _ _ (w .pre .0) (w .pre .1) _ (c .before .before .kind .ensures) (c .before .if1 .taken), omega arith))
+    (laws.holder-of-kept _ _ _ _ _ _ _ (w .pre .0) (w .pre .1) _ (c .before .before .kind .ensures) (c .before .if1 .taken), omega arith))
     (λ c κs. facts.plain-there _ _ _ _ _ (c .before .before .before .before .pre .1 .table) 2 (omega arith))
     (λ c κs. facts.plain-there _ _ _ _ _ (c .before .before .before .before .before .pre .1 .table) 3 (omega arith))
     (λ c κs. facts.skip-there _ _ _ _ _ (c .before .before .before .before .before .before .pre .1 .table))
@@ -21,7 +21,7 @@ prefix-target-spec =
       laws.sum-small _ _ _ _ _ _ _ (v .pre .0) (v .pre .1) _ (w .before .kind .ensures) (w .if1 .left) _ (c .before .before .before .gap .ensures),
     ))
     (λ c. let w = c .before .before .before .before .before in let v = w .before .before in (
-      laws.hand-first _ _ _ _ _ _ _
+      laws.holder-first _ _ _ _ _ _ _
           (v .before .before .before .before .pre .0) (v .before .before .before .before .pre .1) _ (v .before .kind .ensures) (v .if1 .left)
           _ _ _ (w .before .link .ensures) (w .gap .ensures) (c .before .before .before .before .skip .ensures) (c .if2 .taken),
       omega arith,
@@ -40,7 +40,7 @@ prefix-target-spec =
     (λ c. search needs)
     (λ c. let w = c .before .before .before .before .before .before .before in
     let v = w .before .before .before in (
-      laws.hand-second _ _ _ _ _ _ _ (v .before .before .before .before .pre .0)
+      laws.holder-second _ _ _ _ _ _ _ (v .before .before .before .before .pre .0)
           (v .before .before .before .before .pre .1) _ (v .before .kind .ensures) (v .if1 .left) _ _ _ (w .before .before .link .ensures)
           (w .before .gap .ensures) (w .skip .ensures) _ (c .inside .ensures) (c .before .before .before .if2 .left),
       omega (arith, c .inside .ok),

@@ -8,9 +8,10 @@ use lib.ListN.{length}
 use Rattle.format.specs.Layout as at
 use Rattle.layout.proofs.ShapeLaws.{shapes}
 use Rattle.layout.proofs.fields.shape_of.Reads as shape-of-reads
+use Rattle.walk_ranges.specs.Segments.{NextAt}
 use Rattle.query_access.proofs.SegmentLaws as segments
 use Rattle.query_access.proofs.descent.copy_leaves.Reads as copy-leaves-reads
-use Rattle.query_access.proofs.descent.next_segment.Reads as next-segment-reads
+use Rattle.walk_ranges.proofs.segments.next_segment.Reads as next-segment-reads
 use Rattle.query_access.proofs.descent.copy_segment.Reads as copy-segment
 use Rattle.query_access.proofs.descent.copy_segment.Kinds as copy-segment-kinds
 use Rattle.query_access.proofs.descent.+copy_segment.Lts-copy_segment as copy-segment-lts
@@ -45,6 +46,21 @@ Inv-loop t rules on from part buffer₀ tree block done₀ buffer done =
 
 abbrev μ-loop : copy-segment-lts.MeasureT-loop
 μ-loop t rules on from part buffer₀ tree block done₀ buffer done = part .size - done
+
+-- A next segment was found in the loop: the turn's start, the call's start, and what is known of the segment.
+module _ {t : ℕ} (g : copy-segment-lts.After-found (claims t) (copy-segment-at t) copy-segment.Post Inv-loop μ-loop) where
+  abbrev then2 : copy-segment-lts.Then2 (claims t) (copy-segment-at t) copy-segment.Post Inv-loop μ-loop
+  then2 = g .before .before .before .before .before
+
+  abbrev start : copy-segment-lts.Start (claims t) (copy-segment-at t) copy-segment.Post Inv-loop μ-loop
+  start = then2 .before .before .before .before .before .before .before .before .before .before
+
+  abbrev turn : copy-segment-lts.At-loop (claims t) (copy-segment-at t) copy-segment.Post Inv-loop μ-loop
+  turn = then2 .before .before
+
+  next : NextAt (start .args .t .now .now) (start .args .rules .pointers) (start .args .on .level) (start .args .from .block .0)
+      (start .args .from .place .0 + turn .loop .done) (start .args .part .size - turn .loop .done) (g .found .given .0 .0) (g .found .given .0 .1 .0)
+  next = segments.next-at _ _ _ _ _ _ _ (g .before .before .next-segment .ensures) _ _ (g .found .given .1)
 
 pub +copy-segment-spec : {M : Type 1} → statement M
 +copy-segment-spec =
@@ -87,39 +103,26 @@ pub +copy-segment-spec : {M : Type 1} → statement M
     (λ c. let then2 = c .before .before .before .before .before .before .before in
     let start = then2 .before .before .before .before .before .before .before .before .before .before in
     let p = start .pre .1 in record { fits = omega (arith, p .1, then2 .if2 .taken) })
-    (λ c κs. let at-next-segment = c .before .before .before .before .before in
-    let then2 = at-next-segment .before .before .before in
-    let start = then2 .before .before .before .before .before .before .before .before .before .before in
-    let p = start .pre .1 in let v = then2 .before .before .loop .inv in
-    let next = segments.next-at _ _ _ _ _ _ _ (at-next-segment .next-segment .ensures) _ _ (c .before .before .before .found .given .1) in (
-      omega (arith, start .pre .0, next .falls),
-      (next .segment, omega (arith, p .1, next .at-most, then2 .if2 .taken), omega (arith, p .2, next .at-most, then2 .if2 .taken, v .1)),
+    (λ c κs. let g = c .before .before .before in
+    let p = start g .pre .1 in let s = next g in let some = then2 g .if2 .taken in (
+      omega (arith, start g .pre .0, s .falls),
+      (s .segment, omega (arith, p .1, s .at-most, some), omega (arith, p .2, s .at-most, some, turn g .loop .inv .1)),
     ))
-    (λ c. let turn = c .before .before .before .before .before .before .before .before .before .before .before .before .before .before in
-    c .before .before .before .copy-segment .kept .1 .1 .1 .1 .1 .0 ∙ turn .loop .inv .1)
-    (λ c. let at-found = c .before .before .before .before .before .before .before in
-    let then2 = at-found .before .before .before .before .before in
-    let v = then2 .before .before .loop .inv in
-    let next = segments.next-at _ _ _ _ _ _ _ (at-found .before .before .next-segment .ensures) _ _ (at-found .found .given .1) in
-    segments.go-broken _ _ _ _ _ _ _ _ _ (v .2) _ _ _ next _ _ (c .before .before .before .copy-segment .ensures)
-    (c .if3 .taken) _ (omega (arith, then2 .if2 .taken)))
-    (λ c. let at-found = c .before .before .before .before .before .before .before in
-    let then2 = at-found .before .before .before .before .before in
-    let start = then2 .before .before .before .before .before .before .before .before .before .before in
-    let p = start .pre .1 in let next = segments.next-at _ _ _ _ _ _ _ (at-found .before .before .next-segment .ensures) _ _ (at-found .found .given .1) in
-    record { fits = omega (arith, p .1, next .at-most, then2 .if2 .taken) })
-    (λ c. let at-found = c .before .before .before .before .before .before .before in
-    let then2 = at-found .before .before .before .before .before in
-    let next = segments.next-at _ _ _ _ _ _ _ (at-found .before .before .next-segment .ensures) _ _ (at-found .found .given .1) in
-    omega (arith, next .some-byte, then2 .if2 .taken))
-    (λ c. let at-copy-segment = c .before .before .before in
-    let at-found = at-copy-segment .before .before .before .before in
-    let then2 = at-found .before .before .before .before .before in
-    let v = then2 .before .before .loop .inv in
-    let next = segments.next-at _ _ _ _ _ _ _ (at-found .before .before .next-segment .ensures) _ _ (at-found .found .given .1) in (
-      omega (arith, next .at-most, then2 .if2 .taken),
-      at-copy-segment .copy-segment .kept .1 .1 .1 .1 .1 .0 ∙ v .1,
-      segments.go-more _ _ _ _ _ _ _ _ _ (v .2) _ _ _ next _ _ (at-copy-segment .copy-segment .ensures) (c .if3 .left),
+    (λ c. let at-copy = c .before .before .before in
+    at-copy .copy-segment .kept .1 .1 .1 .1 .1 .0 ∙ turn (at-copy .before .before .before .before) .loop .inv .1)
+    (λ c. let at-copy = c .before .before .before in
+    let g = at-copy .before .before .before .before in
+    segments.go-broken _ _ _ _ _ _ _ _ _ (turn g .loop .inv .2) _ _ _ (next g) _ _ (at-copy .copy-segment .ensures)
+    (c .if3 .taken) _ (omega (arith, then2 g .if2 .taken)))
+    (λ c. let g = c .before .before .before .before .before .before .before in
+    record { fits = omega (arith, start g .pre .1 .1, next g .at-most, then2 g .if2 .taken) })
+    (λ c. let g = c .before .before .before .before .before .before .before in omega (arith, next g .some-byte, then2 g .if2 .taken))
+    (λ c. let at-copy = c .before .before .before in
+    let g = at-copy .before .before .before .before in
+    let v = turn g .loop .inv in (
+      omega (arith, next g .at-most, then2 g .if2 .taken),
+      at-copy .copy-segment .kept .1 .1 .1 .1 .1 .0 ∙ v .1,
+      segments.go-more _ _ _ _ _ _ _ _ _ (v .2) _ _ _ (next g) _ _ (at-copy .copy-segment .ensures) (c .if3 .left),
     ))
     (λ c. c .before .before .loop .inv .1)
     (λ c. let v = c .before .before .loop .inv in segments.go-end _ _ _ _ _ _ _ _ _ (v .2) _ (omega (arith, v .0))))

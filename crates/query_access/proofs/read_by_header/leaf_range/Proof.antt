@@ -1,7 +1,7 @@
 use mathlib.Core.Path.{refl}
 use native.Mathlib.Omega.{arith}
 use borrow.Author.Needs.{needs}
-use Rattle.query_access.proofs.LeafEndLaws.{end-left-small}
+use Rattle.walk_ranges.proofs.LeafEndLaws.{end-left-small}
 use Rattle.query_access.proofs.LeafRunLaws as laws
 use Rattle.query_access.proofs.read_by_header.leaf_range.Statement.{statement}
 use Rattle.query_access.proofs.read_by_header.leaf_range.Tie as tie

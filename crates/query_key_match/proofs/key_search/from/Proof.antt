@@ -18,15 +18,15 @@ abbrev μ-loop : tie.MeasureT-loop
 μ-loop t h question q so-far₀ row₀ at₀ so-far row at = h .«text_length» - at
 
 -- The part that was read.
-module _ (g : tie.After-ran Inv-loop μ-loop) where
+module _ (g : tie.After-range Inv-loop μ-loop) where
   abbrev l : tie.At-loop Inv-loop μ-loop
   l = g .before .before .before .before .before
 
   abbrev s : tie.Start Inv-loop μ-loop
   s = l .before .before .before
 
-  run : (ReadsOn (s .args .t .now) (l .loop .at) (g .ran .given .0 .0 .from) (g .ran .given .0 .0 .length)) × (1 ≤ g .ran .given .0 .0 .length)
-  run = part-reads _ _ _ _ (g .ran .given .1) (g .before .before .next-part .ensures)
+  run : (ReadsOn (s .args .t .now) (l .loop .at) (g .range .given .0 .0 .from) (g .range .given .0 .0 .length)) × (1 ≤ g .range .given .0 .0 .length)
+  run = part-reads _ _ _ _ (g .range .given .1) (g .before .before .next-part .ensures)
 
 pub from-spec : {M : Type 1} → statement M
 from-spec =

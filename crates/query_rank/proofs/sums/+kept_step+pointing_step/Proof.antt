@@ -11,13 +11,11 @@ use Rattle.query_rank.proofs.sums.+kept_step+pointing_step.Lts-kept_ste
 use Rattle.query_rank.proofs.sums.pointing_step.Reads as pointing-step
 use Rattle.query_rank.proofs.sums.pointing_step.Kinds as pointing-step-kinds
 use Rattle.query_rank.proofs.sums.+kept_step+pointing_step.Lts-pointing_step as pointing-step-lts
-use Rattle.query_rank.proofs.sums.across.Reads as across
 use Rattle.query_rank.proofs.sums.down.Reads as down
 use Rattle.query_rank.proofs.sums.leaf.Reads as leaf
+use Rattle.query_rank.proofs.sums.to_kept.Reads as landing
 use Rattle.walk_steps.proofs.child.Reads as child
 use Rattle.layout.proofs.fields.shape_of.Reads as shape
-use Rattle.walk_steps.proofs.resolve_target.Reads as target
-use Rattle.walk_steps.proofs.classify_block.Reads as kind
 use Rattle.walk_steps.proofs.quotient.Reads as quotient
 use Rattle.format.specs.Layout as at
 use Rattle.walk_steps.proofs.CycleClaims.{at-measure, below-measure}
@@ -31,10 +29,10 @@ abbrev levels : List ℕ → ℕ
 levels t = at.settings t .levels
 
 abbrev μ-kept-step : Measures 2 kept-step-kinds.ps ℕ
-μ-kept-step κs a = 2 * (levels (a .0 .now .now) - 1 - a .1 .1 .1 .0 .level)
+μ-kept-step κs a = 2 * (levels (a .0 .now .now) - 1 - a .1 .1 .1 .0)
 
 abbrev μ-pointing-step : Measures 2 pointing-step-kinds.ps ℕ
-μ-pointing-step κs a = 2 * (levels (a .0 .now .now) - 1 - a .1 .1 .1 .0 .level) + 1
+μ-pointing-step κs a = 2 * (levels (a .0 .now .now) - 1 - a .1 .1 .1 .0) + 1
 
 abbrev kept-step-at : ℕ → In 2 kept-step-kinds.ps
 kept-step-at t = at-measure kept-step-kinds.ps μ-kept-step kept-step.Pre t
@@ -65,30 +63,24 @@ kept-claims t = (
 )
 
 abbrev pointing-claims : ℕ → pointing-step-lts.Claims
-pointing-claims t =
-    (kind.Asked, kind.Learnt, kept-step-below t, kept-step.Post, target.Asked, target.Learnt, across.Asked, across.Learnt)
+pointing-claims t = (landing.Asked, landing.Learnt, kept-step-below t, kept-step.Post)
 
 -- Above the last level: what was read of the tree, and the size of the blocks below.
 module _ {t : ℕ} (e : kept-step-lts.Else1 (kept-claims t) (kept-step-at t) kept-step.Post) where
   abbrev S : kept-step-lts.Start (kept-claims t) (kept-step-at t) kept-step.Post
-  S = e .before .before .before .before .before
+  S = e .before .before .before .before
 
   abbrev s : kept-step-lts.After-shape-of (kept-claims t) (kept-step-at t) kept-step.Post
-  s = e .before .before .before
+  s = e .before .before
 
   x : Shapes (S .args .t .now .now) (s .shape-of .result)
   x = shapes _ _ (s .shape-of .ensures)
 
-  above : S .args .on .level + 1 ≡ levels (S .args .t .now .now) → ⊥
+  above : S .args .level + 1 ≡ levels (S .args .t .now .now) → ⊥
   above last = e .if1 .left (last ∙ sym (x .levels-is))
 
-  below : (q : ℕ) → q ≡ S .args .on .b / s .shape-of .result .arity → q ≡ S .args .on .b / at.settings (S .args .t .now .now) .arity
-  below q q-is = q-is ∙ ap (λ (y : ℕ). S .args .on .b / y) (x .arity-is)
-
--- After the look at a block.
-module _ {t : ℕ} (m : pointing-step-lts.After-classify-block (pointing-claims t) (pointing-step-at t) pointing-step.Post) where
-  abbrev from : pointing-step-lts.Start (pointing-claims t) (pointing-step-at t) pointing-step.Post
-  from = m .before .before
+  below : (q : ℕ) → q ≡ S .args .b / s .shape-of .result .arity → q ≡ S .args .b / at.settings (S .args .t .now .now) .arity
+  below q q-is = q-is ∙ ap (λ (y : ℕ). S .args .b / y) (x .arity-is)
 
 pub +kept-step+pointing-step-spec : {M : Type 1} → statement M
 +kept-step+pointing-step-spec =
@@ -97,14 +89,14 @@ pub +kept-step+pointing-step-spec : {M : Type 1} → statement M
     (kept-step-at t)
     kept-step.Post
     (λ c κs. c .before .pre .1 .0 .on .facts .long)
-    (λ c. let k = c .before .before .before .pre .1 .0 in record { fits = omega (arith, k .on .level-in, k .on .facts .bounds .levels-high) })
-    (λ c κs. c .before .before .before .before .before .pre .1)
+    (λ c. let k = c .before .before .pre .1 .0 in record { fits = omega (arith, k .on .level-in, k .on .facts .bounds .levels-high) })
+    (λ c κs. c .before .before .before .before .pre .1)
     (λ c.
-    let s = c .before .before .before .before in
+    let s = c .before .before .before in
     laws.by-last _ _ _ _ _ _ _ _ _ _ (s .before .before .pre .1 .0)
     (c .before .if1 .taken ∙ shapes _ _ (s .shape-of .ensures) .levels-is) (c .leaf .ensures))
     (λ c κs.
-    let s = c .before .before .before in
+    let s = c .before .before in
     omega (arith, shapes _ _ (s .shape-of .ensures) .arity-is, s .before .before .pre .1 .0 .on .facts .bounds .arity-low))
     (λ c κs.
     let e = c .before in
@@ -141,59 +133,16 @@ pub +kept-step+pointing-step-spec : {M : Type 1} → statement M
     (λ t. pointing-step-lts.spec (pointing-claims t)
     (pointing-step-at t)
     pointing-step.Post
-    (λ c κs. let k = c .before .pre .1 .0 in (record { on = k .on; block-in = k .block-in }))
+    (λ c κs. c .before .pre .1)
     (λ c. search needs)
+    (λ c. search needs)
+    (λ c. laws.landed-none _ _ _ _ _ _ _ _ _ _ (c .before .before .to-kept .ensures) (c .enum-told .given .1))
     (λ c κs.
-    let m = c .before .before in (
-      omega (arith, from m .pre .0),
-      (
-        walk.may-keep _ _ _ _ _ _ _ (from m .pre .1 .0) _ (m .classify-block .ensures) _ _
-            (c .enum-told .given .1),
-        from m .pre .1 .1,
-      ),
+    let m = c .before .before .before in
+    let z = laws.landed-on _ _ _ _ _ _ _ _ _ _ (m .to-kept .ensures) _ _ _ (c .before .there .given .1) in (
+      omega (arith, m .before .before .pre .0),
+      (z .0, z .1),
     ))
-    (λ c. search needs)
-    (λ c κs.
-    let m = c .before .before in
-    (walk.may-point _ _ _ _ _ _ _ (from m .pre .1 .0) _ (m .classify-block .ensures) _ _
-    (c .enum-told2 .given .1)))
-    (λ c. search needs)
-    (λ c. search needs)
     (λ c.
-    let l = c .before .before in
-    let m = l .before .before .before in
-    laws.by-no-land _ _ _ _ _ _ _ (from m .pre .1 .0) _ (m .classify-block .ensures)
-    _ _ (l .before .enum-told2 .given .1) _ (l .resolve-target .ensures) _ _ (c .enum-told3 .given .1))
-    (λ c κs.
-    let l = c .before .before .before .before in
-    let m = l .before .before .before in (
-      laws.target-across _ _ _ _ _ _ (from m .args .sum) (from m .pre .1 .0) _ (m .classify-block .ensures)
-          _ _ (l .before .enum-told2 .given .1) _ (l .resolve-target .ensures) _ _ (c .before .before .there .given .1),
-      walk.may-enter _ _ _ _ _ _ _ (from m .pre .1 .0),
-      from m .pre .1 .1,
-    ))
-    (λ c κs.
-    let l = c .before .before .before .before .before in
-    let m = l .before .before .before in
-    let d = (c .across .ensures) in (
-      omega (arith, from m .pre .0),
-      (
-        laws.to-target _ _ _ _ _ _ _ (from m .pre .1 .0) _ (m .classify-block .ensures) _ _
-            (l .before .enum-told2 .given .1)
-            _ (l .resolve-target .ensures) _ _ (c .before .before .before .there .given .1) 0 _ _ (d .0),
-        d .1,
-      ),
-    ))
-    (λ c. search needs)
-    (λ c. c .kept-step .ensures)
-    (λ c.
-    let l = c .before .before .before .before .before .before in
-    let m = l .before .before .before in
-    let d = (c .before .across .ensures) in
-    laws.by-target _ _ _ _ _ _ _ (from m .pre .1 .0)
-    _ (m .classify-block .ensures) _ _ (l .before .enum-told2 .given .1) _
-    (l .resolve-target .ensures)
-    _ _ (c .before .before .before .before .there .given .1) _ _ _ (d .0) _ (c .kept-step2 .ensures))
-    (λ c.
-    let m = c .before .before in
-    laws.by-none _ _ _ _ _ _ _ (from m .pre .1 .0) _ (m .classify-block .ensures) _ _ (c .enum-told4 .given .1)))
+    let m = c .before .before .before .before in
+    c .kept-step .ensures ∙ laws.landed-on _ _ _ _ _ _ _ _ _ _ (m .to-kept .ensures) _ _ _ (c .before .before .there .given .1) .2))

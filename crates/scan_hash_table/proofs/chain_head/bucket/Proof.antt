@@ -1,7 +1,7 @@
 use native.Mathlib.Omega.{arith}
 use mathlib.Core.Path.{refl}
 use Rattle.scan_hash_table.specs.ChainHeads.{bucketOf}
-use Rattle.scan_rolling_hash.proofs.PrintLaws.{rolling-product-fits}
+use Rattle.scan_rolling_hash.proofs.WindowFingerprintLaws.{rolling-product-fits}
 use Rattle.scan_hash_table.proofs.ChainHeadLaws.{bucket-lt}
 use Rattle.scan_hash_table.proofs.chain_head.bucket.Statement.{statement}
 use Rattle.scan_hash_table.proofs.chain_head.bucket.Tie as tie

@@ -3,7 +3,7 @@ use native.Mathlib.Omega.{arith}
 use mathlib.Core.Path.{refl}
 use Rattle.scan_hash_table.specs.ChainHeads.{linkOf}
 use Rattle.scan_hash_table.specs.Entries.{headIn}
-use Rattle.scan_rolling_hash.proofs.PrintLaws.{is-print-below}
+use Rattle.scan_rolling_hash.proofs.WindowFingerprintLaws.{is-fingerprint-below}
 use Rattle.scan_hash_table.proofs.EntryLaws as laws
 use Rattle.scan_hash_table.proofs.entry.enter.Statement.{statement}
 use Rattle.scan_hash_table.proofs.entry.enter.Tie as tie
@@ -15,7 +15,7 @@ enter-spec =
     (tie.spec
     (λ c κs. (c .before .before .before .pre .0 .laid .placed, c .before .before .before .pre .0 .item-in))
     (λ c κs. let z = c .before .before .before .before .before .before in
-    (z .pre .0, c .before .before .bytes-of .ensures .fits, is-print-below _ _ _ (z .pre .1)))
+    (z .pre .0, c .before .before .bytes-of .ensures .fits, is-fingerprint-below _ _ _ (z .pre .1)))
     (λ c. omega (arith, c .before .before .before .before .before .before .before .before .pre .0 .laid .placed .few))
     (λ c. search needs)
     (λ c. let w = c .before .before .before .before .before .before .before .before in
@@ -29,7 +29,7 @@ enter-spec =
     let z = w .before .before .before .before in laws.is-equal _ _ _ _ _ _ (z .pre .0) (omega arith) _ (c .if1 .taken)
     (laws.equal-at _ _ _ _ _ (z .pre .0) _ _ _ (w .bytes-of .ensures .start-is) (w .bytes-of .ensures .length-is) (c .before .equal-item .ensures)) refl)
     (λ c κs. let z = c .before .before .before .before .before .before .before .before .before in
-    (z .pre .0 .laid .heads-low, is-print-below _ _ _ (z .pre .1)))
+    (z .pre .0 .laid .heads-low, is-fingerprint-below _ _ _ (z .pre .1)))
     (λ c κs. let z = c .before .before .before .before .before .before .before .before .before .before in
     (z .pre .0 .laid .room, z .pre .0 .laid .placed .items-few, z .pre .0 .item-in, c .bucket .ensures .1))
     (λ c. c .before .before .put .ensures .same-length)

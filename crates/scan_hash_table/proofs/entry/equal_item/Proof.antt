@@ -38,8 +38,8 @@ equal-item-spec =
     (λ c κs. let w = c .before .before .before in let z = w .before .before .before .before .before .before .before .before in
     (z .pre .0 .laid .placed, laws.item-here _ _ _ _ _ (z .pre .0) _ (w .loop-test .taken) (w .before .loop .inv), z .pre .1))
     (λ c. let w = c .before .before .before .before .before in let z = w .before .before .before .before .before .before .before .before in
-    laws.equal-found _ _ _ _ _ (z .pre .0) _ (w .loop-test .taken) (w .before .loop .inv) _ _ (items.stands-length _ _ _ _ _ _ _
-    (c .before .occurs-at .ensures) (c .if2 .taken)) (items.stands-same _ _ _ _ _ _ _ (c .before .occurs-at .ensures) (c .if2 .taken)))
+    laws.equal-found _ _ _ _ _ (z .pre .0) _ (w .loop-test .taken) (w .before .loop .inv) _ _ (items.equal-length _ _ _ _ _ _ _
+    (c .before .occurs-at .ensures) (c .if2 .taken)) (items.equal-bytes _ _ _ _ _ _ _ (c .before .occurs-at .ensures) (c .if2 .taken)))
     (λ c. search needs)
     (λ c. let w = c .before .before .before .before in let z = w .before .before .before .before .before .before .before .before in
     omega (arith, z .pre .0 .laid .room, laws.item-here _ _ _ _ _ (z .pre .0) _ (w .loop-test .taken) (w .before .loop .inv)))

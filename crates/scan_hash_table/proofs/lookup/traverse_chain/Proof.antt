@@ -6,7 +6,7 @@ use Rattle.scan_hash_table.proofs.lookup.traverse_chain.Statement.{stat
 use Rattle.scan_hash_table.proofs.lookup.traverse_chain.Tie as tie
 
 abbrev Inv-loop : tie.InvT-loop
-Inv-loop words₀ text out it w link e₀ words e = laws.Visiting text out it words₀ (w .print) (w .start .0) (w .length) words e
+Inv-loop words₀ text out it w link e₀ words e = laws.Visiting text out it words₀ (w .fingerprint) (w .start .0) (w .length) words e
 
 abbrev μ-loop : tie.MeasureT-loop
 μ-loop words₀ text out it w link e₀ words e = e
@@ -30,4 +30,4 @@ traverse-chain-spec =
     (λ c. let w = c .before .before .before in
     laws.visiting-next _ _ _ _ _ _ _ _ _ (w .before .before .before .loop .inv) (w .before .before .loop-test .taken) _ (w .compare-item .ensures))
     (λ c. c .before .loop .inv .searched .same-length)
-    (λ c. laws.visited-all _ _ _ _ _ _ _ _ _ (c .before .loop .inv) (c .loop-test .left)))
+    (λ c. laws.traversed-all _ _ _ _ _ _ _ _ _ (c .before .loop .inv) (c .loop-test .left)))

@@ -13,7 +13,7 @@ enter-both-spec =
     (λ c κs. let z = c .before .before .before .before .before in (laws.turn _ _ _ _ _ (z .pre .0 .0) (omega (arith, z .pre .0 .2)), z .pre .1 .0))
     (λ c κs. let z = c .before .before .before .before .before .before .before .before .before in (
       (
-        laws.turn _ _ _ _ _ (laws.entrants-more _ _ _ _ _ (z .pre .0 .0) _ (laws.took-entered _ _ _ _ _ _
+        laws.turn _ _ _ _ _ (laws.items-entered-more _ _ _ _ _ (z .pre .0 .0) _ (laws.processed-entered _ _ _ _ _ _
             (inl (omega arith)) (c .before .before .before .enter .ensures))) (omega (arith, z .pre .0 .2)),
         z .pre .0 .1,
         z .pre .0 .2,
@@ -22,7 +22,7 @@ enter-both-spec =
     ))
     (λ c. c .before .before .enter-pair .ensures .0 .same-length ∙ c .before .before .before .before .before .before .enter .ensures .same-length)
     (λ c. let w = c .before .before in let v = w .before .before .before .before in let z = v .before .before .before .before .before .before in (
-      laws.entrants-two _ _ _ _ _ (laws.entrants-more _ _ _ _ _ (laws.entrants-more _ _ _ _ _ (z .pre .0 .0)
-          _ (laws.took-entered _ _ _ _ _ _ (inl (omega arith)) (v .enter .ensures))) _ (w .enter-pair .ensures .0)),
+      laws.items-entered-two _ _ _ _ _ (laws.items-entered-more _ _ _ _ _ (laws.items-entered-more _ _ _ _ _ (z .pre .0 .0)
+          _ (laws.processed-entered _ _ _ _ _ _ (inl (omega arith)) (v .enter .ensures))) _ (w .enter-pair .ensures .0)),
       w .enter-pair .ensures .1,
     )))

@@ -22,7 +22,7 @@ enter-pair-spec =
     (λ c. let w = c .before .before .before .before .before .before .before .before in
     let z = w .before .before .before .before .before .before in let un = laws.no-pair _ _ _ (z .pre .0 .1) (z .pre .0 .0 .laid .placed)
     _ (z .pre .0 .2) _ _ (w .before .bytes-of .ensures .start-is) (w .bytes-of2 .ensures .start-is) (c .before .before .before .before .if1 .taken) in
-    (laws.took-skipped _ _ _ _ _ _ un (c .before .before .skip .ensures), record { present = λ p. absurd (un p); absent = λ _. refl }))
+    (laws.processed-skipped _ _ _ _ _ _ un (c .before .before .skip .ensures), record { present = λ p. absurd (un p); absent = λ _. refl }))
     (λ c κs. let w = c .before .before .before .before in
     let z = w .before .before .before .before .before .before in let p = laws.is-pair _ _ _ (z .pre .0 .1)
     (z .pre .0 .0 .laid .placed) _ (z .pre .0 .2) _ _ (w .before .bytes-of .ensures .start-is) (w .bytes-of2 .ensures .start-is) (c .if1 .left) in (
@@ -39,7 +39,7 @@ enter-pair-spec =
     let z = w .before .before .before .before .before .before in let p = laws.is-pair _ _ _ (z .pre .0 .1) (z .pre .0 .0 .laid .placed)
     _ (z .pre .0 .2) _ _ (w .before .bytes-of .ensures .start-is) (w .bytes-of2 .ensures .start-is) (c .before .before .before .if1 .left) in (
       z .pre .0 .0,
-      laws.pair-print _ _ _ (z .pre .0 .1) (z .pre .0 .0 .laid .placed) _ (z .pre .0 .2)
+      laws.pair-fingerprint _ _ _ (z .pre .0 .1) (z .pre .0 .0 .laid .placed) _ (z .pre .0 .2)
           p _ _ _ _ _ (z .pre .1 .0) (z .pre .1 .1) (c .before .before .before .before .before .before .before .before .bytes-of .ensures .length-is)
           (c .before .before .pair-power .ensures) (c .join .ensures),
     ))
@@ -47,7 +47,7 @@ enter-pair-spec =
     (λ c. let w = c .before .before .before .before .before .before .before .before .before .before in let z =
     w .before .before .before .before .before .before in let p = laws.is-pair _ _ _ (z .pre .0 .1) (z .pre .0 .0 .laid .placed) _ (z .pre .0 .2)
     _ _ (w .before .bytes-of .ensures .start-is) (w .bytes-of2 .ensures .start-is) (c .before .before .before .before .before .before .if1 .left) in (
-      laws.took-entered _ _ _ _ _ _ (inr p) (c .before .before .enter .ensures),
+      laws.processed-entered _ _ _ _ _ _ (inr p) (c .before .before .enter .ensures),
       record {
         present = λ _. c .before .before .before .before .before .before .before .before .before .before .before .bytes-of .ensures .length-is;
         absent = λ un. absurd (un (inr p));

@@ -2,7 +2,7 @@ use borrow.Author.Needs.{needs}
 use native.Mathlib.Omega.{arith}
 use mathlib.Core.Path.{_≡_, ap, _∙_}
 use Prim.Native.Nat.{ℕ, _-_, _%_, _^_}
-use Rattle.scan_rolling_hash.specs.Prints.{baseOf}
+use Rattle.scan_rolling_hash.specs.Fingerprints.{baseOf}
 use Rattle.scan_pass.proofs.enter.pair_power.Statement.{statement}
 use Rattle.scan_pass.proofs.enter.pair_power.Tie as tie
 

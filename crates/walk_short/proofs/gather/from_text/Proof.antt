@@ -10,8 +10,8 @@ from-text-spec =
     tie.close
     (tie.spec
     (λ c κs. laws.top-pos _ _ (c .before .pre .0))
-    (λ c κs. let s = c .before .before .before in let p = s .before .before .pre in laws.spot-asks _ _ (p .0) _ _ _ (s .top-spot .ensures) (p .3))
+    (λ c κs. let s = c .before .before .before in let p = s .before .before .pre in laws.position-asks _ _ (p .0) _ _ _ (s .top-position .ensures) (p .3))
     (λ c κs. let p = c .before .before .before .before .before .before .pre in
     packing.unpack-asks _ (p .0 .facts) (p .1) _ _ (p .0 .size-is) (p .0 .leaf-is))
     (λ c. let g = c .before in let s = g .before .before .before .before in let p = s .before .before .pre in
-    laws.spot-by _ _ (p .0) _ _ _ (s .top-spot .ensures) (p .1) (p .2) (p .3) _ (c .unpack .ensures ∙ g .gather-packed .ensures)))
+    laws.position-by _ _ (p .0) _ _ _ (s .top-position .ensures) (p .1) (p .2) (p .3) _ (c .unpack .ensures ∙ g .gather-packed .ensures)))

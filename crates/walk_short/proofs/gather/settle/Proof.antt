@@ -23,8 +23,8 @@ settle-spec =
     (laws.points-there _ _ _ _ _ 0 (p .3) _ (w .classify-next .ensures) _ _ (p .0) (p .1) _ _ (c .before .next2 .given .1), rw z (p .2), p .3))
     (λ c. search needs)
     (λ c. let w = c .before .before in let p = w .before .before .before .before .pre in
-    laws.land-kept _ _ _ _ _ _ (p .3) _ (w .before .before .classify-next .ensures) _ _ (w .next .given .1) _ (c .into .ensures))
+    laws.step-kept _ _ _ _ _ _ (p .3) _ (w .before .before .classify-next .ensures) _ _ (w .next .given .1) _ (c .into .ensures))
     (λ c. let w = c .before .before in let p = w .before .before .before .before .pre in
-    laws.land-points _ _ _ _ _ _ (p .3) _ (w .before .before .classify-next .ensures) _ _ (w .next2 .given .1) _ (c .pointed .ensures))
+    laws.step-points _ _ _ _ _ _ (p .3) _ (w .before .before .classify-next .ensures) _ _ (w .next2 .given .1) _ (c .pointed .ensures))
     (λ c. let p = c .before .before .before .before .pre in
-    laws.land-off _ _ _ _ _ _ (p .3) _ (c .before .before .classify-next .ensures) (c .enum-told .given .1)))
+    laws.step-off _ _ _ _ _ _ (p .3) _ (c .before .before .classify-next .ensures) (c .enum-told .given .1)))

@@ -1,0 +1,2 @@
+pub mod LeafEndLaws
+pub mod NextSegmentLaws

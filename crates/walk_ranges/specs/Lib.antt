@@ -1,0 +1,2 @@
+pub mod LeafEnds
+pub mod Segments
