@@ -38,7 +38,11 @@ DIFFER = (
     r"(?:the two (?:types|sides) differ only|computed as far as they go, the two types first differ) where one has `([^`]*)`\s*\((?:expected|left)\)"
     r".*?and the other has `([^`]*)`\s*\((?:found|right)\)"
 )
-MISMATCH = r"expected type `([^`]*)`\s*,?\s*but this has type `([^`]*)`"
+# how an error names two types, and what it calls them
+MISMATCHES = [
+    (r"expected type `([^`]*)`\s*,?\s*but this has type `([^`]*)`", ("expected", "found")),
+    (r"`([^`]*)`\s*≟ `([^`]*)`\s*does not hold", ("left", "right")),
+]
 # relations that the prover prints under other names
 NAMES = {"_≡_": "≡", "Path": "≡", "_<_": "<", "_≤_": "≤"}
 RELATIONS = {"≡", "<", "≤", "⊥"}
@@ -115,10 +119,10 @@ def known(name):
 
 def relations(error, contract):
     """The relation that was expected and the one that was found, if an error names two types; `contract` gives that of a function's `ensures`."""
-    types = re.search(MISMATCH, error, re.S)
-    printed = types.groups() if types else ()
+    named = [(types.groups(), sides) for pattern, sides in MISMATCHES for types in [re.search(pattern, error, re.S)] if types]
+    printed, sides = named[0] if named else ((), ())
     names = [relation(one) for one in printed]
-    for at, side in enumerate(("expected", "found")):
+    for at, side in enumerate(sides):
         if printed and names[at] in ("Post", "Learnt"):
             begins = re.search(rf"the {side} one begins `([^`]*)", error)
             computed, stated, other = relation(begins[1]) if begins else "", contract(printed[at].split()[0]), names[1 - at]
@@ -195,10 +199,13 @@ FACT_SAMPLES = [
     "`fill-spec`: expected type `Prim.Native.Nat._<_ (length (?30 c)) (c .counted)`\n  but this has type `Prim.Native.Nat._≤_ (get 13 (..)) (..)`",
     "`bounds-spec`: expected type `eqb (c .args .q - 1) (c .total .result) ≡ ?1 c`\n"
     "  but this has type `eqb (get 9 (T .locals) …[90 bytes]… (c .before))) ≡ mathlib.Core.Bool.true`",
+    "`more`: `Rattle.a.proofs.copy_run.Reads.Learnt (r .lifetimes) …[90 bytes]… (r .last))`\n  ≟ `Rattle.a.specs.RunCopied (now ((s .args) .0)) …`\n"
+    "  does not hold (this comparison had to wait; it turned out false)\n  computed as far as it goes, the left one begins `Rattle.a.specs.RunCopied (g .before …`",
     "`target-spec`: expected type `c .kind ≡ 0 → Prim.⊥`, but this has type `mathlib.Core.Path._≡_ (get 7 …[90 bytes]…) 1 → Prim.⊥`",
 ]
 # First errors that a right program would get too, or that show nothing
 FORM_SAMPLES = [
+    "`more`: `Rattle.a.specs.RunCopied (now ((s .args) .0)) …`\n  ≟ `Rattle.a.specs.SpanCopied (now ((s .args) .0)) …`\n  does not hold (it had to wait)",
     "`total-spec`: record `Rattle.a.proofs.total.Lts.After-shared-slice-known` has no field `pre`",
     "`number-of-spec`: a tuple is checked against `Rattle.a.proofs.number_of.Reads.Post (c .κs) (..)`\n  which is not a `×` type",
     "`copy-spec`: the expected type is not a tuple",
