@@ -25,7 +25,7 @@ pub fn scan_words(n: u32, leaf: u32) -> u64
 }
 
 // The size of the tree and the number of windows looked up, or the refusal.
-#[derive(Drop)]
+#[derive(Clone, Copy)]
 pub enum BuildScannedAnswer {
     Size(u32, u32),
     Refused(u32),

@@ -16,7 +16,7 @@ use build_records::{level_written, record_written};
 use layout::place::{BlockNumber, Link};
 
 // The number of blocks of the next level, and the number of windows looked up for this one.
-#[derive(Drop)]
+#[derive(Clone, Copy)]
 pub struct LevelPut {
     pub below: u32,
     pub windows: u32,

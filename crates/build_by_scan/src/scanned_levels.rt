@@ -15,7 +15,7 @@ use build_records::level_written::Level;
 use layout::settings::Settings;
 
 // The size of the tree, 0 if it does not fit, and the number of windows looked up.
-#[derive(Drop)]
+#[derive(Clone, Copy)]
 pub struct LevelsPut {
     pub size: u32,
     pub windows: u32,

@@ -12,7 +12,7 @@ ghost use Rattle.build_records.specs.State.{record_settings_of};
 use layout::settings::{Settings, SettingsAnswer};
 
 // The size of the tree, or the refusal.
-#[derive(Drop)]
+#[derive(Clone, Copy)]
 pub enum BuildAnswer {
     Size(u32),
     Refused(u32),

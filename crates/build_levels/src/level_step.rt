@@ -20,7 +20,7 @@ use layout::{header, settings};
 const FIRST_TABLE: u32 = header::HEADER_LENGTH as u32;
 
 // The level to be written next, or that the buffer has no room for its records.
-#[derive(Drop)]
+#[derive(Clone, Copy)]
 pub enum Step {
     To(Level),
     Full,

@@ -11,7 +11,7 @@ use build_records::record_written::Block;
 use layout::place::{BlockNumber, Link};
 
 // A marked block: its number, whether it is kept, and the link that a kept block gets.
-#[derive(Drop)]
+#[derive(Clone, Copy)]
 pub struct Marked {
     pub number: BlockNumber,
     pub kept: bool,

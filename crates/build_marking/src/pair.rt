@@ -10,7 +10,7 @@ use build_records::level_written::Level;
 use layout::place::{BlockNumber, TextPlace};
 
 // A block and the next one: no pair; a pair whose bytes occur first here; a pair whose bytes occur earlier.
-#[derive(Drop)]
+#[derive(Clone, Copy)]
 pub enum Pair {
     Apart,
     First,

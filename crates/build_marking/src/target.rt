@@ -12,7 +12,7 @@ use build_records::record_written::Block;
 use layout::place::{BlockNumber, BlockPlace, Link, TextPlace};
 
 // The blocks from `low` up to `high`, excluded.
-#[derive(Drop)]
+#[derive(Clone, Copy)]
 pub struct Range {
     pub low: BlockNumber,
     pub high: BlockNumber,

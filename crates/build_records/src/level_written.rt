@@ -11,7 +11,7 @@ use layout::place::{BlockNumber, TextPlace};
 use layout::settings::Settings;
 use layout::{cut, record, word};
 
-#[derive(Drop)]
+#[derive(Clone, Copy)]
 pub struct Level {
     pub settings: Settings,
     // The number of the level, from 0.
@@ -26,7 +26,7 @@ pub struct Level {
 }
 
 // The bytes of a block: their place and their number.
-#[derive(Drop)]
+#[derive(Clone, Copy)]
 pub struct Substring {
     pub start: TextPlace,
     pub length: u32,

@@ -15,7 +15,7 @@ use layout::place::{BlockNumber, BlockPlace, Link, TextPlace};
 use layout::{record, settings, word};
 
 // The values of a record, and where the bytes are that it counts.
-#[derive(Drop)]
+#[derive(Clone, Copy)]
 pub struct Block {
     pub start: TextPlace,
     pub length: u32,
@@ -56,7 +56,7 @@ fn count_before(out: &[u8], at: usize, size: usize, block: Block) -> u32
 }
 
 // The numbers of a block and of a counted byte, which select three words of a record.
-#[derive(Drop)]
+#[derive(Clone, Copy)]
 struct Slot {
     block: BlockNumber,
     byte: usize,

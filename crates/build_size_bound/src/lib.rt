@@ -10,7 +10,7 @@ use layout::{header, settings};
 const HEADER: u64 = header::HEADER_LENGTH as u64;
 
 // The size, or the refusal of the length or the settings.
-#[derive(Drop)]
+#[derive(Clone, Copy)]
 pub enum SizeBoundAnswer {
     Bytes(u64),
     Refused(u32),

@@ -13,7 +13,7 @@ use layout::settings::Settings;
 use layout::{header, record, word};
 
 // The size of the written tree, or the number of the refusing question.
-#[derive(Drop)]
+#[derive(Clone, Copy)]
 pub enum WithoutEdgesAnswer {
     Size(usize),
     Refused(u32),

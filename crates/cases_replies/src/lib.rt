@@ -15,7 +15,7 @@ use query::{
 use tree::{BuildAnswer, BuildScannedAnswer};
 
 // The settings of a tree to be built: m, r and H.
-#[derive(Drop)]
+#[derive(Clone, Copy)]
 pub struct Sizes {
     pub leaf: u32,
     pub arity: u32,

@@ -3,7 +3,7 @@ ghost use Rattle.std.specs.Prelude.{◌≡◌, ◌≤◌};
 ghost use Rattle.cases_script.specs.LineWords.{word_number, input_number, input_kind, question_of, is_comment};
 
 // How a line gives bytes a name.
-#[derive(Drop)]
+#[derive(Clone, Copy)]
 pub enum InputKind {
     Nothing,
     Text,
@@ -13,7 +13,7 @@ pub enum InputKind {
 }
 
 // The question of a line.
-#[derive(Drop)]
+#[derive(Clone, Copy)]
 pub enum Question {
     Nothing,
     Build,

@@ -6,7 +6,7 @@ ghost use Rattle.cases_tokens.specs.Decimals.{more_of, number_of, value_of, is_n
 use crate::parts::token;
 
 // A number, or none.
-#[derive(Drop)]
+#[derive(Clone, Copy)]
 pub enum Number {
     Is(u32),
     Nothing,

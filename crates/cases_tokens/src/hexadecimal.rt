@@ -4,7 +4,7 @@ ghost use Rattle.std.proofs.Math.Seq.{paste};
 ghost use Rattle.cases_tokens.specs.Hexadecimals.{digit_of, token_byte_at, all_hex, hex_bytes, hex_of, made_size};
 
 // Why a line gives no bytes.
-#[derive(Drop)]
+#[derive(Clone, Copy)]
 pub enum Fault {
     Name,
     Number,
@@ -13,7 +13,7 @@ pub enum Fault {
 }
 
 // The number of bytes written to the start of the buffer, or why there are none.
-#[derive(Drop)]
+#[derive(Clone, Copy)]
 pub enum Made {
     Bytes(usize),
     Wrong(Fault),

@@ -11,7 +11,7 @@ use layout::{fields, header, record};
 use walk_steps::position::{BlockPosition, LevelAt};
 
 // The kept block of a level that contains a place, and what is added and subtracted on the way to it.
-#[derive(Drop)]
+#[derive(Clone, Copy)]
 pub struct PrefixTarget {
     pub block: BlockNumber,
     pub place: BlockPlace,

@@ -8,7 +8,7 @@ use layout::header::Header;
 use layout::{record, settings};
 
 // The figures of a level.
-#[derive(Drop)]
+#[derive(Clone, Copy)]
 pub struct Level {
     pub number: u32,
     // The number of the last level.

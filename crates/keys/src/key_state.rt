@@ -7,7 +7,7 @@ ghost use Rattle.keys.specs.Keys.{max_cuts};
 const MAX_CODE: u32 = 12;
 
 // How far the bytes read so far are the beginning of a key that can match.
-#[derive(Drop)]
+#[derive(Clone, Copy)]
 pub enum KeyState {
     // This many bytes of the code, and no space yet.
     Code(u32),

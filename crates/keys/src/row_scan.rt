@@ -9,7 +9,7 @@ use crate::key_state;
 use crate::key_state::KeyState;
 
 // The number of the first row that ends in the part and matches; or else the state and the number of the row in which the part ends.
-#[derive(Drop)]
+#[derive(Clone, Copy)]
 pub enum RowScanAnswer {
     Found(u32),
     On(KeyState, u32),
@@ -89,7 +89,7 @@ fn past_row(ranges: &[u8], part: &[u8], from: usize) -> usize
 }
 
 // The result of a step, with the place from which the scan goes on.
-#[derive(Drop)]
+#[derive(Clone, Copy)]
 pub enum Turned {
     Found(u32),
     On(KeyState, u32, usize),

@@ -5,7 +5,7 @@ ghost use Rattle.layout.specs.Shapes.{shape_of};
 
 use crate::{header, word};
 
-#[derive(Drop)]
+#[derive(Clone, Copy)]
 pub struct Shape {
     // n, the length of the text.
     pub length: u32,

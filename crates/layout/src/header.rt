@@ -41,7 +41,7 @@ pub const HEADER_LENGTH: usize = LEAF_COUNT_AT + 4;
 const FIRST_RECORD_AT: u64 = HEADER_LENGTH as u64;
 
 // The header of a tree. The counts and offsets of the levels remain in the tree and are read from it.
-#[derive(Drop)]
+#[derive(Clone, Copy)]
 pub struct Header {
     // The layout: 1, or 2 for records with edges.
     pub layout: u32,
@@ -57,7 +57,7 @@ pub struct Header {
     pub record_size: u32,
 }
 
-#[derive(Drop)]
+#[derive(Clone, Copy)]
 pub enum HeaderAnswer {
     Good(Header),
     Refused(u32),

@@ -2,13 +2,13 @@
 pub use text::TextPlace;
 
 // A place in a block, counted from the block's start.
-#[derive(Drop)]
+#[derive(Clone, Copy)]
 pub struct BlockPlace(pub u32);
 
 // A block's number in its level, counted from 0.
-#[derive(Drop)]
+#[derive(Clone, Copy)]
 pub struct BlockNumber(pub u32);
 
 // A record's link. Of a kept block: the number of its first child or, on the last level, of its first leaf byte. Of a pointing block: its target's number.
-#[derive(Drop)]
+#[derive(Clone, Copy)]
 pub struct Link(pub u32);

@@ -14,7 +14,7 @@ const PLAIN: u32 = record::PLAIN_BYTES as u32;
 const COUNTED: u32 = record::COUNTED_BYTES as u32;
 
 // The settings of a tree. It has the number of counted bytes; the bytes themselves remain with the caller.
-#[derive(Drop)]
+#[derive(Clone, Copy)]
 pub struct Settings {
     // m, the leaf length: the bytes of a full block of the last level.
     pub leaf: u32,
@@ -26,7 +26,7 @@ pub struct Settings {
     pub counted: u32,
 }
 
-#[derive(Drop)]
+#[derive(Clone, Copy)]
 pub enum SettingsAnswer {
     Fine(Settings),
     Refused(u32),

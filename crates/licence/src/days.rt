@@ -8,7 +8,7 @@ use crate::calendar;
 use crate::calendar::Date;
 
 // The date that eight digits write, or none.
-#[derive(Drop)]
+#[derive(Clone, Copy)]
 pub enum DayRead {
     Good(Date),
     Bad,

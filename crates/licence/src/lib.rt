@@ -9,7 +9,7 @@ ghost use Rattle.licence.specs.TermSteps.{licence_between};
 use crate::days::DayRead;
 
 // Whether a book is open on a day, or the refusal.
-#[derive(Drop)]
+#[derive(Clone, Copy)]
 pub enum OpenOnAnswer {
     Open,
     Closed,
@@ -17,7 +17,7 @@ pub enum OpenOnAnswer {
 }
 
 // The days left, negative after the last day, or the refusal.
-#[derive(Drop)]
+#[derive(Clone, Copy)]
 pub enum DaysLeftAnswer {
     Days(i32),
     Refused(u32),

@@ -23,7 +23,7 @@ const MAX_LINE: usize = 4 * (10 + 1);
 pub const MAX_LINES: usize = Settings::MAX_LEVELS as usize * MAX_LINE;
 
 // The number of bytes of the lines, or the refusal.
-#[derive(Drop)]
+#[derive(Clone, Copy)]
 pub enum ListAnswer {
     Bytes(u32),
     Refused(u32),

@@ -8,7 +8,7 @@ use crate::prefix_state;
 use crate::prefix_state::PrefixState;
 
 // Found: the first row that ends in the scanned bytes and starts with the prefix. On: none; the state and number of the row in which these bytes end.
-#[derive(Drop)]
+#[derive(Clone, Copy)]
 pub enum PrefixScan {
     Found(u32),
     On(PrefixState, u32),

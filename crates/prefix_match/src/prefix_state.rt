@@ -3,7 +3,7 @@ ghost use Rattle.std.specs.Prelude.{◌≡◌, ◌≤◌, ◌<◌, length};
 ghost use Rattle.prefix_match.specs.PrefixStates.{prefix_step, after_matched, prefix_at_end, prefix_at_newline, ends_without_cr, no_byte_read, is_open};
 
 // The state after some bytes of a row.
-#[derive(Drop)]
+#[derive(Clone, Copy)]
 pub enum PrefixState {
     // This many bytes, all equal to those of the prefix.
     Matched(u32),

@@ -14,7 +14,7 @@ use walk_ranges::segments::{Piece, Rules};
 use walk_steps::position::{BlockPosition, LevelAt};
 
 // A part of the buffer.
-#[derive(Drop)]
+#[derive(Clone, Copy)]
 pub struct BufferPart {
     pub to: u32,
     pub size: u32,

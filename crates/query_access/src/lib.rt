@@ -13,14 +13,14 @@ use layout::header::HeaderAnswer;
 use layout::place::TextPlace;
 
 // A byte of the text with the number of blocks entered, or the refusal.
-#[derive(Drop)]
+#[derive(Clone, Copy)]
 pub enum ByteAnswer {
     Byte(u8, u32),
     Refused(u32),
 }
 
 // The number of bytes copied, with the number of blocks that a short span entered, 0 for any other span; or the refusal.
-#[derive(Drop)]
+#[derive(Clone, Copy)]
 pub enum SpanAnswer {
     Bytes(u32, u32),
     Refused(u32),

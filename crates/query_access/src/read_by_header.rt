@@ -20,28 +20,28 @@ use walk_short::gather::Gathered;
 use walk_steps::position::{BlockPosition, LevelAt};
 
 // A range of the bytes of the tree.
-#[derive(Drop)]
+#[derive(Clone, Copy)]
 pub struct TreeRange {
     pub from: usize,
     pub length: usize,
 }
 
 // The range of a run, or the refusal.
-#[derive(Drop)]
+#[derive(Clone, Copy)]
 pub enum RunRangeAnswer {
     At(TreeRange),
     Refused(u32),
 }
 
 // The run of a place: where it is in the bytes of the tree, its length, and the number of blocks on the path of each of its places.
-#[derive(Drop)]
+#[derive(Clone, Copy)]
 pub struct LeafRun {
     pub from: usize,
     pub length: u32,
     pub entered: u32,
 }
 
-#[derive(Drop)]
+#[derive(Clone, Copy)]
 pub enum LeafRunAnswer {
     At(LeafRun),
     Broken,

@@ -9,7 +9,7 @@ use layout::header;
 use layout::header::{Header, HeaderAnswer};
 
 // The order of the first text, with the length of the longest common prefix; or the refusal.
-#[derive(Drop)]
+#[derive(Clone, Copy)]
 pub enum CompareAnswer {
     Before(u32),
     Same(u32),

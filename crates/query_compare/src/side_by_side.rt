@@ -16,7 +16,7 @@ use query_access::read_by_header::{RunRangeAnswer, TreeRange};
 const MOST: u32 = 1024;
 
 // How far two trees were compared: the next place, and the rest of the run of each.
-#[derive(Drop)]
+#[derive(Clone, Copy)]
 pub struct Progress {
     pub place: TextPlace,
     pub one: TreeRange,
@@ -24,7 +24,7 @@ pub struct Progress {
 }
 
 // Some more places are equal, or the comparison has ended.
-#[derive(Drop)]
+#[derive(Clone, Copy)]
 pub enum Round {
     On(Progress),
     Settled(CompareAnswer),

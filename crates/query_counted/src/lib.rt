@@ -11,7 +11,7 @@ use layout::place::BlockNumber;
 use layout::{header, record};
 
 // A counted byte and its number.
-#[derive(Drop)]
+#[derive(Clone, Copy)]
 pub struct CountedByte {
     pub byte: u8,
     pub number: u32,

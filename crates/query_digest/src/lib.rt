@@ -16,7 +16,7 @@ const PART: u32 = 1024;
 const PART_BLOCKS: usize = 16;
 
 // The hash value of the whole text, or the path of some place breaks.
-#[derive(Drop)]
+#[derive(Clone, Copy)]
 pub enum HashAnswer {
     Value(HashState),
     BrokenPath,

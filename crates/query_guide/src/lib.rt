@@ -10,7 +10,7 @@ use layout::header;
 use layout::header::HeaderAnswer;
 
 // The number of words of a guide, or the refusal.
-#[derive(Drop)]
+#[derive(Clone, Copy)]
 pub enum GuideWordsAnswer {
     Words(u64),
     Refused(u32),

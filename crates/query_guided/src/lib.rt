@@ -8,7 +8,7 @@ use layout::header::HeaderAnswer;
 use layout::place::TextPlace;
 
 // A place of the text with the number of blocks on its path and the steps on level 0, or the refusal.
-#[derive(Drop)]
+#[derive(Clone, Copy)]
 pub enum FindGuidedAnswer {
     At(TextPlace, u32, u32),
     Refused(u32),

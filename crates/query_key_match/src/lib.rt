@@ -10,7 +10,7 @@ use layout::header::HeaderAnswer;
 use query_row_filter::NextRowAnswer;
 
 // A mark: the number of the last row returned, 0 before the first row.
-#[derive(Drop)]
+#[derive(Clone, Copy)]
 pub struct Mark {
     pub row: u32,
 }
@@ -27,7 +27,7 @@ pub fn advance_mark(mark: &mut Mark, t: &[u8], question: &[u8]) -> NextRowAnswer
 }
 
 // The answer of `advance_mark`, and the mark after it.
-#[derive(Drop)]
+#[derive(Clone, Copy)]
 pub struct AdvanceAnswer {
     pub answer: NextRowAnswer,
     pub row: u32,

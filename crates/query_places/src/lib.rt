@@ -22,14 +22,14 @@ const FEW: usize = 256;
 const PATH_BREAKS: u32 = 14;
 
 // The number of places, or the refusal.
-#[derive(Drop)]
+#[derive(Clone, Copy)]
 pub enum PlacesAnswer {
     Number(u32),
     Refused(u32),
 }
 
 // The number of words that are enough for a table, or the refusal.
-#[derive(Drop)]
+#[derive(Clone, Copy)]
 pub enum PlacesWordsAnswer {
     Words(u32),
     Refused(u32),

@@ -14,7 +14,7 @@ use query_access::read_by_header::{RunRangeAnswer, TreeRange};
 const MOST: u32 = 65536;
 
 // How far the text was read: the next place, the state of the automaton there, and the number of places found.
-#[derive(Drop)]
+#[derive(Clone, Copy)]
 pub struct Progress {
     pub place: TextPlace,
     pub state: usize,
@@ -22,14 +22,14 @@ pub struct Progress {
 }
 
 // A range of the bytes of the tree to be read, and how far the text was read before it.
-#[derive(Drop)]
+#[derive(Clone, Copy)]
 struct Unread {
     part: TreeRange,
     before: Progress,
 }
 
 // The number of places, or that a path breaks.
-#[derive(Drop)]
+#[derive(Clone, Copy)]
 pub enum Sought {
     All(u32),
     Broken,

@@ -9,7 +9,7 @@ use layout::header;
 use layout::header::HeaderAnswer;
 
 // How often a byte occurs, with the number of blocks entered; or the refusal.
-#[derive(Drop)]
+#[derive(Clone, Copy)]
 pub enum CountAnswer {
     Times(u64, u32),
     Refused(u32),

@@ -17,14 +17,14 @@ use walk_steps::position::{BlockPosition, LevelAt};
 use walk_steps::{BlockAt, BlockKind};
 
 // What is carried down a path: the number of blocks entered, the sum of what is added, and the sum of what is subtracted.
-#[derive(Drop)]
+#[derive(Clone, Copy)]
 pub struct Sum {
     pub entered: u32,
     pub plus: u64,
     pub minus: u64,
 }
 
-#[derive(Drop)]
+#[derive(Clone, Copy)]
 pub enum Summed {
     At(Sum),
     Broken,
@@ -84,7 +84,7 @@ fn leaf(
 }
 
 // A pointing block, and the target that a place of it refers to.
-#[derive(Drop)]
+#[derive(Clone, Copy)]
 struct Pointer {
     block: BlockNumber,
     target: BlockNumber,
@@ -121,7 +121,7 @@ fn down(t: &[u8], size: u32, wanted: CountedByte, level: u32, block: BlockNumber
 }
 
 // The kept block that contains a place, the place in it, and what is carried there.
-#[derive(Drop)]
+#[derive(Clone, Copy)]
 pub enum Landing {
     At(BlockNumber, BlockPlace, Sum),
     Off,

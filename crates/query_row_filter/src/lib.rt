@@ -2,7 +2,7 @@
 pub mod rows_after;
 
 // The next row, which is the new mark; or none, with the new mark; or the refusal, with the mark unchanged.
-#[derive(Drop)]
+#[derive(Clone, Copy)]
 pub enum NextRowAnswer {
     Row(u32),
     Nothing(u32),

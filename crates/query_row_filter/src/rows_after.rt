@@ -18,7 +18,7 @@ use query_select::FindAnswer;
 const MOST: u32 = 1024;
 
 // Where the rows after a mark begin, with the total of byte 10; or the answer of the call, if no row begins there or the place is not found.
-#[derive(Drop)]
+#[derive(Clone, Copy)]
 pub enum RowsStart {
     At(TextPlace, u64),
     Answered(NextRowAnswer),
@@ -70,7 +70,7 @@ pub fn end_of_text(selected: bool, empty: bool, q: u32) -> NextRowAnswer
 }
 
 // Where the rows after a mark begin; Broken if the walk to that place fails.
-#[derive(Drop)]
+#[derive(Clone, Copy)]
 pub enum StartPlace {
     At(TextPlace),
     Broken,

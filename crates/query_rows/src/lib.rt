@@ -12,21 +12,21 @@ use layout::header;
 use layout::header::HeaderAnswer;
 
 // The number of bytes of a row that were copied, or the refusal.
-#[derive(Drop)]
+#[derive(Clone, Copy)]
 pub enum RowAnswer {
     Bytes(u32),
     Refused(u32),
 }
 
 // The number of bytes of a row, or the refusal.
-#[derive(Drop)]
+#[derive(Clone, Copy)]
 pub enum RowLengthAnswer {
     Bytes(u32),
     Refused(u32),
 }
 
 // The number of rows, or the refusal.
-#[derive(Drop)]
+#[derive(Clone, Copy)]
 pub enum RowCountAnswer {
     Rows(u64),
     Refused(u32),

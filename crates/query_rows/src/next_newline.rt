@@ -10,7 +10,7 @@ use query_access::read_by_header::{LeafRun, LeafRunAnswer};
 
 // The place of the first newline from a place on, the byte before it, if one was read, and the range that was read first; or none, because a path
 // breaks or the text ends before it.
-#[derive(Drop)]
+#[derive(Clone, Copy)]
 pub enum Newline {
     At(TextPlace, u8, LeafRun),
     Missing,

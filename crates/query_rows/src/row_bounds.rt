@@ -21,14 +21,14 @@ use query_guided::guided_find;
 use query_select::{FindAnswer, seek};
 
 // The start and the length of a row, or the refusal.
-#[derive(Drop)]
+#[derive(Clone, Copy)]
 pub enum RowBounds {
     At(TextPlace, u32, LeafRun),
     Refused(u32),
 }
 
 // The start of a row that ends in a newline, or the refusal.
-#[derive(Drop)]
+#[derive(Clone, Copy)]
 pub enum RowStart {
     At(TextPlace),
     Refused(u32),

@@ -9,7 +9,7 @@ use layout::header::HeaderAnswer;
 use layout::place::TextPlace;
 
 // A place of the text with the number of blocks on its path, or the refusal.
-#[derive(Drop)]
+#[derive(Clone, Copy)]
 pub enum FindAnswer {
     At(TextPlace, u32),
     Refused(u32),

@@ -22,49 +22,49 @@ use walk_steps::BlockKind;
 use walk_steps::position::LevelAt;
 
 // The size of a record, and the number of the counted byte whose words are read in it.
-#[derive(Drop)]
+#[derive(Clone, Copy)]
 pub struct CountField {
     pub size: u32,
     pub number: u32,
 }
 
 // A block of a list, and the number of steps to it.
-#[derive(Drop)]
+#[derive(Clone, Copy)]
 pub struct StepResult {
     pub block: BlockNumber,
     pub steps: u32,
 }
 
 // The blocks of a list from `first` up to `end`, excluded.
-#[derive(Drop)]
+#[derive(Clone, Copy)]
 pub struct Blocks {
     pub first: BlockNumber,
     pub end: BlockNumber,
 }
 
 // A kept block, and the block length of its children.
-#[derive(Drop)]
+#[derive(Clone, Copy)]
 struct Parent {
     block: BlockNumber,
     below: u32,
 }
 
 // A block, its start in its parent, and the remaining j.
-#[derive(Drop)]
+#[derive(Clone, Copy)]
 pub enum Child {
     At(BlockNumber, BlockPlace, u64),
     Off,
 }
 
 // A kept block, its start relative to that of the first target, and the remaining j.
-#[derive(Drop)]
+#[derive(Clone, Copy)]
 pub enum Target {
     Kept(BlockNumber, BlockPlace, u64),
     Off,
 }
 
 // A kept block, what is left of j in it, and the way to it.
-#[derive(Drop)]
+#[derive(Clone, Copy)]
 pub enum Landing {
     At(BlockNumber, u64, u64),
     Off,

@@ -8,7 +8,7 @@ use text::TextPlace;
 
 // The items of a level, its blocks and pairs, and how the table is divided. Item 2 i is block i, item 2 i + 1 the pair of blocks
 // i and i + 1.
-#[derive(Drop)]
+#[derive(Clone, Copy)]
 pub struct Items {
     // Where the records of the level begin in the buffer that is written, and how many bytes each has.
     pub records: u32,
@@ -23,14 +23,14 @@ pub struct Items {
 }
 
 // The bytes of an item: where they start, and how many they are.
-#[derive(Drop)]
+#[derive(Clone, Copy)]
 pub struct ItemBytes {
     pub start: TextPlace,
     pub length: u32,
 }
 
 // A probe into the table: the fingerprint of bytes of the text, where they start, and how many they are.
-#[derive(Drop)]
+#[derive(Clone, Copy)]
 pub struct Probe {
     pub fingerprint: u32,
     pub start: TextPlace,

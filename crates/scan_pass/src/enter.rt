@@ -11,7 +11,7 @@ use layout::place::BlockNumber;
 use scan_hash_table::{Items, entry, item};
 
 // The fingerprints of a block and of the next one, and the power of the base for a full block.
-#[derive(Drop)]
+#[derive(Clone, Copy)]
 struct PairFingerprints {
     own: u32,
     next: u32,

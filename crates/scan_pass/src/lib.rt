@@ -10,7 +10,7 @@ use scan_hash_table::Items;
 use text::TextPlace;
 
 // The lengths of the blocks and pairs of a level: of full blocks, of full pairs, of a short block, of a pair with a short block; 0 if there is none.
-#[derive(Drop)]
+#[derive(Clone, Copy)]
 pub struct Lengths {
     pub block: u32,
     pub pair: u32,

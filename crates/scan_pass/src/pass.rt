@@ -9,7 +9,7 @@ use scan_rolling_hash::{ByteAt, Window};
 use text::TextPlace;
 
 // The windows of the two lengths that the end of the text cuts: of a short block, and of a pair with a short block.
-#[derive(Drop)]
+#[derive(Clone, Copy)]
 pub struct CutWindows {
     pub last: Window,
     pub ending: Window,

@@ -9,7 +9,7 @@ use text::TextPlace;
 
 // A window of the text: its length, the factor of the byte that leaves it, the fingerprint of its bytes, the number of places of the text where it fits, and
 // the number of places where it was looked up, the current one included.
-#[derive(Drop)]
+#[derive(Clone, Copy)]
 pub struct Window {
     pub len: u32,
     pub leaving: u32,
@@ -19,14 +19,14 @@ pub struct Window {
 }
 
 // A place of the text, and the byte there.
-#[derive(Drop)]
+#[derive(Clone, Copy)]
 pub struct ByteAt {
     pub place: TextPlace,
     pub byte: u8,
 }
 
 // The first four powers of the base.
-#[derive(Drop)]
+#[derive(Clone, Copy)]
 struct Powers {
     one: u32,
     two: u32,

@@ -9,14 +9,14 @@ ghost use Rattle.search.specs.Occurrences.{leftmost_answer, occurs_earlier_answe
 use text::TextPlace;
 
 // The base and the modulus of the fingerprints.
-#[derive(Drop)]
+#[derive(Clone, Copy)]
 pub struct Fingerprint {
     pub base: u32,
     pub modulus: u32,
 }
 
 // The place of the leftmost occurrence, or that the bytes extend past the end of the text.
-#[derive(Drop)]
+#[derive(Clone, Copy)]
 pub enum Occurrence {
     At(TextPlace),
     Outside,

@@ -7,7 +7,7 @@ use crate::{Fingerprint, karp_rabin};
 use text::TextPlace;
 
 // A place of the text, and the fingerprint of the bytes there.
-#[derive(Drop)]
+#[derive(Clone, Copy)]
 struct WindowFingerprint {
     start: TextPlace,
     fingerprint: u64,

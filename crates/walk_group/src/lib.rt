@@ -18,7 +18,7 @@ pub const MOST: u32 = 16;
 const ROOM: usize = MOST as usize;
 
 // The places `first`, `first` + `stride` and so on, `count` of them.
-#[derive(Drop)]
+#[derive(Clone, Copy)]
 pub struct Places {
     pub first: u32,
     pub stride: u32,
@@ -26,7 +26,7 @@ pub struct Places {
 }
 
 // A level above the last one: the number of bytes of a record, the length b of its full blocks, and that of the level below.
-#[derive(Drop)]
+#[derive(Clone, Copy)]
 struct UpperLevel {
     size: u32,
     level: u32,
@@ -34,14 +34,14 @@ struct UpperLevel {
     below: u32,
 }
 
-#[derive(Drop)]
+#[derive(Clone, Copy)]
 enum LeafByte {
     At(u8),
     Broken,
 }
 
 // A part of the buffer.
-#[derive(Drop)]
+#[derive(Clone, Copy)]
 struct GroupPart {
     to: usize,
     count: u32,

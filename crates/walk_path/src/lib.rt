@@ -12,28 +12,28 @@ use layout::place::{BlockNumber, BlockPlace, TextPlace};
 use walk_steps::{BlockAt, BlockKind};
 
 // What is carried down a path: the number of blocks entered, and the bytes left after the place in each of them, at the least.
-#[derive(Drop)]
+#[derive(Clone, Copy)]
 pub struct WalkState {
     pub entered: u32,
     pub left: u32,
 }
 
 // Where a path ends on the last level, with what was carried there. The record of this block has not been read.
-#[derive(Drop)]
+#[derive(Clone, Copy)]
 pub struct PathEnd {
     pub block: BlockNumber,
     pub place: BlockPlace,
     pub state: WalkState,
 }
 
-#[derive(Drop)]
+#[derive(Clone, Copy)]
 pub enum WalkAnswer {
     At(PathEnd),
     Broken,
 }
 
 // The kept block that contains a place, the place in it, and what is carried there.
-#[derive(Drop)]
+#[derive(Clone, Copy)]
 pub enum Landing {
     At(BlockNumber, BlockPlace, WalkState),
     Off,
@@ -184,7 +184,7 @@ fn pointing_step(
 }
 
 // The size of a record, and the block length of level 0.
-#[derive(Drop)]
+#[derive(Clone, Copy)]
 pub struct TopLevel {
     pub size: u32,
     pub b: u32,

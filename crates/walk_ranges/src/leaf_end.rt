@@ -15,7 +15,7 @@ use walk_path::WalkAnswer;
 
 // The block of the last level in which a path ends, the place in it, the number of its leaf byte, the smallest number of bytes left in a block above the last
 // level, and the number of blocks entered.
-#[derive(Drop)]
+#[derive(Clone, Copy)]
 pub struct LeafEnd {
     pub block: BlockNumber,
     pub place: BlockPlace,
@@ -24,7 +24,7 @@ pub struct LeafEnd {
     pub entered: u32,
 }
 
-#[derive(Drop)]
+#[derive(Clone, Copy)]
 pub enum LeafEndAnswer {
     At(LeafEnd),
     Broken,

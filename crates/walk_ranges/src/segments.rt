@@ -14,14 +14,14 @@ use walk_steps::BlockKind;
 use walk_steps::position::{BlockOffset, BlockPosition, LevelAt};
 
 // The size of a record, and 1 if a pointer may still be followed on this level, else 0.
-#[derive(Drop)]
+#[derive(Clone, Copy)]
 pub struct Rules {
     pub record_size: u32,
     pub pointers: u32,
 }
 
 // Consecutive blocks of a level, or leaf bytes, from a place on that is counted from the start of the first one.
-#[derive(Drop)]
+#[derive(Clone, Copy)]
 pub struct Segment {
     pub rules: Rules,
     pub on: LevelAt,
@@ -29,7 +29,7 @@ pub struct Segment {
 }
 
 // The segment that has the next bytes, and the number of these bytes.
-#[derive(Drop)]
+#[derive(Clone, Copy)]
 pub enum Piece {
     At(Segment, u32),
     Off,

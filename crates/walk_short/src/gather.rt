@@ -16,7 +16,7 @@ use walk_steps::BlockKind;
 use walk_steps::position::{BlockOffset, BlockPosition, LevelAt};
 
 // Where the bytes of a span are in the tree: `size` of them from `from` on, the others from `next` on; and the number of blocks entered.
-#[derive(Drop)]
+#[derive(Clone, Copy)]
 pub struct Parts {
     pub entered: u32,
     pub from: usize,
@@ -24,7 +24,7 @@ pub struct Parts {
     pub next: usize,
 }
 
-#[derive(Drop)]
+#[derive(Clone, Copy)]
 pub enum Gathered {
     At(Parts),
     Broken,
@@ -32,7 +32,7 @@ pub enum Gathered {
 
 // The next step of a span on a level: a kept block contains it, and the span continues in the block some steps after its first child, with a number of blocks
 // entered; or the span crosses the end of a block.
-#[derive(Drop)]
+#[derive(Clone, Copy)]
 pub enum SpanStep {
     Down(BlockNumber, u32, BlockPlace, u32),
     Over(BlockNumber, BlockPlace),
@@ -40,7 +40,7 @@ pub enum SpanStep {
 }
 
 // A span: the place of its first byte in a block, and its length.
-#[derive(Drop)]
+#[derive(Clone, Copy)]
 pub struct BlockSpan {
     pub place: BlockPlace,
     pub len: u32,

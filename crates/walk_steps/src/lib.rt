@@ -12,7 +12,7 @@ use layout::place::{BlockNumber, BlockPlace, TextPlace};
 use layout::{cut, fields, record};
 
 // The kind of the block that a path reaches, and the place in it.
-#[derive(Drop)]
+#[derive(Clone, Copy)]
 pub enum BlockKind {
     Kept(BlockNumber, BlockPlace),
     Points(BlockNumber, BlockPlace),
@@ -21,7 +21,7 @@ pub enum BlockKind {
 }
 
 // The block that a place refers to, and the place in it.
-#[derive(Drop)]
+#[derive(Clone, Copy)]
 pub enum BlockAt {
     At(BlockNumber, BlockPlace),
     // Outside the table, or not a kept block where one is required.
@@ -29,7 +29,7 @@ pub enum BlockAt {
 }
 
 // The number of children of a block that end before a place in it, and the place in the next child.
-#[derive(Drop)]
+#[derive(Clone, Copy)]
 pub struct DivRem {
     pub blocks: u32,
     pub place: BlockPlace,

@@ -2,21 +2,21 @@
 use layout::place::{BlockNumber, BlockPlace};
 
 // A level, with the length b of its full blocks.
-#[derive(Drop)]
+#[derive(Clone, Copy)]
 pub struct LevelAt {
     pub level: u32,
     pub b: u32,
 }
 
 // A block of a level and a place in the block.
-#[derive(Drop)]
+#[derive(Clone, Copy)]
 pub struct BlockPosition {
     pub block: BlockNumber,
     pub place: BlockPlace,
 }
 
 // The block some steps after another one.
-#[derive(Drop)]
+#[derive(Clone, Copy)]
 pub struct BlockOffset {
     pub first: BlockNumber,
     pub steps: u32,
