@@ -105,7 +105,7 @@ pub +kept-step-pointing-step-spec : {M : Type 1} → statement M
     _ (below m)
     _ m.before.enter.ensures _ m.child.ensures _ _ c.before.before.before.child2.given.1 in
     let f = laws.last_fits _ _ _ _ _ _ m.before.enter.result may (c.if1.true ∙ (x m).levels_is)
-    (rw (x m).offset_is at m.before.before.shape_of.type-inv.1.1.1.1.1.0.1) in
+    (rw (x m).offset_is at m.before.before.shape_of.type_inv.1.1.1.1.1.0.1) in
     (f.0, f.1, f.2, laws.left-fits _ _ _ _ _ _ _ (S m).requires.1.0 _ m.before.enter.ensures))
     (λ c.
     let m = c.before.before.before.before.before.before in

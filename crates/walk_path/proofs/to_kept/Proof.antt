@@ -10,7 +10,7 @@ to-kept-spec =
     (λ c κs. search rules)
     (λ c. search rules)
     (λ c. search rules)
-    (λ c κs. let S = c.before.before.before.before in (laws.may-enter _ _ _ _ _ _ _ S.requires.0, S.requires.0.IsPlace-in))
+    (λ c κs. let S = c.before.before.before.before in (laws.may-enter _ _ _ _ _ _ _ S.requires.0, S.requires.0.place-in))
     (λ c κs. let m = c.before.before.before in
     laws.may-point _ _ _ _ _ _ _ m.before.before.requires.0 _ m.classify-block.ensures _ _ c.before.enum-told2.given.1)
     (λ c. search rules)

@@ -16,7 +16,7 @@ walk-spec =
     let x = shapes _ _ c.before.before.shape_of.ensures in
     let may = laws.top-may _ _ _ _ pre.0 _ d.top-position.ensures pre.1 in
     let f = laws.last_fits _ _ _ _ _ _ (record { entered = 0; left = 0 }) may (omega (arith, c.if1.true, x.levels_is))
-    (rw x.offset_is at c.before.before.shape_of.type-inv.1.1.1.1.1.0.1) in
+    (rw x.offset_is at c.before.before.shape_of.type_inv.1.1.1.1.1.0.1) in
     (f.0, f.1, f.2, pre.2))
     (λ c. let d = c.before.before.before.before.before.before.before in let pre = d.before.requires in
     let x = shapes _ _ c.before.before.before.shape_of.ensures in

@@ -37,9 +37,9 @@ by-fours-spec =
       omega (arith, l.loop.invariant.0, l.loop.invariant.3),
     ))
     (λ c. let l = c.before.before.before in
-    omega (arith, l.before.before.well-formed.1.1.1.0.1.1.1.0.1.1.0.1, l.loop.invariant.1, c.before.before.loop-test.true))
+    omega (arith, l.before.before.well_formed.1.1.1.0.1.1.1.0.1.1.0.1, l.loop.invariant.1, c.before.before.loop-test.true))
     (λ c. let l = c.before.before.before in
-    let word = l.before.before.well-formed.1.1.1.0.1.1.1.0.1.1.0.1 in
+    let word = l.before.before.well_formed.1.1.1.0.1.1.1.0.1.1.0.1 in
     omega (arith, word, l.loop.invariant.0, l.loop.invariant.1, l.loop.invariant.3, c.before.before.loop-test.true))
     (λ c. let l = c.before.before.before in omega (arith, l.loop.invariant.1, c.before.before.loop-test.true))
     (λ c. let l = c.before.before.before in (

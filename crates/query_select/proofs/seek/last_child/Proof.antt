@@ -16,13 +16,13 @@ small : (c : tie.After-is-below invariant-loop decreases-loop) → c.before.befo
 small c = laws.flags _ _ c.before.before.before.loop.invariant.flag c.is_below.ensures.1
 
 end-small : (c : tie.After-is-below invariant-loop decreases-loop) → c.before.before.before.before.before.args.blocks.end.0 < 2 ^ 32
-end-small c = c.before.before.before.before.before.well-formed.1.1.1.0.1.1.1.0.1.1.0.1
+end-small c = c.before.before.before.before.before.well_formed.1.1.1.0.1.1.1.0.1.1.0.1
 
 pub last-child-spec : {M : Type 1} → statement M
 last-child-spec =
     tie.close
     (tie.spec invariant-loop decreases-loop
-    (λ c. record { fits = omega (arith, c.before.requires.present, c.before.well-formed.1.1.1.0.1.1.1.0.1.1.0.1) })
+    (λ c. record { fits = omega (arith, c.before.requires.present, c.before.well_formed.1.1.1.0.1.1.1.0.1.1.0.1) })
     (λ c. laws.so-far-first _ _ _ _ _ _ c.before.requires.present)
     (λ c κs. let s = c.before.before.before.requires in
     laws.select-field-there _ _ _ _ _ _ s.facts s.size_is s.level_in (omega (arith, s.end_in)) s.number_in (omega arith))

@@ -15,7 +15,7 @@ abbrev decreases-loop : tie.decreases-loop
 decreases-loop t field level j last i₀ steps₀ i steps = last - i
 
 add-i : tie.Need-overflow-add-i invariant-loop decreases-loop
-add-i c = search (rules, c.before.before.before.before.before.before.well-formed.1.1.1.0.1.1.1.0.1.1.0.1)
+add-i c = search (rules, c.before.before.before.before.before.before.well_formed.1.1.1.0.1.1.1.0.1.1.0.1)
 
 pub step-along-spec : {M : Type 1} → statement M
 step-along-spec =
