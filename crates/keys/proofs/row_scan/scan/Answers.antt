@@ -13,15 +13,15 @@ pub advance-next-requires : goal.advance-next-requires
 advance-next-requires c = (c.requires.0, omega (arith, c.requires.1), omega arith)
 
 pub returns-in-Found : goal.returns-in-Found
-returns-in-Found c = let f = laws.found-there _ _ _ _ _ _ c.advance-next.ensures _ c.in-Found.is in
+returns-in-Found c = let f = laws.found-there c.args.ranges.now c.args.part.now c.loop-i.so_far c.loop-i.q c.loop-i.i _ c.advance-next.ensures _ c.in-Found.is in
     (f.2 ∙ c.loop-i.invariant.2, (omega (arith, f.0), omega (arith, f.1)))
 
 pub loop-i-smaller : goal.loop-i-smaller
-loop-i-smaller c = let f = laws.goes_on _ _ _ _ _ _ c.advance-next.ensures _ _ _ c.in-On.is in
+loop-i-smaller c = let f = laws.goes_on c.args.ranges.now c.args.part.now c.loop-i.so_far c.loop-i.q c.loop-i.i _ c.advance-next.ensures _ _ _ c.in-On.is in
     omega (arith, f.0, f.1)
 
 pub loop-i-preserved : goal.loop-i-preserved
-loop-i-preserved c = let f = laws.goes_on _ _ _ _ _ _ c.advance-next.ensures _ _ _ c.in-On.is in
+loop-i-preserved c = let f = laws.goes_on c.args.ranges.now c.args.part.now c.loop-i.so_far c.loop-i.q c.loop-i.i _ c.advance-next.ensures _ _ _ c.in-On.is in
     (f.1, (omega (arith, f.2), omega (arith, f.0, f.3)), f.4 ∙ c.loop-i.invariant.2)
 
 pub returns : goal.returns
