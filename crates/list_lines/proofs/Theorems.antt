@@ -30,8 +30,8 @@ use Rattle.list_lines.proofs.print.Met as print-met
 
 abbrev pub calls : List Call
 calls =
-    call_of list_at.routine list_of.signature list_of.spec list-met.met (λ 𝓛 mem run κs a. (tt, refl))
-    ∷ call_of print-at.routine print-of.signature print-of.spec print-met.met (λ 𝓛 mem run κs a. (tt, refl))
+    call_of list_at.code list_at.name list_of.signature (λ 𝓤 𝓛. list_of.spec 𝓛) list-met.met (λ 𝓤 𝓛 mem run κs a. (tt, refl))
+    ∷ call_of print-at.code print-at.name print-of.signature (λ 𝓤 𝓛. print-of.spec 𝓛) print-met.met (λ 𝓤 𝓛 mem run κs a. (tt, refl))
     ∷ []
 
 pub every-call-ends : Each TotallyCorrect calls

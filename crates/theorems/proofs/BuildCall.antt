@@ -41,7 +41,7 @@ use Rattle.theorems.proofs.TreeAnswers.{accepted-answers, accepted-refuses}
 pub use Rattle.theorems.specs.CallContracts.{Build}
 
 abbrev pub build_call : Call
-build_call = call build_function build-met.met (λ 𝓛 mem run κs a. (tt, refl))
+build_call = call build_function build-met.met (λ 𝓤 𝓛 mem run κs a. (tt, refl))
 
 -- For any bytes.
 

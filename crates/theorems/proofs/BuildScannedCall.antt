@@ -42,10 +42,10 @@ abbrev pub ScanWords : (n leaf : ℕ) → ℕ → Type 0
 ScanWords n leaf r = scan-words-reads.Post tt (n, (leaf, tt)) r (n, (leaf, tt))
 
 abbrev pub build_scanned_call : Call
-build_scanned_call = call build_scanned_function build-scanned-met.met (λ 𝓛 mem run κs a. (tt, refl))
+build_scanned_call = call build_scanned_function build-scanned-met.met (λ 𝓤 𝓛 mem run κs a. (tt, refl))
 
 abbrev pub scan_words_call : Call
-scan_words_call = call scan_words_function scan-words-met.met (λ 𝓛 mem run κs a. (tt, refl))
+scan_words_call = call scan_words_function scan-words-met.met (λ 𝓤 𝓛 mem run κs a. (tt, refl))
 
 -- A call of build_scanned, which leaves the table `words` as `table` and the buffer `out` as `after`.
 module _ (κs : Lfts 4) (text : Borrowed) (leaf arity levels : ℕ) (counted words table out after : Borrowed) where

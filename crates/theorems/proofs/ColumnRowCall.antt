@@ -30,7 +30,7 @@ use Rattle.query_columns.proofs.row_by_columns.Met as row-by-columns-met
 pub use Rattle.theorems.specs.CallContracts.{ByColumns}
 
 abbrev pub row_by_columns_call : Call
-row_by_columns_call = call row_by_columns_function row-by-columns-met.met (λ 𝓛 mem run κs a. (tt, refl))
+row_by_columns_call = call row_by_columns_function row-by-columns-met.met (λ 𝓤 𝓛 mem run κs a. (tt, refl))
 
 -- For any bytes.
 

@@ -17,10 +17,10 @@ use Rattle.columns.proofs.from_columns.Met as from-columns-met
 pub use Rattle.columns.proofs.Theorems.{ToColumns, FromColumns}
 
 abbrev pub to_columns_call : Call
-to_columns_call = call to_columns_function to-columns-met.met (λ 𝓛 mem run κs a. (tt, refl))
+to_columns_call = call to_columns_function to-columns-met.met (λ 𝓤 𝓛 mem run κs a. (tt, refl))
 
 abbrev pub from_columns_call : Call
-from_columns_call = call from_columns_function from-columns-met.met (λ 𝓛 mem run κs a. (tt, refl))
+from_columns_call = call from_columns_function from-columns-met.met (λ 𝓤 𝓛 mem run κs a. (tt, refl))
 
 -- For any bytes: each returns 0, 20 or 21.
 refusal-one : (w n room : ℕ) → OneOf (20 ∷ 21 ∷ 0 ∷ []) (refusal_of w n room)

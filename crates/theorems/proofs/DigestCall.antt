@@ -28,10 +28,10 @@ pub use Rattle.theorems.specs.CallContracts.{Digest}
 pub use Rattle.sha256.proofs.Theorems.{DigestText}
 
 abbrev pub digest_call : Call
-digest_call = call digest_function digest-met.met (λ 𝓛 mem run κs a. (tt, refl))
+digest_call = call digest_function digest-met.met (λ 𝓤 𝓛 mem run κs a. (tt, refl))
 
 abbrev pub digest_text_call : Call
-digest_text_call = call digest_text_function digest-text-met.met (λ 𝓛 mem run κs a. (tt, refl))
+digest_text_call = call digest_text_function digest-text-met.met (λ 𝓤 𝓛 mem run κs a. (tt, refl))
 
 -- Any bytes.
 

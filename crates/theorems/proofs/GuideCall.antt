@@ -23,13 +23,13 @@ pub use Rattle.query_guide.proofs.Theorems.{GuideWords}
 pub use Rattle.build_guide.proofs.Theorems.{MakeGuide, CheckGuide}
 
 abbrev pub guide_words_call : Call
-guide_words_call = call guide_words_function guide-words-met.met (λ 𝓛 mem run κs a. (tt, refl))
+guide_words_call = call guide_words_function guide-words-met.met (λ 𝓤 𝓛 mem run κs a. (tt, refl))
 
 abbrev pub make_guide_call : Call
-make_guide_call = call make_guide_function make-guide-met.met (λ 𝓛 mem run κs a. (tt, refl))
+make_guide_call = call make_guide_function make-guide-met.met (λ 𝓤 𝓛 mem run κs a. (tt, refl))
 
 abbrev pub check_guide_call : Call
-check_guide_call = call check_guide_function check-guide-met.met (λ 𝓛 mem run κs a. (tt, refl))
+check_guide_call = call check_guide_function check-guide-met.met (λ 𝓤 𝓛 mem run κs a. (tt, refl))
 
 -- Checking a guide: 0, 5 to 9, or 24.
 pub check-guide-numbers : (κs : Lfts 2) (t guide : Borrowed) (r : ℕ) → CheckGuide κs t guide r → OneOf (5 ∷ 6 ∷ 7 ∷ 8 ∷ 9 ∷ 24 ∷ 0 ∷ []) r

@@ -12,10 +12,10 @@ use Rattle.query_info.proofs.version.Met as version-met
 pub use Rattle.query_info.proofs.Theorems.{Info, Version}
 
 abbrev pub info_call : Call
-info_call = call info_function info-met.met (λ 𝓛 mem run κs a. (tt, refl))
+info_call = call info_function info-met.met (λ 𝓤 𝓛 mem run κs a. (tt, refl))
 
 abbrev pub version_call : Call
-version_call = call version_function version-met.met (λ 𝓛 mem run κs a. (tt, refl))
+version_call = call version_function version-met.met (λ 𝓤 𝓛 mem run κs a. (tt, refl))
 
 -- For any bytes: info returns 0, or 5, 6 or 7.
 pub info-numbers : (κs : Lfts 2) (t figures after : Borrowed) (r : ℕ) → Info κs t figures after r → OneOf (5 ∷ 6 ∷ 7 ∷ 0 ∷ []) r

@@ -40,10 +40,10 @@ pub use Rattle.query_compare.specs.OrderLaws.{text-order, ordering-flip, orderin
 pub use Rattle.query_compare.specs.OrderLaws.{shared-is, shared-flip, ordered-by, empty-first}
 
 abbrev pub compare_call : Call
-compare_call = call compare_function compare-met.met (λ 𝓛 mem run κs a. (tt, refl))
+compare_call = call compare_function compare-met.met (λ 𝓤 𝓛 mem run κs a. (tt, refl))
 
 abbrev pub first_call : Call
-first_call = call first_function first-met.met (λ 𝓛 mem run κs a. (tt, refl))
+first_call = call first_function first-met.met (λ 𝓤 𝓛 mem run κs a. (tt, refl))
 
 -- The numbers with which a comparison is refused, for any bytes.
 

@@ -32,7 +32,7 @@ use Rattle.query_places.proofs.places.Met as places-met
 pub use Rattle.theorems.specs.CallContracts.{Places}
 
 abbrev pub places_call : Call
-places_call = call places_function places-met.met (λ 𝓛 mem run κs a. (tt, refl))
+places_call = call places_function places-met.met (λ 𝓤 𝓛 mem run κs a. (tt, refl))
 
 -- For any bytes.
 

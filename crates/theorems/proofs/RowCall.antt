@@ -28,7 +28,7 @@ use Rattle.theorems.proofs.RowOutcomes.{free-copied, free-short}
 use Rattle.query_rows.proofs.row.Met as row-met
 
 abbrev pub row_call : Call
-row_call = call row_function row-met.met (λ 𝓛 mem run κs a. (tt, refl))
+row_call = call row_function row-met.met (λ 𝓤 𝓛 mem run κs a. (tt, refl))
 
 -- For any bytes.
 module _ (κs : Lfts 2) (t : Borrowed) (q : ℕ) (buffer after : Borrowed) where

@@ -21,7 +21,7 @@ use Rattle.query_rows.proofs.row_guided.Met as row-guided-met
 pub use Rattle.query_rows.proofs.Theorems.{RowGuided}
 
 abbrev pub row_guided_call : Call
-row_guided_call = call row_guided_function row-guided-met.met (λ 𝓛 mem run κs a. (tt, refl))
+row_guided_call = call row_guided_function row-guided-met.met (λ 𝓤 𝓛 mem run κs a. (tt, refl))
 
 -- For any bytes: a row fits, and the bytes after it are unchanged.
 module _ (κs : Lfts 3) (t guide : Borrowed) (q : ℕ) (buffer after : Borrowed) where

@@ -30,7 +30,7 @@ use Rattle.query_access.proofs.span.Met as span-met
 pub use Rattle.theorems.specs.CallContracts.{Span}
 
 abbrev pub span_call : Call
-span_call = call span_function span-met.met (λ 𝓛 mem run κs a. (tt, refl))
+span_call = call span_function span-met.met (λ 𝓤 𝓛 mem run κs a. (tt, refl))
 
 -- For any bytes.
 

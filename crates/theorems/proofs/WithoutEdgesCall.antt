@@ -27,7 +27,7 @@ use Rattle.build_without_edges.proofs.Theorems as drops
 pub use Rattle.build_without_edges.proofs.Theorems.{WithoutEdges}
 
 abbrev pub without_edges_call : Call
-without_edges_call = call without_edges_function without-edges-met.met (λ 𝓛 mem run κs a. (tt, refl))
+without_edges_call = call without_edges_function without-edges-met.met (λ 𝓤 𝓛 mem run κs a. (tt, refl))
 
 -- On any bytes it returns 0, 5, 6, 7 or 13.
 number-one : (t out : List ℕ) → OneOf (5 ∷ 6 ∷ 7 ∷ 13 ∷ 0 ∷ []) (without_edges_refusal t out)
