@@ -9,7 +9,7 @@ use mathlib.Core.Logic.{inl, inr}
 use Prim.Native.Nat.{ℕ}
 use native.Mathlib.Omega.{arith}
 use contract.Lifetimes.{Lfts}
-use denote.Ref.{Bor}
+use denote.Ref.{Bor, MutBor}
 use lib.ListN.{length, drop}
 use lib.Dec.{leb}
 use borrow.Author.Tests.{ne_eqb}
@@ -41,7 +41,7 @@ pub no-preconditions : Each NoPrecondition calls
 no-preconditions = each-asks-nothing calls
 
 -- r is an answer that the contract of `list` allows to a call with these arguments, which leaves the buffer `out` as `after`
-abbrev pub Lists : (κs : Lfts 2) (t out after : Bor (List ℕ)) → ListAnswer → Type 0
+abbrev pub Lists : (κs : Lfts 2) (t : Bor (List ℕ)) (out after : MutBor (List ℕ)) → ListAnswer → Type 0
 Lists κs t out after r = list-reads.Post κs (t, (out, tt)) r (t, (after, tt))
 
 -- The numbers that its questions can give.
@@ -54,7 +54,7 @@ list-one t room =
     input true = inr (checked-one t)
     input false = inl refl
 
-module _ (κs : Lfts 2) (t out after : Bor (List ℕ)) where
+module _ (κs : Lfts 2) (t : Bor (List ℕ)) (out after : MutBor (List ℕ)) where
   -- A refusal is 15, 5 to 9 or 13.
   pub list-numbers : (n : ℕ) → Lists κs t out after (Refused n) → OneOf (15 ∷ 5 ∷ 6 ∷ 7 ∷ 8 ∷ 9 ∷ 13 ∷ []) n
   unfolding list_answer
