@@ -33,7 +33,7 @@ use Rattle.theorems.proofs.RefusalNumbers.{OneOf}
 use Rattle.query_select.proofs.find.Met as find-met
 
 abbrev pub find_call : Call
-find_call = call find_function find-met.met (λ 𝓛 mem run κs a. (tt, refl))
+find_call = call find_function find-met.met (λ 𝓤 𝓛 mem run κs a. (tt, refl))
 
 -- For any bytes.
 module _ (κs : Lfts 1) (t : Borrowed) (byte j : ℕ) where
