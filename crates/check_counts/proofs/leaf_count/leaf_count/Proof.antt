@@ -5,7 +5,7 @@ use mathlib.Core.Path.{◌≡◌, sym}
 use native.Mathlib.Omega.{arith}
 use Rattle.check_counts.proofs.leaf_count.leaf_count.Statement.{statement}
 use Rattle.check_counts.proofs.leaf_count.leaf_count.Tie as tie
-use Rattle.text.specs.CountLaws.{count_none, count-next-same, count-next-other}
+use Rattle.text.proofs.CountTheorems.{count_none, count-next-same, count-next-other}
 use Rattle.text.specs.Text.{substring, count_in}
 
 abbrev invariant-loop : tie.invariant-loop
