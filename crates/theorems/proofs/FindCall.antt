@@ -10,7 +10,7 @@ use lib.ListN.{length}
 use lib.Dec.{leb}
 use borrow.Author.Tests.{leb-true}
 use Rattle.text.specs.Text.{count_in, place_of}
-use Rattle.text.specs.CountLaws.{place-nth}
+use Rattle.text.proofs.CountTheorems.{place-nth}
 use Rattle.text.specs.ListLaws.{bool_cases, and_left, and_right}
 use Rattle.text.specs.declared.TextPlace.{TextPlace}
 use Rattle.format.specs.Layout.{Settings}

@@ -6,7 +6,7 @@ use native.Mathlib.Omega.{arith}
 use contract.Lifetimes.{Lfts}
 use lib.ListN.{length}
 use Rattle.text.specs.Text.{count_in, place_of}
-use Rattle.text.specs.CountLaws.{place-nth}
+use Rattle.text.proofs.CountTheorems.{place-nth}
 use Rattle.text.specs.declared.TextPlace.{TextPlace}
 use Rattle.format.specs.Layout as at
 use Rattle.format.specs.TreeReading.{path_of, text_of, check_result}

@@ -2,7 +2,7 @@ use Prim.Native.Nat.{◌-◌}
 use mathlib.Core.Logic.{⊎_elim}
 use mathlib.Core.Path.{◌≡◌, sym}
 use native.Mathlib.Omega.{arith}
-use Rattle.text.specs.CountLaws.{count_none, count-next-same, count-next-other}
+use Rattle.text.proofs.CountTheorems.{count_none, count-next-same, count-next-other}
 use Rattle.byte_slices.proofs.count_in.Goals as goal
 use Rattle.byte_slices.proofs.count_in.Goals.{then-t-from, else-t-from}
 

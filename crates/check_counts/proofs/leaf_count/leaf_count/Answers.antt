@@ -1,7 +1,7 @@
 use Prim.Native.Nat.{◌-◌}
 use mathlib.Core.Path.{◌≡◌, sym}
 use native.Mathlib.Omega.{arith}
-use Rattle.text.specs.CountLaws.{count_none, count-next-same, count-next-other}
+use Rattle.text.proofs.CountTheorems.{count_none, count-next-same, count-next-other}
 use Rattle.check_counts.proofs.leaf_count.leaf_count.Goals as goal
 use Rattle.check_counts.proofs.leaf_count.leaf_count.Goals.{then-t-from, else-t-from}
 
