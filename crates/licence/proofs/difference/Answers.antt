@@ -12,4 +12,4 @@ overflow_sub-result c =
     (subst (λ (v : ℤ). SFits w32 (pos c.args.a -ℤ v)) (sym (small c.args.b c.requires.1)) (diff-fits c.args.a c.args.b c.requires.0 c.requires.1))
 
 pub returns : goal.returns
-returns c = to_z-of_z w32 _ (sub-result c) ∙ (λ i. small c.args.a c.requires.0 i -ℤ small c.args.b c.requires.1 i)
+returns c = to_z-of_z w32 _ (overflow_sub-result c) ∙ (λ i. small c.args.a c.requires.0 i -ℤ small c.args.b c.requires.1 i)
