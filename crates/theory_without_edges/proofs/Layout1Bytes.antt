@@ -12,14 +12,14 @@ use Rattle.text.specs.ListLaws.{below_suc}
 use Rattle.text.specs.Text.{substring}
 use Rattle.text.specs.TextLaws.{get_or-substring}
 use Rattle.format.specs.Layout.{word_at, word_bytes, set_word, max_levels, layout_at, offset_at, leaf_offset_at, header_length}
-use Rattle.format.specs.WordLaws.{length-set_word, get_or-set_word-other, set_word-eq}
+use Rattle.format.specs.WordLaws.{length-set_word, get_or-set_word-other}
 use Rattle.format.specs.LayoutLaws.{Readable}
 use Rattle.format.specs.Layout as at
 use Rattle.theory_built.specs.Gather.{get_or-concat}
 use Rattle.theory_built.specs.BuiltBytes.{BytesAt, written-word}
 use Rattle.theory_without_edges.specs.WithoutEdges.{edgeless_layout, layout1_record_size, layout1_offset, offsets_in, layout1_header}
 use Rattle.theory_without_edges.specs.WithoutEdges.{record_count, layout1_record, layout1_records, layout1_leaf_bytes, without_edges}
-use Rattle.theory_without_edges.specs.Layout1Sizes as sizes
+use Rattle.theory_without_edges.proofs.Layout1Sizes as sizes
 
 -- Words of equal bytes are equal.
 pub word_same : (t u : List ℕ) (p q : ℕ) → ((r : ℕ) → r < 4 → get_or u (p + r) 0 ≡ get_or t (q + r) 0) → word_at u p ≡ word_at t q

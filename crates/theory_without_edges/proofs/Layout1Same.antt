@@ -8,8 +8,8 @@ use Rattle.format.specs.LayoutLaws.{Readable}
 use Rattle.format.specs.Layout as at
 use Rattle.theory_built.specs.BuiltBytes.{BytesAt}
 use Rattle.theory_without_edges.specs.WithoutEdges.{AllBytes, layout1_record_size, layout1_offset, record_count, without_edges}
-use Rattle.theory_without_edges.specs.Layout1Sizes as sizes
-use Rattle.theory_without_edges.specs.Layout1Bytes as bytes
+use Rattle.theory_without_edges.proofs.Layout1Sizes as sizes
+use Rattle.theory_without_edges.proofs.Layout1Bytes as bytes
 
 -- Four bytes are the digits of their word in base 256.
 digits_of : (a b c d w : ℕ) → a < 256 → b < 256 → c < 256 → d < 256 → a + 256 * b + 65536 * c + 16777216 * d ≡ w

@@ -26,8 +26,8 @@ use Rattle.theory_built.specs.ReadBack as back
 use Rattle.theory_built.specs.BuiltHeader.{built-header}
 use Rattle.theory_without_edges.specs.WithoutEdges.{edgeless_layout, layout1_record_size, layout1_offset, layout1_header, record_count}
 use Rattle.theory_without_edges.specs.WithoutEdges.{layout1_record, layout1_records, layout1_leaf_bytes, without_edges}
-use Rattle.theory_without_edges.specs.Layout1Sizes as sizes
-use Rattle.theory_without_edges.specs.Layout1Bytes as bytes
+use Rattle.theory_without_edges.proofs.Layout1Sizes as sizes
+use Rattle.theory_without_edges.proofs.Layout1Bytes as bytes
 use Rattle.theory_without_edges.specs.TreeInLayout.{size_in_layout, bytes_of, level_in_layout, header_in, tree_in}
 use Rattle.theory_without_edges.specs.PairsInLayout as words
 use Rattle.theory_without_edges.specs.PairsInLayout.{offset_in, words_in}

@@ -17,8 +17,8 @@ use Rattle.format.specs.Layout as at
 use Rattle.format.specs.TreeReading.{header_result}
 use Rattle.theory_built.specs.BuiltBytes.{bytes_word}
 use Rattle.theory_without_edges.specs.WithoutEdges.{edgeless_layout, layout1_record_size, layout1_offset, without_edges}
-use Rattle.theory_without_edges.specs.Layout1Sizes as sizes
-use Rattle.theory_without_edges.specs.Layout1Bytes as bytes
+use Rattle.theory_without_edges.proofs.Layout1Sizes as sizes
+use Rattle.theory_without_edges.proofs.Layout1Bytes as bytes
 use Rattle.theory_without_edges.specs.TreesAgree.{Agree}
 
 module _ (t : List ℕ) (k : Readable t) (small : at.leaf_offset t < 4294967296) where

@@ -19,10 +19,10 @@ use Rattle.theory_built.specs.ReadBack as back
 use Rattle.theory_built.specs.BuiltHeader.{built-header}
 use Rattle.theory_without_edges.specs.WithoutEdges.{edgeless_layout, without_edges, AllBytes}
 use Rattle.theory_without_edges.specs.TreeInLayout.{tree_in}
-use Rattle.theory_without_edges.specs.Layout1Built as built
-use Rattle.theory_without_edges.specs.Layout1Sizes as sizes
-use Rattle.theory_without_edges.specs.Layout1Reads as reads
-use Rattle.theory_without_edges.specs.Layout1Same as same
+use Rattle.theory_without_edges.proofs.Layout1Built as built
+use Rattle.theory_without_edges.proofs.Layout1Sizes as sizes
+use Rattle.theory_without_edges.proofs.Layout1Reads as reads
+use Rattle.theory_without_edges.proofs.Layout1Same as same
 use Rattle.theory_without_edges.specs.TreesAgree as agree
 use Rattle.theory_without_edges.specs.TreesExact as exact
 use Rattle.theory_without_edges.specs.PathsAgree as paths
