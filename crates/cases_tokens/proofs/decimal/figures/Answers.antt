@@ -1,4 +1,3 @@
-use Prim.Native.Nat.{◌-◌}
 use native.Mathlib.Omega.{arith}
 use borrow.Author.Tests.{not-true, not-false}
 use Rattle.cases_tokens.proofs.DecimalLaws.{numbers-none, numbers_more, numbers-all, numbers-not}

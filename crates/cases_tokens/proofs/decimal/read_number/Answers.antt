@@ -1,4 +1,3 @@
-use Prim.Native.Nat.{◌-◌}
 use mathlib.Core.Path.{◌∙◌}
 use native.Mathlib.Omega.{arith}
 use Rattle.cases_tokens.proofs.DecimalLaws.{number-none, number-starts, number-stops, number-goes, number-ends}

@@ -1,4 +1,3 @@
-use Prim.Native.Nat.{◌-◌}
 use native.Mathlib.Omega.{arith}
 use Rattle.cases_tokens.proofs.HexadecimalLaws.{bytes-none, token-bytes-more, bytes-all, bytes-not}
 use Rattle.cases_tokens.proofs.hexadecimal.all_bytes.Goals as goal

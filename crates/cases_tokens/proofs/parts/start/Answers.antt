@@ -1,4 +1,3 @@
-use Prim.Native.Nat.{◌-◌}
 use native.Mathlib.Omega.{arith}
 use Rattle.cases_tokens.proofs.PartsLaws.{start_none, start-next, start-all}
 use Rattle.cases_tokens.proofs.parts.start.Goals as goal
