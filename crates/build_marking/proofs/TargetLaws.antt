@@ -8,7 +8,7 @@ use lib.ListN.{length}
 use lib.Dec.{leb}
 use borrow.Author.Tests.{le-leb, lt-leb, ne_eqb}
 use Rattle.text.specs.Text.{sum_below}
-use Rattle.text.specs.CountLaws.{count_none}
+use Rattle.text.proofs.CountTheorems.{count_none}
 use Rattle.format.specs.Layout.{word_at, Settings, block_length}
 use Rattle.format.specs.Blocks.{target}
 use Rattle.theory_built.specs.Descent.{count_below-upto}

@@ -8,7 +8,7 @@ use native.Mathlib.Numerals.{add-one}
 use lib.ListN.{length, get_or}
 use Rattle.format.specs.Layout.{plain_bytes, counted_bytes, field_bytes, Settings}
 use Rattle.format.specs.Blocks.{tree_of}
-use Rattle.format.specs.EdgeLaws.{first-own, first-none, last-own, last_none}
+use Rattle.format.proofs.EdgeTheorems.{first-own, first-none, last-own, last_none}
 use Rattle.theory_built.specs.Structure.{count, start, bytes_in}
 use Rattle.theory_built.specs.BuiltLeafBytes.{bytes_fit}
 use Rattle.theory_built.specs.BuiltRecords.{edges_in, record_words}

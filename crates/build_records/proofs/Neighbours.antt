@@ -5,7 +5,7 @@ use Prim.Native.Nat.{ℕ, zero, suc, ◌+◌, ◌-◌, ◌*◌, ◌≤◌, ◌<�
 use native.Mathlib.Omega.{arith}
 use native.Mathlib.Nat.{suc-mul, div-mul-le_self}
 use Rattle.text.specs.Text.{sum_below, substring, count_in}
-use Rattle.text.specs.CountLaws.{count_add}
+use Rattle.text.proofs.CountTheorems.{count_add}
 use Rattle.format.specs.Layout.{Settings}
 use Rattle.theory_built.specs.BlockSizes.{Taken}
 use Rattle.theory_built.specs.Structure.{size, count, start, bytes_in, width_of, bytes_in-is, level_at, start-top, start-below}

@@ -12,7 +12,7 @@ use lib.Seq.{get_or-set_other, get_or-set_same, set-get_or, ext_get_or}
 use Rattle.text.specs.Text.{same_list, substring, count_in}
 use Rattle.text.specs.ListLaws.{lt-or-ge, ne-same_list, eq-same_list}
 use Rattle.text.specs.TextLaws.{length-substring, get_or-substring}
-use Rattle.text.specs.CountLaws.{count-next-same, count-next-other}
+use Rattle.text.proofs.CountTheorems.{count-next-same, count-next-other}
 use Rattle.search_byte.specs.FirstByte.{Without, FirstByte}
 use Rattle.byte_slices.specs.ByteSlices.{HasBytes, bytes_written}
 

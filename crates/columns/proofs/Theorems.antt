@@ -8,6 +8,7 @@ use native.Mathlib.Omega.{arith}
 use native.Mathlib.Nat.{zero-mod}
 use contract.Lifetimes.{Lfts}
 use denote.Ref.{Bor}
+use denote.MutBor.{MutBor}
 use lib.ListN.{length, take, drop}
 use lib.Seq.{take_at}
 use lib.Dec.{eqb}
@@ -21,12 +22,15 @@ use Rattle.columns.proofs.from_columns.Reads as from-reads
 abbrev pub Lent : Type 0
 Lent = Bor (List ℕ)
 
+abbrev pub LentMut : Type 0
+LentMut = MutBor (List ℕ)
+
 -- r is an answer that the contract of `to_columns` allows to a call with these arguments, with the output left as `after`
-abbrev pub ToColumns : (κs : Lfts 2) → (text : Lent) (w : ℕ) (out after : Lent) → ℕ → Type 0
+abbrev pub ToColumns : (κs : Lfts 2) → (text : Lent) (w : ℕ) (out after : LentMut) → ℕ → Type 0
 ToColumns κs text w out after r = to_reads.Post κs (text, (w, (out, tt))) r (text, (w, (after, tt)))
 
 -- The contract of `from_columns`.
-abbrev pub FromColumns : (κs : Lfts 2) → (text : Lent) (w : ℕ) (out after : Lent) → ℕ → Type 0
+abbrev pub FromColumns : (κs : Lfts 2) → (text : Lent) (w : ℕ) (out after : LentMut) → ℕ → Type 0
 FromColumns κs text w out after r = from-reads.Post κs (text, (w, (out, tt))) r (text, (w, (after, tt)))
 
 -- What either answers and leaves, where U is the text rearranged.
@@ -49,12 +53,12 @@ rearranges w T out U after r number left = record {
   passed = λ z. let_through w T out (sym number ∙ z);
 }
 
-pub to-columns : (κs : Lfts 2) (text : Lent) (w : ℕ) (out after : Lent) (r : ℕ) → ToColumns κs text w out after r
+pub to-columns : (κs : Lfts 2) (text : Lent) (w : ℕ) (out after : LentMut) (r : ℕ) → ToColumns κs text w out after r
     → Rearranges w text.now out.now (columns w text.now) after.now r
 unfolding columns_buffer
 to-columns κs text w out after r a = rearranges w text.now out.now (columns w text.now) after.now r a.0 a.1
 
-pub from-columns : (κs : Lfts 2) (text : Lent) (w : ℕ) (out after : Lent) (r : ℕ) → FromColumns κs text w out after r
+pub from-columns : (κs : Lfts 2) (text : Lent) (w : ℕ) (out after : LentMut) (r : ℕ) → FromColumns κs text w out after r
     → Rearranges w text.now out.now (uncolumns w text.now) after.now r
 unfolding uncolumns_buffer
 from-columns κs text w out after r a = rearranges w text.now out.now (uncolumns w text.now) after.now r a.0 a.1
@@ -76,14 +80,14 @@ module _ (w : ℕ) (T out U after W : List ℕ) (a : Rearranges w T out U after 
   back_by f e back left r b room = again back left r (rw (ap f turned ∙ e) at b) room
 
 -- The output of one call, given to the other.
-pub to-columns-input : (κs : Lfts 2) (text : Lent) (w : ℕ) (out after : Lent) → ToColumns κs text w out after 0
+pub to-columns-input : (κs : Lfts 2) (text : Lent) (w : ℕ) (out after : LentMut) → ToColumns κs text w out after 0
     → (W : List ℕ) → W ≡ take (length text.now) after.now → W ≡ columns w text.now
 to-columns-input κs text w out after a W is =
     let k = to-columns κs text w out after 0 a in
     turned w text.now out.now (columns w text.now) after.now W k (columns-length w text.now (k.passed refl).0) is
 
 -- The two calls are inverse to each other: what one wrote, the other turns back to the text, in both orders.
-pub columns-roundtrip : (κs κ : Lfts 2) (text rearranged : Lent) (w : ℕ) (out after back left : Lent) (r : ℕ) → ToColumns κs text w out after 0
+pub columns-roundtrip : (κs κ : Lfts 2) (text rearranged : Lent) (w : ℕ) (out after back left : LentMut) (r : ℕ) → ToColumns κs text w out after 0
     → rearranged.now ≡ take (length text.now) after.now → FromColumns κ rearranged w back left r → length text.now ≤ length back.now
     → (r ≡ 0) × (left.now ≡ text.now ++ drop (length text.now) back.now)
 columns-roundtrip κs κ text rearranged w out after back left r a is b room =
@@ -91,7 +95,7 @@ columns-roundtrip κs κ text rearranged w out after back left r a is b room =
     let ok = (k.passed refl).0 in
     back_by w _ _ _ _ _ k (columns-length w text.now ok) is (uncolumns w) (restored w text.now ok) _ _ r (from-columns κ rearranged w back left r b) room
 
-pub back-and-there : (κs κ : Lfts 2) (text rearranged : Lent) (w : ℕ) (out after back left : Lent) (r : ℕ) → FromColumns κs text w out after 0
+pub back-and-there : (κs κ : Lfts 2) (text rearranged : Lent) (w : ℕ) (out after back left : LentMut) (r : ℕ) → FromColumns κs text w out after 0
     → rearranged.now ≡ take (length text.now) after.now → ToColumns κ rearranged w back left r → length text.now ≤ length back.now
     → (r ≡ 0) × (left.now ≡ text.now ++ drop (length text.now) back.now)
 back-and-there κs κ text rearranged w out after back left r a is b room =

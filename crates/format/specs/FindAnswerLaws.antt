@@ -1,5 +1,5 @@
 -- Laws of the questions before find and row walk.
-use Rattle.std.specs.Prelude.{List, [], ◌∷◌, true, ◌&&◌, ◌≡◌, refl, ℕ, ◌≤◌, ◌-◌, leb}
+use Rattle.std.specs.Prelude.{List, [], ◌∷◌, true, ◌&&◌, ◌≡◌, refl, ℕ, ◌≤◌, leb}
 use Rattle.std.proofs.Common.{leb-true, le-leb}
 use Rattle.text.specs.ListLaws.{and_left, and_right}
 use Rattle.format.specs.TreeReading.{header_result, check_result}

@@ -1,6 +1,6 @@
 -- What is written as words is read back, and nothing else changes.
-use Rattle.std.specs.Prelude.{List, [], ◌∷◌, ◌++◌, map, ◌≡◌, refl, ◌≢◌, ℕ, zero, suc, ◌+◌, ◌*◌, ◌/◌, ◌%◌, ◌≤◌, ◌<◌, length, get_or, take, drop}
-use Rattle.std.proofs.Common.{append_assoc, ◌∙◌, arith, add-one, mod-eq_of_lt, add_assoc, mul-suc, length-set, get_or-set_other, get_or-append-add}
+use Rattle.std.specs.Prelude.{List, [], ◌∷◌, ◌++◌, map, ◌≡◌, refl, ◌≢◌, ℕ, ◌+◌, ◌*◌, ◌/◌, ◌%◌, ◌≤◌, ◌<◌, length, get_or, take, drop}
+use Rattle.std.proofs.Common.{append_assoc, arith, add-one, mod-eq_of_lt, add_assoc, mul-suc, length-set, get_or-set_other, get_or-append-add}
 use Rattle.std.proofs.Math.Numerals.{add-two, add-three}
 use Rattle.std.proofs.Math.Nat.{div-add-mod, div-div-eq-div-mul}
 use Rattle.std.proofs.lemmas.List.Edits.{sets-eq}
@@ -77,10 +77,6 @@ word_at-append A X x =
       get_or-append-add A X (x + 3) 0,
     )
 
-word_next : (w : ℕ) (rest : List ℕ) (x : ℕ) → word_at (word_bytes w ++ rest) (4 + x) ≡ word_at rest x
-unfolding word_bytes
-word_next w rest x = word_at-append (word_bytes w) rest x
-
 pub words-cons : (w : ℕ) (ws B : List ℕ) → words_bytes (w ∷ ws) ++ B ≡ word_bytes w ++ (words_bytes ws ++ B)
 unfolding words_bytes concat
 words-cons w ws B = append_assoc (word_bytes w) (concat (map word_bytes ws)) B
@@ -89,15 +85,3 @@ pub length-words : (ws : List ℕ) → length (words_bytes ws) ≡ 4 * length ws
 unfolding words_bytes concat word_bytes
 length-words [] = refl
 length-words (w ∷ ws) = rw (mul-suc 4 (length ws)) (omega (arith, length-words ws))
-
-word_in : (ws B : List ℕ) (j : ℕ) → j < length ws → get_or ws j 0 < 4294967296 → word_at (words_bytes ws ++ B) (4 * j) ≡ get_or ws j 0
-word_in [] B j l small = absurd (let z : ⊥ = omega arith in z)
-word_in (w ∷ ws) B zero l small = rw (words-cons w ws B) (word_at-word_bytes w (words_bytes ws ++ B) small)
-word_in (w ∷ ws) B (suc j) l small =
-    let e : 4 * suc j ≡ 4 + 4 * j = omega arith in
-    rw (words-cons w ws B, e) (word_next w (words_bytes ws ++ B) (4 * j) ∙ word_in ws B j (omega arith) small)
-
--- Word j of the words ws after A.
-pub word-at : (A ws B : List ℕ) (a j : ℕ) → length A ≡ a → j < length ws → get_or ws j 0 < 4294967296
-    → word_at (A ++ (words_bytes ws ++ B)) (a + 4 * j) ≡ get_or ws j 0
-word-at A ws B a j e l small = rw (← e) (word_at-append A (words_bytes ws ++ B) (4 * j) ∙ word_in ws B j l small)

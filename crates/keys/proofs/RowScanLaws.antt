@@ -10,7 +10,8 @@ use lib.Seq.{drop-cons}
 use Rattle.text.specs.ListLaws.{bool_clash}
 use Rattle.text.specs.Text.{substring}
 use Rattle.text.specs.TextLaws.{length-substring, get_or-substring}
-use Rattle.text.specs.RowLaws.{trimmed, trimmed-none, trimmed-mark, trimmed-plain}
+use Rattle.text.specs.RowLaws.{trimmed}
+use Rattle.text.proofs.RowTheorems.{trimmed-none, trimmed-mark, trimmed-plain}
 use Rattle.search_byte.specs.FirstByte.{Without}
 use Rattle.row_filter.specs.RowAutomaton.{Automaton, Scan, found, on, RowBetween, run_from, scan_byte, scan_bytes}
 use Rattle.row_filter.specs.RowAutomatonLaws.{byte_step, byte_next, scan-on, scan-found, on-next, found-next}

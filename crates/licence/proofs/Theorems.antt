@@ -8,7 +8,7 @@ use mathlib.Core.Logic.{◌⊎◌, inl, inr}
 use Prim.Native.Nat.{ℕ, zero, suc, ◌+◌, ◌-◌, ◌≤◌, ◌<◌}
 use native.Mathlib.Omega.{arith}
 use contract.Lifetimes.{Lfts}
-use denote.Ref.{Bor}
+use denote.Ref.{Bor, MutBor}
 use lib.IntN.{ℤ, pos, negsuc, ◌-ℤ◌}
 use lib.Dec.{ltb, leb, eqb}
 use borrow.Author.Tests.{le-leb, lt-leb, lt-ltb, le-ltb, ltb-true}
@@ -43,6 +43,10 @@ pub use Rattle.licence.specs.RenewalLaws.{renewed-date, renewed-later}
 abbrev pub LicenceLent : Type 0
 LicenceLent = Bor (List ℕ)
 
+-- The day of `renew`, before the call and after it.
+abbrev pub LentDay : Type 0
+LentDay = MutBor (List ℕ)
+
 -- An answer that the contract of `open_on` allows.
 abbrev pub OpenOn : (κs : Lfts 3) → (first last today : LicenceLent) → OpenOnAnswer → Type 0
 OpenOn κs first last today r = open-reads.Post κs (first, (last, (today, tt))) r (first, (last, (today, tt)))
@@ -52,15 +56,15 @@ abbrev pub DaysLeft : (κs : Lfts 2) → (last today : LicenceLent) → DaysLeft
 DaysLeft κs last today r = left-reads.Post κs (last, (today, tt)) r (last, (today, tt))
 
 -- The contract of `renew`; `after` is the day after the call.
-abbrev pub Renew : (κs : Lfts 1) → (day after : LicenceLent) → ℕ → Type 0
+abbrev pub Renew : (κs : Lfts 1) → (day after : LentDay) → ℕ → Type 0
 Renew κs day after r = renew-reads.Post κs (day, tt) r (after, tt)
 
 -- The calls: each terminates, accesses only the memory that it was given (`TotallyCorrect`), and has no precondition.
 abbrev pub calls : List Call
 calls =
-    call (record { routine = open_at.routine; signature = open-on.signature; clauses = open-on.spec }) open-met.met (λ 𝓛 mem run κs a. (tt, refl))
-    ∷ call (record { routine = left_at.routine; signature = days-left.signature; clauses = days-left.spec }) left-met.met (λ 𝓛 mem run κs a. (tt, refl))
-    ∷ call (record { routine = renew-at.routine; signature = renew.signature; clauses = renew.spec }) renew-met.met (λ 𝓛 mem run κs a. (tt, refl))
+    call (record { code = open_at.code; name = open_at.name; signature = open-on.signature; clauses = λ 𝓤 𝓛. open-on.spec 𝓛 }) open-met.met (λ 𝓤 𝓛 mem run κs a. (tt, refl))
+    ∷ call (record { code = left_at.code; name = left_at.name; signature = days-left.signature; clauses = λ 𝓤 𝓛. days-left.spec 𝓛 }) left-met.met (λ 𝓤 𝓛 mem run κs a. (tt, refl))
+    ∷ call (record { code = renew-at.code; name = renew-at.name; signature = renew.signature; clauses = λ 𝓤 𝓛. renew.spec 𝓛 }) renew-met.met (λ 𝓤 𝓛 mem run κs a. (tt, refl))
     ∷ []
 
 pub every-call-ends : Each TotallyCorrect calls
@@ -169,7 +173,7 @@ module _ (κs : Lfts 2) (last today : LicenceLent) (r : DaysLeftAnswer) (a : Day
     pub days-after : number_in last.now < number_in today.now → r ≡ days-left-answer.Days (negsuc (number_in today.now - number_in last.now - 1))
     days-after h = days-minus ∙ ap days-left-answer.Days (minus-lt (number_in last.now) (number_in today.now) h)
 
-module _ (κs : Lfts 1) (day after : LicenceLent) where
+module _ (κs : Lfts 1) (day after : LentDay) where
   -- Renew leaves the renewed day (a year later, 28 for 29 February) in the buffer, and it is 365 or 366 days later.
   pub renew-moves : Renew κs day after 0
       → (is_day after.now ≡ true) × (date_in after.now ≡ renewed (date_in day.now))

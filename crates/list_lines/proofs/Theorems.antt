@@ -9,7 +9,7 @@ use mathlib.Core.Logic.{inl, inr}
 use Prim.Native.Nat.{ℕ}
 use native.Mathlib.Omega.{arith}
 use contract.Lifetimes.{Lfts}
-use denote.Ref.{Bor}
+use denote.Ref.{Bor, MutBor}
 use lib.ListN.{length, drop}
 use lib.Dec.{leb}
 use borrow.Author.Tests.{ne_eqb}
@@ -30,8 +30,8 @@ use Rattle.list_lines.proofs.print.Met as print-met
 
 abbrev pub calls : List Call
 calls =
-    call_of list_at.routine list_of.signature list_of.spec list-met.met (λ 𝓛 mem run κs a. (tt, refl))
-    ∷ call_of print-at.routine print-of.signature print-of.spec print-met.met (λ 𝓛 mem run κs a. (tt, refl))
+    call_of list_at.code list_at.name list_of.signature (λ 𝓤 𝓛. list_of.spec 𝓛) list-met.met (λ 𝓤 𝓛 mem run κs a. (tt, refl))
+    ∷ call_of print-at.code print-at.name print-of.signature (λ 𝓤 𝓛. print-of.spec 𝓛) print-met.met (λ 𝓤 𝓛 mem run κs a. (tt, refl))
     ∷ []
 
 pub every-call-ends : Each TotallyCorrect calls
@@ -41,7 +41,7 @@ pub no-preconditions : Each NoPrecondition calls
 no-preconditions = each-asks-nothing calls
 
 -- r is an answer that the contract of `list` allows to a call with these arguments, which leaves the buffer `out` as `after`
-abbrev pub Lists : (κs : Lfts 2) (t out after : Bor (List ℕ)) → ListAnswer → Type 0
+abbrev pub Lists : (κs : Lfts 2) (t : Bor (List ℕ)) (out after : MutBor (List ℕ)) → ListAnswer → Type 0
 Lists κs t out after r = list-reads.Post κs (t, (out, tt)) r (t, (after, tt))
 
 -- The numbers that its questions can give.
@@ -54,7 +54,7 @@ list-one t room =
     input true = inr (checked-one t)
     input false = inl refl
 
-module _ (κs : Lfts 2) (t out after : Bor (List ℕ)) where
+module _ (κs : Lfts 2) (t : Bor (List ℕ)) (out after : MutBor (List ℕ)) where
   -- A refusal is 15, 5 to 9 or 13.
   pub list-numbers : (n : ℕ) → Lists κs t out after (Refused n) → OneOf (15 ∷ 5 ∷ 6 ∷ 7 ∷ 8 ∷ 9 ∷ 13 ∷ []) n
   unfolding list_answer

@@ -6,7 +6,8 @@ use Rattle.std.proofs.Math.Path.{refl, ap}
 use Rattle.std.proofs.Common.{inl, inr, arith, take-append-drop}
 use Rattle.text.specs.Text.{same_list, count_in, in_first, rows_of}
 use Rattle.text.specs.ListLaws.{bool_clash, bool_cases, and_left, and_right, and_both, same_list-true}
-use Rattle.text.specs.CountLaws.{one, count-cons, count-nil, count-append}
+use Rattle.text.specs.CountLaws.{one}
+use Rattle.text.proofs.CountTheorems.{count-cons, count-nil, count-append}
 use Rattle.row_filter.specs.SelectedRowNumbers.{selected_from, selected_rows}
 use Rattle.row_filter.specs.SelectedRowLaws.{In, more-selected, Sublist, selected-sublist}
 use Rattle.row_filter.specs.SelectedRows.{starts_with}

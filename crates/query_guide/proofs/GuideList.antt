@@ -10,7 +10,8 @@ use borrow.Author.Tests.{eq-eqb, eqb-true}
 use Rattle.text.specs.Text.{tabulate, concat, sum_below, same_list}
 use Rattle.text.specs.ListLaws.{length-tabulate, get_or-tabulate, sum_below-ext, sum_below-suc, sum_below-part, same_list-true}
 use Rattle.format.specs.Layout.{word_at, words_bytes, pieces, max_text}
-use Rattle.format.specs.WordLaws.{length-words, word-at}
+use Rattle.format.specs.WordLaws.{length-words}
+use Rattle.format.proofs.WordTheorems.{word-at}
 use Rattle.format.specs.PieceLaws.{pieces-start, lt-pieces}
 use Rattle.format.specs.Layout as at
 use Rattle.format.specs.TreeReading.{ask, header_result, check_result}

@@ -8,7 +8,8 @@ use native.Mathlib.Nat.{div-add-mod', div-le_self, add-mul, one-mul, mul-le-mul_
 use lib.Arith.{digits_div}
 use Rattle.text.specs.ListLaws.{lt-or-ge}
 use Rattle.text.specs.Text.{place_of}
-use Rattle.text.specs.CountLaws.{Nth, nth_past, nth-before, place-nth, count-le, count-mono}
+use Rattle.text.specs.CountLaws.{Nth}
+use Rattle.text.proofs.CountTheorems.{nth_past, nth-before, place-nth, count-le, count-mono}
 use Rattle.format.specs.Layout.{max_text}
 use Rattle.format.specs.PieceLaws.{pieces-cover, lt-pieces}
 use Rattle.format.specs.LayoutLaws.{Readable, header-facts, full-pos}

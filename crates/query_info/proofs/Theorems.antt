@@ -6,6 +6,7 @@ use Prim.Native.Nat.{ℕ, zero, suc, ◌+◌, ◌<◌}
 use native.Mathlib.Omega.{arith}
 use contract.Lifetimes.{Lfts}
 use denote.Ref.{Bor}
+use denote.MutBor.{MutBor}
 use borrow.Author.Tests.{ne_eqb, lt-ltb}
 use lib.ListN.{length, get_or, replicate}
 use lib.Seq.{get_or-take, get_or-drop}
@@ -24,7 +25,7 @@ use Rattle.query_info.specs.Info.{plain_figures, totals_from, figure_count, coun
 use Rattle.query_info.proofs.info.Reads as info-reads
 use Rattle.query_info.proofs.version.Reads as version-reads
 
-abbrev pub Info : (κs : Lfts 2) → (t figures after : Bor (List ℕ)) → ℕ → Type 0
+abbrev pub Info : (κs : Lfts 2) → (t : Bor (List ℕ)) (figures after : MutBor (List ℕ)) → ℕ → Type 0
 Info κs t figures after r = info-reads.Post κs (t, (figures, tt)) r (t, (after, tt))
 
 abbrev pub Version : ℕ → Type 0
@@ -62,7 +63,7 @@ total_right t v c h low =
     let e = finds.total_is t (header-facts t (accepted-header t v)) (linked-facts t (accepted-links t v)) (counts.levels t v) c h in
     rw (lt-ltb c (at.counted_count t) h, ← counted-at t c h low) e
 
-module _ (κs : Lfts 2) (t figures after : Bor (List ℕ)) (r : ℕ) (a : Info κs t figures after r) where
+module _ (κs : Lfts 2) (t : Bor (List ℕ)) (figures after : MutBor (List ℕ)) (r : ℕ) (a : Info κs t figures after r) where
   -- Questions 5 to 7 pass: the figures are the definition's.
   pub info-answered : header_result t.now ≡ 0 → (r ≡ 0) × (after.now ≡ figures_of t.now)
   unfolding info_buffer

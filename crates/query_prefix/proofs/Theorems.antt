@@ -9,7 +9,7 @@ use denote.Ref.{Bor}
 use lib.ListN.{length}
 use lib.Dec.{eqb}
 use Rattle.text.specs.Text.{count_in, rows_of, row_of}
-use Rattle.text.specs.RowLaws.{row_at}
+use Rattle.text.proofs.RowTheorems.{row_at}
 use Rattle.format.specs.TreeReading.{text_of, header_result, check_result}
 use Rattle.format.specs.Answers.{is_counted}
 use Rattle.row_filter.specs.SelectedRows.{outcome_at, next_outcome, starts_with}

@@ -10,7 +10,7 @@ use lib.Dec.{ltb, leb, eqb}
 use borrow.Author.Tests.{ltb-false, le-ltb, le-leb, leb-true, eqb-false, ne_eqb}
 use Rattle.text.specs.declared.TextPlace.{TextPlace}
 use Rattle.text.specs.Text.{rows_of}
-use Rattle.text.specs.RowLaws.{rows_few}
+use Rattle.text.proofs.RowTheorems.{rows_few}
 use Rattle.format.specs.Layout as at
 use Rattle.format.specs.TreeReading.{text_of, header_result, check_result}
 use Rattle.format.specs.Answers.{is_counted, number_of_byte, total}

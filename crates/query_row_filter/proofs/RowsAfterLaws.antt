@@ -10,7 +10,7 @@ use lib.Seq.{drop-drop}
 use lib.Dec.{ltb}
 use Rattle.text.specs.Text.{substring, place_of, rows_of}
 use Rattle.text.specs.declared.TextPlace.{TextPlace}
-use Rattle.text.specs.RowLaws.{rows-past}
+use Rattle.text.proofs.RowTheorems.{rows-past}
 use Rattle.format.specs.Layout as at
 use Rattle.format.specs.LayoutLaws.{Readable}
 use Rattle.format.specs.CheckResultLaws.{accepted-links}

@@ -10,7 +10,8 @@ use lib.ListN.{length, get_or}
 use lib.Dec.{eqb}
 use Rattle.text.specs.Text.{substring, count_in}
 use Rattle.text.specs.TextLaws.{substring-ext}
-use Rattle.text.specs.CountLaws.{count_none, count_add, Nth, nth_past}
+use Rattle.text.specs.CountLaws.{Nth}
+use Rattle.text.proofs.CountTheorems.{count_none, count_add, nth_past}
 use Rattle.text.specs.declared.TextPlace.{TextPlace}
 use Rattle.format.specs.Layout as at
 use Rattle.format.specs.TreeReading.{text_of, check_result}

@@ -10,8 +10,10 @@ use lib.ListN.{length, get_or}
 use lib.Dec.{eqb, ltb, leb}
 use Rattle.text.specs.ListLaws.{bool_clash, and-false, lt-or-ge}
 use Rattle.text.specs.Text.{substring, count_in, place_of, row_of}
-use Rattle.text.specs.CountLaws.{count_none, count-next-same, Nth, nth-earlier, nth-later, nth_past, place-nth, nth-place}
-use Rattle.text.specs.RowLaws.{trimmed, trimmed-none, trimmed-mark, trimmed-plain, row_from, between, row-between, row_last}
+use Rattle.text.specs.CountLaws.{Nth}
+use Rattle.text.proofs.CountTheorems.{count_none, count-next-same, nth-earlier, nth-later, nth_past, place-nth, nth-place}
+use Rattle.text.specs.RowLaws.{trimmed, row_from, between}
+use Rattle.text.proofs.RowTheorems.{trimmed-none, trimmed-mark, trimmed-plain, row-between, row_last}
 use Rattle.text.specs.declared.TextPlace.{TextPlace}
 use Rattle.format.specs.Layout as at
 use Rattle.format.specs.TreeReading.{text_of, check_result}

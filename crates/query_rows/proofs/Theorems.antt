@@ -12,7 +12,8 @@ use lib.ListN.{length, drop}
 use borrow.Author.Tests.{eq-eqb, ne_eqb, lt-ltb, le-ltb}
 use Rattle.text.specs.ListLaws.{lt-or-ge}
 use Rattle.text.specs.Text.{rows_of, row_of}
-use Rattle.text.specs.RowLaws.{ends_open, rows-count}
+use Rattle.text.specs.RowLaws.{ends_open}
+use Rattle.text.proofs.RowTheorems.{rows-count}
 use Rattle.format.specs.Layout as at
 use Rattle.format.specs.TreeReading.{text_of, check_result}
 use Rattle.format.specs.CheckResultLaws.{accepted-header, accepted-links}

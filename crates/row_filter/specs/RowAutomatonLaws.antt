@@ -10,8 +10,10 @@ use Rattle.std.proofs.Math.ListN.{length, get_or, take}
 use Rattle.std.proofs.Math.Seq.{drop-length, take-append_seam, get_or-append_seam}
 use Rattle.std.proofs.Math.Dec.{eqb}
 use Rattle.text.specs.Text.{count_in, rows_of}
-use Rattle.text.specs.CountLaws.{one, count-cons, count-nil, count-append}
-use Rattle.text.specs.RowLaws.{trimmed, rows_split, rows-one, rows-open}
+use Rattle.text.specs.CountLaws.{one}
+use Rattle.text.proofs.CountTheorems.{count-cons, count-nil, count-append}
+use Rattle.text.specs.RowLaws.{trimmed}
+use Rattle.text.proofs.RowTheorems.{rows_split, rows-one, rows-open}
 use Rattle.row_filter.specs.SelectedRows.{first_selected}
 use Rattle.row_filter.specs.SelectedRowLaws.{first-cons}
 use Rattle.row_filter.specs.RowAutomaton.{Automaton, Scan, found, on, SearchResult, at_row, nothing, resume_scan, RowBetween, run_from, scan_byte}

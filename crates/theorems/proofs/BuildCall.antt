@@ -33,7 +33,7 @@ use Rattle.theorems.specs.Promises.{Answers, CompleteBuilder, Refuses}
 use Rattle.theorems.specs.PublicFunctions.{build_function}
 use Rattle.theorems.proofs.CheckCall.{Check}
 use Rattle.theorems.proofs.SizeBoundCall.{SizeBound, size-bound-answer}
-use Rattle.theorems.proofs.PublicCall.{Call, Borrowed, call}
+use Rattle.theorems.proofs.PublicCall.{Call, Borrowed, BorrowedMut, call}
 use Rattle.theorems.proofs.RefusalNumbers.{OneOf, asks-one, not-zero}
 use Rattle.build_by_search.proofs.build.Met as build-met
 use Rattle.theorems.proofs.TreeAnswers.{accepted-answers, accepted-refuses}
@@ -41,7 +41,7 @@ use Rattle.theorems.proofs.TreeAnswers.{accepted-answers, accepted-refuses}
 pub use Rattle.theorems.specs.CallContracts.{Build}
 
 abbrev pub build_call : Call
-build_call = call build_function build-met.met (λ 𝓛 mem run κs a. (tt, refl))
+build_call = call build_function build-met.met (λ 𝓤 𝓛 mem run κs a. (tt, refl))
 
 -- For any bytes.
 
@@ -59,7 +59,7 @@ build-fits S T out h =
     ∷ (4, leb (length (tree_of S T)) (length out)) ∷ [] in
     leb-true _ _ (asks-pass questions refl h).1.1.1.0
 
-module _ (κs : Lfts 3) (text : Borrowed) (leaf arity levels : ℕ) (counted out after : Borrowed) where
+module _ (κs : Lfts 3) (text : Borrowed) (leaf arity levels : ℕ) (counted : Borrowed) (out after : BorrowedMut) where
   abbrev S : Settings
   S = given leaf arity levels counted.now
 

@@ -31,7 +31,7 @@ use Rattle.theorems.specs.PublicFunctions.{build_scanned_function, scan_words_fu
 use Rattle.theorems.proofs.BuildCall.{Build, build-numbers, build-zeros, build-answer, build-writes}
 use Rattle.theorems.proofs.BuildCall.{build-answers, build-refuses, build-accepted, build-one-text}
 use Rattle.theorems.proofs.CheckCall.{Check}
-use Rattle.theorems.proofs.PublicCall.{Call, Borrowed, call}
+use Rattle.theorems.proofs.PublicCall.{Call, Borrowed, BorrowedMut, call}
 use Rattle.theorems.proofs.RefusalNumbers.{OneOf, asks-one}
 use Rattle.build_by_scan.proofs.build_scanned.Met as build-scanned-met
 use Rattle.build_by_scan.proofs.scan_words.Met as scan-words-met
@@ -42,13 +42,13 @@ abbrev pub ScanWords : (n leaf : ℕ) → ℕ → Type 0
 ScanWords n leaf r = scan-words-reads.Post tt (n, (leaf, tt)) r (n, (leaf, tt))
 
 abbrev pub build_scanned_call : Call
-build_scanned_call = call build_scanned_function build-scanned-met.met (λ 𝓛 mem run κs a. (tt, refl))
+build_scanned_call = call build_scanned_function build-scanned-met.met (λ 𝓤 𝓛 mem run κs a. (tt, refl))
 
 abbrev pub scan_words_call : Call
-scan_words_call = call scan_words_function scan-words-met.met (λ 𝓛 mem run κs a. (tt, refl))
+scan_words_call = call scan_words_function scan-words-met.met (λ 𝓤 𝓛 mem run κs a. (tt, refl))
 
 -- A call of build_scanned, which leaves the table `words` as `table` and the buffer `out` as `after`.
-module _ (κs : Lfts 4) (text : Borrowed) (leaf arity levels : ℕ) (counted words table out after : Borrowed) where
+module _ (κs : Lfts 4) (text : Borrowed) (leaf arity levels : ℕ) (counted : Borrowed) (words table out after : BorrowedMut) where
   abbrev S : Settings
   S = given leaf arity levels counted.now
 
@@ -143,7 +143,7 @@ module _ (κs : Lfts 4) (text : Borrowed) (leaf arity levels : ℕ) (counted wor
 
     -- Request 106: with the same text, settings and buffer, build_scanned and build return the same number and size and leave the same bytes, unless
     -- build_scanned is refused with 18.
-    pub same-as-build : (κ : Lfts 3) (lent left : Borrowed) (b : BuildAnswer) → lent.now ≡ out.now → Build κ text leaf arity levels counted lent left b
+    pub same-as-build : (κ : Lfts 3) (lent left : BorrowedMut) (b : BuildAnswer) → lent.now ≡ out.now → Build κ text leaf arity levels counted lent left b
         → ((replied (build_scanned_reply r)).number ≡ 18 → ⊥)
         → ((replied (build_scanned_reply r)).number ≡ (replied (build_reply b)).number) × ((replied (build_scanned_reply r)).value ≡ (replied (build_reply b)).value)
         × (after.now ≡ left.now)

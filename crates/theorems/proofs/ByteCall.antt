@@ -34,7 +34,7 @@ use Rattle.query_access.proofs.byte.Met as byte-met
 pub use Rattle.theorems.specs.CallContracts.{Byte}
 
 abbrev pub byte_call : Call
-byte_call = call byte_function byte-met.met (λ 𝓛 mem run κs a. (tt, refl))
+byte_call = call byte_function byte-met.met (λ 𝓤 𝓛 mem run κs a. (tt, refl))
 
 -- For any bytes.
 

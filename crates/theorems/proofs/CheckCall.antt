@@ -21,7 +21,7 @@ use Rattle.theorems.proofs.TreeAnswers.{accepted-answers, accepted-refuses}
 pub use Rattle.theorems.specs.CallContracts.{Check}
 
 abbrev pub check_call : Call
-check_call = call check_function check-met.met (λ 𝓛 mem run κs a. (tt, refl))
+check_call = call check_function check-met.met (λ 𝓤 𝓛 mem run κs a. (tt, refl))
 
 -- Check returns 0, or 5 to 9.
 pub check-numbers : (κs : Lfts 1) (t : Borrowed) (r : ℕ) → Check κs t r → OneOf (5 ∷ 6 ∷ 7 ∷ 8 ∷ 9 ∷ 0 ∷ []) r

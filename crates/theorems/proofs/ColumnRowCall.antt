@@ -23,14 +23,14 @@ use Rattle.query_columns.specs.ColumnRows.{cell, cells_hold, row_by_columns_refu
 use Rattle.theorems.specs.Promises.{ColumnAnswers, ColumnRefuses}
 use Rattle.theorems.specs.PublicFunctions.{row_by_columns_function}
 use Rattle.theorems.proofs.AcceptedTree.{text-size}
-use Rattle.theorems.proofs.PublicCall.{Call, Borrowed, call}
+use Rattle.theorems.proofs.PublicCall.{Call, Borrowed, BorrowedMut, call}
 use Rattle.theorems.proofs.RefusalNumbers.{OneOf, asks-one, not-zero, header-one, answers-answer, answers-refused, then_one}
 use Rattle.query_columns.proofs.row_by_columns.Met as row-by-columns-met
 -- What the contract allows, where the buffer is left as `after`: `ByColumns κs tree width a buffer after r`.
 pub use Rattle.theorems.specs.CallContracts.{ByColumns}
 
 abbrev pub row_by_columns_call : Call
-row_by_columns_call = call row_by_columns_function row-by-columns-met.met (λ 𝓛 mem run κs a. (tt, refl))
+row_by_columns_call = call row_by_columns_function row-by-columns-met.met (λ 𝓤 𝓛 mem run κs a. (tt, refl))
 
 -- For any bytes.
 
@@ -49,7 +49,7 @@ column_fits t w a room h =
     let questions : List (ℕ × Bool) = (20, width_ok w n) ∷ (10, ltb a (n / w)) ∷ (13, leb w room) ∷ (14, cells_hold t w a) ∷ [] in
     leb-true w room (asks-pass questions refl (next-passes (header_result t) (asks questions) h).1).1.1.0
 
-module _ (κs : Lfts 2) (t : Borrowed) (w a : ℕ) (buffer after : Borrowed) where
+module _ (κs : Lfts 2) (t : Borrowed) (w a : ℕ) (buffer after : BorrowedMut) where
   -- A result is w bytes, which fit, and the bytes after them are unchanged.
   pub column-answer : (m e : ℕ) → ByColumns κs t w a buffer after (span.Bytes m e)
       → (m ≡ w) × (e ≡ 0) × (w ≤ length buffer.now) × (drop w after.now ≡ drop w buffer.now)

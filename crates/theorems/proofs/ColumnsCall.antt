@@ -9,7 +9,7 @@ use lib.ListN.{length}
 use lib.Dec.{leb}
 use Rattle.columns.specs.Columns.{width_ok, refusal_of, columns_refusal}
 use Rattle.theorems.specs.PublicFunctions.{from_columns_function, to_columns_function}
-use Rattle.theorems.proofs.PublicCall.{Call, Borrowed, call}
+use Rattle.theorems.proofs.PublicCall.{Call, Borrowed, BorrowedMut, call}
 use Rattle.theorems.proofs.RefusalNumbers.{OneOf}
 use Rattle.columns.proofs.to_columns.Met as to-columns-met
 use Rattle.columns.proofs.from_columns.Met as from-columns-met
@@ -17,10 +17,10 @@ use Rattle.columns.proofs.from_columns.Met as from-columns-met
 pub use Rattle.columns.proofs.Theorems.{ToColumns, FromColumns}
 
 abbrev pub to_columns_call : Call
-to_columns_call = call to_columns_function to-columns-met.met (λ 𝓛 mem run κs a. (tt, refl))
+to_columns_call = call to_columns_function to-columns-met.met (λ 𝓤 𝓛 mem run κs a. (tt, refl))
 
 abbrev pub from_columns_call : Call
-from_columns_call = call from_columns_function from-columns-met.met (λ 𝓛 mem run κs a. (tt, refl))
+from_columns_call = call from_columns_function from-columns-met.met (λ 𝓤 𝓛 mem run κs a. (tt, refl))
 
 -- For any bytes: each returns 0, 20 or 21.
 refusal-one : (w n room : ℕ) → OneOf (20 ∷ 21 ∷ 0 ∷ []) (refusal_of w n room)
@@ -32,7 +32,7 @@ refusal-one w n room = go (width_ok w n) (leb n room)
     go true false = inr (inl refl)
     go false b = inl refl
 
-module _ (κs : Lfts 2) (text : Borrowed) (w : ℕ) (out after : Borrowed) (r : ℕ) where
+module _ (κs : Lfts 2) (text : Borrowed) (w : ℕ) (out after : BorrowedMut) (r : ℕ) where
   pub to-columns-numbers : ToColumns κs text w out after r → OneOf (20 ∷ 21 ∷ 0 ∷ []) r
   unfolding columns_refusal
   to-columns-numbers a = rw a.0 (refusal-one w (length text.now) (length out.now))

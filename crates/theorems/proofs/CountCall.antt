@@ -39,10 +39,10 @@ abbrev pub Uncounted : (κs : Lfts 1) → Borrowed → (i : ℕ) → ℕ → Typ
 Uncounted κs t i r = uncounted-reads.Post κs (t, (i, tt)) r (t, (i, tt))
 
 abbrev pub count_call : Call
-count_call = call count_function count-met.met (λ 𝓛 mem run κs a. (tt, refl))
+count_call = call count_function count-met.met (λ 𝓤 𝓛 mem run κs a. (tt, refl))
 
 abbrev pub uncounted_call : Call
-uncounted_call = call uncounted_function uncounted-met.met (λ 𝓛 mem run κs a. (tt, refl))
+uncounted_call = call uncounted_function uncounted-met.met (λ 𝓤 𝓛 mem run κs a. (tt, refl))
 
 -- For any bytes.
 

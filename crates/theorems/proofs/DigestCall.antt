@@ -19,7 +19,7 @@ use Rattle.query_digest.specs.Digest.{digest_refusal, digest_buffer}
 use Rattle.query_digest.proofs.Theorems as digests
 use Rattle.theorems.specs.Promises.{DigestAnswers, DigestRefuses}
 use Rattle.theorems.specs.PublicFunctions.{digest_function, digest_text_function}
-use Rattle.theorems.proofs.PublicCall.{Call, Borrowed, call}
+use Rattle.theorems.proofs.PublicCall.{Call, Borrowed, BorrowedMut, call}
 use Rattle.theorems.proofs.RefusalNumbers.{OneOf, asks-one, header-one, then_one}
 use Rattle.query_digest.proofs.digest.Met as digest-met
 use Rattle.sha256.proofs.digest_text.Met as digest-text-met
@@ -28,10 +28,10 @@ pub use Rattle.theorems.specs.CallContracts.{Digest}
 pub use Rattle.sha256.proofs.Theorems.{DigestText}
 
 abbrev pub digest_call : Call
-digest_call = call digest_function digest-met.met (λ 𝓛 mem run κs a. (tt, refl))
+digest_call = call digest_function digest-met.met (λ 𝓤 𝓛 mem run κs a. (tt, refl))
 
 abbrev pub digest_text_call : Call
-digest_text_call = call digest_text_function digest-text-met.met (λ 𝓛 mem run κs a. (tt, refl))
+digest_text_call = call digest_text_function digest-text-met.met (λ 𝓤 𝓛 mem run κs a. (tt, refl))
 
 -- Any bytes.
 
@@ -50,7 +50,7 @@ text-one room = go (leb 32 room)
     go true = inr (inl refl)
     go false = inl refl
 
-module _ (κs : Lfts 2) (t out after : Borrowed) (r : ℕ) where
+module _ (κs : Lfts 2) (t : Borrowed) (out after : BorrowedMut) (r : ℕ) where
   -- digest returns 0, 5, 6, 7, 13 or 14.
   pub digest-numbers : Digest κs t out after r → OneOf (5 ∷ 6 ∷ 7 ∷ 13 ∷ 14 ∷ 0 ∷ []) r
   digest-numbers a = rw a.0 (digest-one t.now (length out.now))

@@ -37,7 +37,7 @@ use Rattle.theorems.proofs.ByteCall.{Byte}
 use Rattle.theorems.proofs.CheckCall.{Check, check-answers, check-one-text, check-refuses}
 use Rattle.theorems.proofs.CountCall.{Count}
 use Rattle.theorems.proofs.FindCall.{Find}
-use Rattle.theorems.proofs.PublicCall.{Borrowed}
+use Rattle.theorems.proofs.PublicCall.{Borrowed, BorrowedMut}
 use Rattle.theorems.proofs.RowCall.{Row}
 use Rattle.theorems.proofs.RunCall.{Run}
 use Rattle.theorems.proofs.SpanCall.{Span}
@@ -52,14 +52,14 @@ module _ (t : Borrowed) (S : Settings) (answers : Answers t S []) (refuses : Ref
   empty-run κ p r b = refuses.run.run_past κ p r b (omega arith)
 
   -- A span of 0 bytes at place 0 is empty; any other span is refused with 10.
-  pub empty-span : (κ : Lfts 2) (p : TextPlace) (buffer after : Borrowed) (r : SpanAnswer) → Span κ t p 0 buffer after r → p.0 ≡ 0
+  pub empty-span : (κ : Lfts 2) (p : TextPlace) (buffer after : BorrowedMut) (r : SpanAnswer) → Span κ t p 0 buffer after r → p.0 ≡ 0
       → (r ≡ span.Bytes 0 0) × (after.now ≡ buffer.now)
   unfolding substring
   empty-span κ p buffer after r s z =
       let w = answers.span.span_of κ p 0 buffer after r s (omega arith) (omega arith) in
       (w.2 ∙ ap (span.Bytes 0) (w.1.other (λ short. omega (arith, short.low))), w.3)
 
-  pub empty-span-past : (κ : Lfts 2) (p : TextPlace) (len : ℕ) (buffer after : Borrowed) (r : SpanAnswer) → Span κ t p len buffer after r → 1 ≤ p.0 + len
+  pub empty-span-past : (κ : Lfts 2) (p : TextPlace) (len : ℕ) (buffer after : BorrowedMut) (r : SpanAnswer) → Span κ t p len buffer after r → 1 ≤ p.0 + len
       → (r ≡ span.Refused 10) × (after.now ≡ buffer.now)
   empty-span-past κ p len buffer after r s some = refuses.span.span_past κ p len buffer after r s (omega arith)
 
@@ -76,7 +76,7 @@ module _ (t : Borrowed) (S : Settings) (answers : Answers t S []) (refuses : Ref
   empty-find κ byte j r f k = refuses.find.find_none κ byte j r f k (λ low high. omega arith)
 
   -- There is no row.
-  pub empty-row : (κ : Lfts 2) (q : ℕ) (buffer after : Borrowed) (r : RowAnswer) → Row κ t q buffer after r → CountedIn 10 S.counted
+  pub empty-row : (κ : Lfts 2) (q : ℕ) (buffer after : BorrowedMut) (r : RowAnswer) → Row κ t q buffer after r → CountedIn 10 S.counted
       → (r ≡ row.Refused 12) × (after.now ≡ buffer.now)
   unfolding rows_of
   empty-row κ q buffer after r w k = refuses.row.row_none κ q buffer after r w k (λ low high. omega arith)

@@ -10,7 +10,7 @@ use lib.ListN.{length}
 use lib.Dec.{leb}
 use borrow.Author.Tests.{leb-true}
 use Rattle.text.specs.Text.{count_in, place_of}
-use Rattle.text.specs.CountLaws.{place-nth}
+use Rattle.text.proofs.CountTheorems.{place-nth}
 use Rattle.text.specs.ListLaws.{bool_cases, and_left, and_right}
 use Rattle.text.specs.declared.TextPlace.{TextPlace}
 use Rattle.format.specs.Layout.{Settings}
@@ -33,7 +33,7 @@ use Rattle.theorems.proofs.RefusalNumbers.{OneOf}
 use Rattle.query_select.proofs.find.Met as find-met
 
 abbrev pub find_call : Call
-find_call = call find_function find-met.met (λ 𝓛 mem run κs a. (tt, refl))
+find_call = call find_function find-met.met (λ 𝓤 𝓛 mem run κs a. (tt, refl))
 
 -- For any bytes.
 module _ (κs : Lfts 1) (t : Borrowed) (byte j : ℕ) where

@@ -6,7 +6,7 @@ use native.Mathlib.Omega.{arith}
 use contract.Lifetimes.{Lfts}
 use lib.ListN.{length}
 use Rattle.text.specs.Text.{count_in, place_of}
-use Rattle.text.specs.CountLaws.{place-nth}
+use Rattle.text.proofs.CountTheorems.{place-nth}
 use Rattle.text.specs.declared.TextPlace.{TextPlace}
 use Rattle.format.specs.Layout as at
 use Rattle.format.specs.TreeReading.{path_of, text_of, check_result}
@@ -28,7 +28,7 @@ use Rattle.query_guided.proofs.find_guided.Met as find-guided-met
 pub use Rattle.query_guided.proofs.Theorems.{FindGuided}
 
 abbrev pub find_guided_call : Call
-find_guided_call = call find_guided_function find-guided-met.met (λ 𝓛 mem run κs a. (tt, refl))
+find_guided_call = call find_guided_function find-guided-met.met (λ 𝓤 𝓛 mem run κs a. (tt, refl))
 
 -- For any bytes: a place is one of the text, whatever the guide, and a refusal is 5, 6, 7, 11, 12 or 14.
 module _ (κs : Lfts 2) (t guide : Borrowed) (byte j : ℕ) where

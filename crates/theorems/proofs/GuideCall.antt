@@ -13,7 +13,7 @@ use Rattle.format.specs.AnswerLaws.{unless-number}
 use Rattle.query_guide.specs.declared.GuideWordsAnswer.TheVariants as guide-words
 use Rattle.query_guide.specs.Guides.{guide_bytes, guide_words, guide_refusal, guide_words_answer, make_guide_refusal, make_guide_answer}
 use Rattle.theorems.specs.PublicFunctions.{check_guide_function, guide_words_function, make_guide_function}
-use Rattle.theorems.proofs.PublicCall.{Call, Borrowed, call}
+use Rattle.theorems.proofs.PublicCall.{Call, Borrowed, BorrowedMut, call}
 use Rattle.theorems.proofs.RefusalNumbers.{OneOf, asks-one, not-zero, header-one, then_one, checked-one}
 use Rattle.query_guide.proofs.guide_words.Met as guide-words-met
 use Rattle.build_guide.proofs.make_guide.Met as make-guide-met
@@ -23,13 +23,13 @@ pub use Rattle.query_guide.proofs.Theorems.{GuideWords}
 pub use Rattle.build_guide.proofs.Theorems.{MakeGuide, CheckGuide}
 
 abbrev pub guide_words_call : Call
-guide_words_call = call guide_words_function guide-words-met.met (λ 𝓛 mem run κs a. (tt, refl))
+guide_words_call = call guide_words_function guide-words-met.met (λ 𝓤 𝓛 mem run κs a. (tt, refl))
 
 abbrev pub make_guide_call : Call
-make_guide_call = call make_guide_function make-guide-met.met (λ 𝓛 mem run κs a. (tt, refl))
+make_guide_call = call make_guide_function make-guide-met.met (λ 𝓤 𝓛 mem run κs a. (tt, refl))
 
 abbrev pub check_guide_call : Call
-check_guide_call = call check_guide_function check-guide-met.met (λ 𝓛 mem run κs a. (tt, refl))
+check_guide_call = call check_guide_function check-guide-met.met (λ 𝓤 𝓛 mem run κs a. (tt, refl))
 
 -- Checking a guide: 0, 5 to 9, or 24.
 pub check-guide-numbers : (κs : Lfts 2) (t guide : Borrowed) (r : ℕ) → CheckGuide κs t guide r → OneOf (5 ∷ 6 ∷ 7 ∷ 8 ∷ 9 ∷ 24 ∷ 0 ∷ []) r
@@ -39,7 +39,7 @@ check-guide-numbers κs t guide r a =
     (asks-one ((24, same_list guide.now (guide_bytes t.now)) ∷ [])))
 
 -- Making one: a refusal is 5 to 9 or 25.
-pub make-guide-numbers : (κs : Lfts 2) (t table after : Borrowed) (n : ℕ) → MakeGuide κs t table after (guide-words.Refused n)
+pub make-guide-numbers : (κs : Lfts 2) (t : Borrowed) (table after : BorrowedMut) (n : ℕ) → MakeGuide κs t table after (guide-words.Refused n)
     → OneOf (5 ∷ 6 ∷ 7 ∷ 8 ∷ 9 ∷ 25 ∷ []) n
 unfolding make_guide_refusal make_guide_answer
 make-guide-numbers κs t table after n a =

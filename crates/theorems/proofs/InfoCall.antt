@@ -4,7 +4,7 @@ use mathlib.Core.Path.{refl}
 use Prim.Native.Nat.{ℕ}
 use contract.Lifetimes.{Lfts}
 use Rattle.theorems.specs.PublicFunctions.{info_function, version_function}
-use Rattle.theorems.proofs.PublicCall.{Call, Borrowed, call}
+use Rattle.theorems.proofs.PublicCall.{Call, Borrowed, BorrowedMut, call}
 use Rattle.theorems.proofs.RefusalNumbers.{OneOf, header-one}
 use Rattle.query_info.proofs.info.Met as info-met
 use Rattle.query_info.proofs.version.Met as version-met
@@ -12,11 +12,11 @@ use Rattle.query_info.proofs.version.Met as version-met
 pub use Rattle.query_info.proofs.Theorems.{Info, Version}
 
 abbrev pub info_call : Call
-info_call = call info_function info-met.met (λ 𝓛 mem run κs a. (tt, refl))
+info_call = call info_function info-met.met (λ 𝓤 𝓛 mem run κs a. (tt, refl))
 
 abbrev pub version_call : Call
-version_call = call version_function version-met.met (λ 𝓛 mem run κs a. (tt, refl))
+version_call = call version_function version-met.met (λ 𝓤 𝓛 mem run κs a. (tt, refl))
 
 -- For any bytes: info returns 0, or 5, 6 or 7.
-pub info-numbers : (κs : Lfts 2) (t figures after : Borrowed) (r : ℕ) → Info κs t figures after r → OneOf (5 ∷ 6 ∷ 7 ∷ 0 ∷ []) r
+pub info-numbers : (κs : Lfts 2) (t : Borrowed) (figures after : BorrowedMut) (r : ℕ) → Info κs t figures after r → OneOf (5 ∷ 6 ∷ 7 ∷ 0 ∷ []) r
 info-numbers κs t figures after r a = rw a.0 (header-one t.now)

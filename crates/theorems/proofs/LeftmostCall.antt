@@ -8,10 +8,10 @@ use Rattle.search.proofs.leftmost.Met as leftmost-met
 use Rattle.search.proofs.occurs_earlier.Met as occurs-earlier-met
 
 abbrev pub fingerprint_new_call : Call
-fingerprint_new_call = call fingerprint_new_function new-met.met (λ 𝓛 mem run κs a. (tt, refl))
+fingerprint_new_call = call fingerprint_new_function new-met.met (λ 𝓤 𝓛 mem run κs a. (tt, refl))
 
 abbrev pub leftmost_call : Call
-leftmost_call = call leftmost_function leftmost-met.met (λ 𝓛 mem run κs a. (tt, refl))
+leftmost_call = call leftmost_function leftmost-met.met (λ 𝓤 𝓛 mem run κs a. (tt, refl))
 
 abbrev pub occurs_earlier_call : Call
-occurs_earlier_call = call occurs_earlier_function occurs-earlier-met.met (λ 𝓛 mem run κs a. (tt, refl))
+occurs_earlier_call = call occurs_earlier_function occurs-earlier-met.met (λ 𝓤 𝓛 mem run κs a. (tt, refl))

@@ -25,10 +25,10 @@ pub use Rattle.theorems.specs.CallContracts.{NextMatch}
 pub use Rattle.query_key_match.specs.MatchAnswer.{Moved}
 
 abbrev pub next_match_call : Call
-next_match_call = call next_match_function next-match-met.met (λ 𝓛 mem run κs a. (tt, refl))
+next_match_call = call next_match_function next-match-met.met (λ 𝓤 𝓛 mem run κs a. (tt, refl))
 
 abbrev pub advance_mark_call : Call
-advance_mark_call = call advance_mark_function advance-mark-met.met (λ 𝓛 mem run κs a. (tt, refl))
+advance_mark_call = call advance_mark_function advance-mark-met.met (λ 𝓤 𝓛 mem run κs a. (tt, refl))
 
 -- For any bytes.
 

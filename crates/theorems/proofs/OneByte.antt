@@ -8,7 +8,8 @@ use native.Mathlib.Omega.{arith}
 use lib.ListN.{length, get_or, take}
 use lib.Dec.{eqb}
 use Rattle.text.specs.Text.{count_in, place_of, substring}
-use Rattle.text.specs.CountLaws.{place-nth, one, count-start, count_add, count_next, Nth, nth-place, nth-high}
+use Rattle.text.specs.CountLaws.{one, Nth}
+use Rattle.text.proofs.CountTheorems.{place-nth, count-start, count_add, count_next, nth-place, nth-high}
 use Rattle.text.specs.ListLaws.{lt-or-ge}
 use Rattle.text.specs.TextLaws.{substring-ext}
 

@@ -8,7 +8,7 @@ use mathlib.Core.Logic.{◌⊎◌, inl, inr}
 use Prim.Native.Nat.{ℕ, zero, suc, ◌+◌, ◌≤◌, ◌<◌, min}
 use native.Mathlib.Omega.{arith}
 use contract.Lifetimes.{Lfts}
-use denote.Ref.{Bor}
+use denote.Ref.{MutBor}
 use lib.ListN.{length}
 use lib.Dec.{ltb}
 use Rattle.text.specs.ListLaws.{lt-or-ge}
@@ -40,10 +40,10 @@ pub use Rattle.query_compare.specs.OrderLaws.{text-order, ordering-flip, orderin
 pub use Rattle.query_compare.specs.OrderLaws.{shared-is, shared-flip, ordered-by, empty-first}
 
 abbrev pub compare_call : Call
-compare_call = call compare_function compare-met.met (λ 𝓛 mem run κs a. (tt, refl))
+compare_call = call compare_function compare-met.met (λ 𝓤 𝓛 mem run κs a. (tt, refl))
 
 abbrev pub first_call : Call
-first_call = call first_function first-met.met (λ 𝓛 mem run κs a. (tt, refl))
+first_call = call first_function first-met.met (λ 𝓤 𝓛 mem run κs a. (tt, refl))
 
 -- The numbers with which a comparison is refused, for any bytes.
 
@@ -115,7 +115,7 @@ module _ (t : Borrowed) (T : List ℕ) (a : CallHolds t T) where
   text-is = sym (one-text t.now passes links T a.fitting)
 
 -- The figures that `first` leaves behind its references.
-abbrev pub figures_in : Bor ℕ → Bor ℕ → Bor ℕ → Answer
+abbrev pub figures_in : MutBor ℕ → MutBor ℕ → MutBor ℕ → Answer
 figures_in number order length = record { number = number.now; value = order.now; entered = length.now }
 
 module _ (t u : Borrowed) (T U : List ℕ) (a : CallHolds t T) (b : CallHolds u U) where
@@ -124,7 +124,7 @@ module _ (t u : Borrowed) (T U : List ℕ) (a : CallHolds t T) (b : CallHolds u 
   compare-of κs r c = rw (text-is t T a, text-is u U b) at (orders.compare-texts t u (passes t T a) (passes u U b) (links t T a) (links u U b) κs r c)
 
   -- `first` returns the reference, pointer and bytes, of the tree whose text comes first (for equal texts the first), with the figures of the comparison
-  pub first-of : (κs : Lfts 4) (number order length number' order' length' : Bor ℕ) (r : Borrowed)
+  pub first-of : (κs : Lfts 4) (number order length number' order' length' : MutBor ℕ) (r : Borrowed)
       → CompareFirst κs t u number order length number' order' length' r
       → (r ≡ first_of (text_ordering T U) t u)
       × (figures_in number' order' length' ≡ order_answer (text_ordering T U) (shared T U))
@@ -138,7 +138,7 @@ module _ (t u t' u' : Borrowed) (T U : List ℕ) (a : CallHolds t T) (b : CallHo
   texts-alone κs κs' r r' c c' = compare-of t u T U a b κs r c ∙ sym (compare-of t' u' T U a' b' κs' r' c')
 
   -- The same figures, and the tree of the same side.
-  pub first_alone : (κs κs' : Lfts 4) (n o l n₁ o₁ l₁ n₂ o₂ l₂ n₃ o₃ l₃ : Bor ℕ) (r r' : Borrowed)
+  pub first_alone : (κs κs' : Lfts 4) (n o l n₁ o₁ l₁ n₂ o₂ l₂ n₃ o₃ l₃ : MutBor ℕ) (r r' : Borrowed)
       → CompareFirst κs t u n o l n₁ o₁ l₁ r → CompareFirst κs' t' u' n₂ o₂ l₂ n₃ o₃ l₃ r'
       → (figures_in n₁ o₁ l₁ ≡ figures_in n₃ o₃ l₃)
       × (((r ≡ t) × (r' ≡ t')) ⊎ ((r ≡ u) × (r' ≡ u')))

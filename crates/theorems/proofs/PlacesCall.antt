@@ -25,14 +25,14 @@ use Rattle.query_places.specs.Places.{max_pattern, places_in, pattern_ok, places
 use Rattle.query_places.specs.declared.PlacesAnswer.TheVariants as places
 use Rattle.theorems.specs.Promises.{PlacesAnswers, PlacesRefuses}
 use Rattle.theorems.specs.PublicFunctions.{places_function}
-use Rattle.theorems.proofs.PublicCall.{Call, Borrowed, call}
+use Rattle.theorems.proofs.PublicCall.{Call, Borrowed, BorrowedMut, call}
 use Rattle.theorems.proofs.RefusalNumbers.{OneOf, asks-one, not-zero, header-one, then_one}
 use Rattle.query_places.proofs.places.Met as places-met
 -- What the contract allows, where the table is left as `after`: `Places κs tree pattern table after r`.
 pub use Rattle.theorems.specs.CallContracts.{Places}
 
 abbrev pub places_call : Call
-places_call = call places_function places-met.met (λ 𝓛 mem run κs a. (tt, refl))
+places_call = call places_function places-met.met (λ 𝓤 𝓛 mem run κs a. (tt, refl))
 
 -- For any bytes.
 
@@ -66,7 +66,7 @@ places-one t P room =
     then_one (5 ∷ 6 ∷ 7 ∷ []) (16 ∷ 14 ∷ 17 ∷ 0 ∷ []) (header_result t) _ (header-one t)
     (asks-one ((16, pattern_ok P) ∷ (14, paths_hold t 0 (at.text_length t)) ∷ (17, leb (length (places_of t P)) room) ∷ []))
 
-module _ (κs : Lfts 3) (t P table after : Borrowed) where
+module _ (κs : Lfts 3) (t P : Borrowed) (table after : BorrowedMut) where
   -- The result is the number of all places in the bytes that the tree's paths give, none of which breaks. The places fit the table and are at its start, and
   -- the words after them are unchanged.
   pub places-answer : (n : ℕ) → Places κs t P table after (places.Number n)

@@ -19,7 +19,7 @@ use Rattle.query_places.proofs.places_words.Met as places-words-met
 pub use Rattle.query_places.proofs.Theorems.{PlacesWords}
 
 abbrev pub places_words_call : Call
-places_words_call = call places_words_function places-words-met.met (λ 𝓛 mem run κs a. (tt, refl))
+places_words_call = call places_words_function places-words-met.met (λ 𝓤 𝓛 mem run κs a. (tt, refl))
 
 -- For any bytes: a refusal is 5, 6, 7 or 16.
 pub room-numbers : (κs : Lfts 1) (t : Borrowed) (len n : ℕ) → PlacesWords κs t len (places-words.Refused n) → OneOf (5 ∷ 6 ∷ 7 ∷ 16 ∷ []) n

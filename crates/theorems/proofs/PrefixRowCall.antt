@@ -25,10 +25,10 @@ pub use Rattle.theorems.specs.CallContracts.{NextRowWithPrefix}
 pub use Rattle.query_prefix.proofs.Theorems.{NextRowWithPrefixGuided}
 
 abbrev pub next_row_with_prefix_call : Call
-next_row_with_prefix_call = call next_row_with_prefix_function next-met.met (λ 𝓛 mem run κs a. (tt, refl))
+next_row_with_prefix_call = call next_row_with_prefix_function next-met.met (λ 𝓤 𝓛 mem run κs a. (tt, refl))
 
 abbrev pub next_row_with_prefix_guided_call : Call
-next_row_with_prefix_guided_call = call next_row_with_prefix_guided_function guided-met.met (λ 𝓛 mem run κs a. (tt, refl))
+next_row_with_prefix_guided_call = call next_row_with_prefix_guided_function guided-met.met (λ 𝓤 𝓛 mem run κs a. (tt, refl))
 
 -- For any bytes.
 

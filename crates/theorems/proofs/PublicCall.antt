@@ -4,4 +4,4 @@
 -- and for any tree that the check accepts, the proof of its records of `Promises`.
 pub use Rattle.theory_adequacy.specs.TotalCorrectness.{Function, TotallyCorrect}
 pub use Rattle.theory_adequacy.specs.Preconditions.{NoPrecondition, Call, call, Each, each-ends, each-asks-nothing}
-pub use Rattle.theorems.specs.CallContracts.{Borrowed}
+pub use Rattle.theorems.specs.CallContracts.{Borrowed, BorrowedMut}

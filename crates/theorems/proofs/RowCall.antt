@@ -21,17 +21,17 @@ use Rattle.theorems.specs.Promises.{RowAnswers, RowRefuses}
 pub use Rattle.theorems.specs.CallContracts.{Row}
 use Rattle.theorems.specs.PublicFunctions.{row_function}
 use Rattle.theorems.proofs.AcceptedTree.{among-counted, not-counted}
-use Rattle.theorems.proofs.PublicCall.{Call, Borrowed, call}
+use Rattle.theorems.proofs.PublicCall.{Call, Borrowed, BorrowedMut, call}
 use Rattle.theorems.proofs.RefusalNumbers.{OneOf}
 use Rattle.theorems.proofs.RowOutcomes.{RowOutcome, Zeros, outcome-copied, row-outcome, row-outcome-leaves, row-outcome-numbers}
 use Rattle.theorems.proofs.RowOutcomes.{free-copied, free-short}
 use Rattle.query_rows.proofs.row.Met as row-met
 
 abbrev pub row_call : Call
-row_call = call row_function row-met.met (λ 𝓛 mem run κs a. (tt, refl))
+row_call = call row_function row-met.met (λ 𝓤 𝓛 mem run κs a. (tt, refl))
 
 -- For any bytes.
-module _ (κs : Lfts 2) (t : Borrowed) (q : ℕ) (buffer after : Borrowed) where
+module _ (κs : Lfts 2) (t : Borrowed) (q : ℕ) (buffer after : BorrowedMut) where
   outcome-of : (n m : ℕ) → RowAllowed t.now q buffer.now n m after.now → RowOutcome t.now q buffer.now n m after.now
   outcome-of n m s = row-outcome t.now q buffer.now (check_result t.now) n m after.now s
 
@@ -83,7 +83,7 @@ module _ (t : Borrowed) (v : check_result t.now ≡ 0) where
   }
 
   -- Refused before the walk.
-  row-asked : (κs : Lfts 2) (q : ℕ) (buffer after : Borrowed) (r : RowAnswer) (n : ℕ) → Row κs t q buffer after r
+  row-asked : (κs : Lfts 2) (q : ℕ) (buffer after : BorrowedMut) (r : RowAnswer) (n : ℕ) → Row κs t q buffer after r
       → row_refusal t.now q ≡ suc n → (r ≡ row.Refused (suc n)) × (after.now ≡ buffer.now)
   row-asked κs q buffer after r n a e = let h = a.answers.asked (rw e (omega arith)) in (row-no r n (h.0 ∙ e), h.2)
 

@@ -25,7 +25,7 @@ use Rattle.query_rows.proofs.row_count.Met as row-count-met
 pub use Rattle.query_rows.proofs.Theorems.{CountOf}
 
 abbrev pub row_count_call : Call
-row_count_call = call row_count_function row-count-met.met (λ 𝓛 mem run κs a. (tt, refl))
+row_count_call = call row_count_function row-count-met.met (λ 𝓤 𝓛 mem run κs a. (tt, refl))
 
 -- For any bytes: a refusal is 5, 6, 7, 11 or 14.
 last_one : (t : List ℕ) → header_result t ≡ 0 → OneOf (14 ∷ 0 ∷ []) (cond (eqb (at.text_length t) 0) 0 (byte_answer t (at.text_length t - 1)).number)

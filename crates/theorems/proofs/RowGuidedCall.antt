@@ -12,7 +12,7 @@ use Rattle.format.specs.Answers.{row_most}
 use Rattle.query_guide.specs.Guides.{guide_refusal}
 use Rattle.query_rows.specs.declared.RowAnswer.TheVariants as row
 use Rattle.theorems.specs.PublicFunctions.{row_guided_function}
-use Rattle.theorems.proofs.PublicCall.{Call, Borrowed, call}
+use Rattle.theorems.proofs.PublicCall.{Call, Borrowed, BorrowedMut, call}
 use Rattle.theorems.proofs.RefusalNumbers.{OneOf}
 use Rattle.theorems.proofs.RowOutcomes.{RowOutcome, Zeros, outcome-copied, row-outcome, row-outcome-leaves, row-outcome-numbers}
 use Rattle.theorems.proofs.RowOutcomes.{free-copied, free-short}
@@ -21,10 +21,10 @@ use Rattle.query_rows.proofs.row_guided.Met as row-guided-met
 pub use Rattle.query_rows.proofs.Theorems.{RowGuided}
 
 abbrev pub row_guided_call : Call
-row_guided_call = call row_guided_function row-guided-met.met (λ 𝓛 mem run κs a. (tt, refl))
+row_guided_call = call row_guided_function row-guided-met.met (λ 𝓤 𝓛 mem run κs a. (tt, refl))
 
 -- For any bytes: a row fits, and the bytes after it are unchanged.
-module _ (κs : Lfts 3) (t guide : Borrowed) (q : ℕ) (buffer after : Borrowed) where
+module _ (κs : Lfts 3) (t guide : Borrowed) (q : ℕ) (buffer after : BorrowedMut) where
   pub row-guided-answer : (m : ℕ) → RowGuided κs t guide q buffer after (row.Bytes m) → (m ≤ length buffer.now) × (drop m after.now ≡ drop m buffer.now)
   row-guided-answer m a =
       outcome-copied t.now q buffer.now m after.now

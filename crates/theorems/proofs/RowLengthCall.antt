@@ -18,7 +18,7 @@ use Rattle.query_rows.proofs.row_length.Met as row-length-met
 pub use Rattle.query_rows.proofs.Theorems.{LengthOf}
 
 abbrev pub row_length_call : Call
-row_length_call = call row_length_function row-length-met.met (λ 𝓛 mem run κs a. (tt, refl))
+row_length_call = call row_length_function row-length-met.met (λ 𝓤 𝓛 mem run κs a. (tt, refl))
 
 -- For any bytes: a refusal is 5, 6, 7, 11, 12 or 14.
 pub length-numbers : (κs : Lfts 1) (t : Borrowed) (q n : ℕ) → LengthOf κs t q (row-length.Refused n) → OneOf (5 ∷ 6 ∷ 7 ∷ 11 ∷ 12 ∷ 14 ∷ []) n

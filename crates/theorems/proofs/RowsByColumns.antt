@@ -22,12 +22,12 @@ use Rattle.theorems.proofs.BuildScannedCall.{BuildScanned, scanned-answers}
 use Rattle.theorems.proofs.CheckCall.{Check, check-answers}
 use Rattle.theorems.proofs.ColumnRowCall.{ByColumns}
 use Rattle.theorems.proofs.ColumnsCall.{ToColumns}
-use Rattle.theorems.proofs.PublicCall.{Borrowed}
+use Rattle.theorems.proofs.PublicCall.{Borrowed, BorrowedMut}
 
 -- What every call on the tree returns: the buffer begins with row a of the original text, end byte included, and its other bytes are unchanged.
 abbrev pub RowsOf : Borrowed → ℕ → List ℕ → Type 0
 RowsOf t w T =
-    (κs : Lfts 2) (a : ℕ) (buffer after : Borrowed) (r : SpanAnswer) → ByColumns κs t w a buffer after r → a < length T / w → w ≤ length buffer.now
+    (κs : Lfts 2) (a : ℕ) (buffer after : BorrowedMut) (r : SpanAnswer) → ByColumns κs t w a buffer after r → a < length T / w → w ≤ length buffer.now
     → (r ≡ span.Bytes w 0) × (after.now ≡ substring T (a * w) w ++ drop w buffer.now)
 
 -- Every question is answered from the rearranged text.
@@ -43,7 +43,7 @@ pub accepted-rows : (κ : Lfts 1) (t : Borrowed) → Check κ t 0 → (w : ℕ) 
 accepted-rows κ t c w T ok fit = rows_of t (at.settings t.now) w T ok (check-answers κ t c (columns w T) fit)
 
 -- A text rearranged by a call, whose output is the input of a builder.
-module _ (κ : Lfts 2) (text : Borrowed) (w : ℕ) (out turned : Borrowed) (done : ToColumns κ text w out turned 0)
+module _ (κ : Lfts 2) (text : Borrowed) (w : ℕ) (out turned : BorrowedMut) (done : ToColumns κ text w out turned 0)
     (input : Borrowed) (is : input.now ≡ take (length text.now) turned.now) where
   ok : width_ok w (length text.now) ≡ true
   ok = ((rearranging.to-columns κ text w out turned 0 done).passed refl).0
@@ -52,14 +52,14 @@ module _ (κ : Lfts 2) (text : Borrowed) (w : ℕ) (out turned : Borrowed) (done
   input-is = rearranging.to-columns-input κ text w out turned done input.now is
 
   -- For the tree that build wrote.
-  pub built-rows : (κs : Lfts 3) (leaf arity levels : ℕ) (counted room after : Borrowed) (size : ℕ)
+  pub built-rows : (κs : Lfts 3) (leaf arity levels : ℕ) (counted : Borrowed) (room after : BorrowedMut) (size : ℕ)
       → Build κs input leaf arity levels counted room after (build.Size size) → (t : Borrowed) → t.now ≡ take size after.now → RowsOf t w text.now
   built-rows κs leaf arity levels counted room after size a t e =
       rows_of t (given leaf arity levels counted.now) w text.now ok
       (rw input-is at (build-answers κs input leaf arity levels counted room after size a t e))
 
   -- For the tree that build_scanned wrote.
-  pub scanned-rows : (κs : Lfts 4) (leaf arity levels : ℕ) (counted words table room after : Borrowed) (size windows : ℕ)
+  pub scanned-rows : (κs : Lfts 4) (leaf arity levels : ℕ) (counted : Borrowed) (words table room after : BorrowedMut) (size windows : ℕ)
       → BuildScanned κs input leaf arity levels counted words table room after (build-scanned.Size size windows)
       → (t : Borrowed) → t.now ≡ take size after.now → RowsOf t w text.now
   scanned-rows κs leaf arity levels counted words table room after size windows a t e =

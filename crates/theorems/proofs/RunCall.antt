@@ -33,10 +33,10 @@ abbrev pub RunRange : (κs : Lfts 1) → Borrowed → TextPlace → RunRangeAnsw
 RunRange κs t p r = run-range-reads.Post κs (t, (p, tt)) r (t, (p, tt))
 
 abbrev pub run_call : Call
-run_call = call run_function run-met.met (λ 𝓛 mem run κs a. (tt, refl))
+run_call = call run_function run-met.met (λ 𝓤 𝓛 mem run κs a. (tt, refl))
 
 abbrev pub run_range_call : Call
-run_range_call = call run_range_function run-range-met.met (λ 𝓛 mem run κs a. (tt, refl))
+run_range_call = call run_range_function run-range-met.met (λ 𝓤 𝓛 mem run κs a. (tt, refl))
 
 -- For any bytes; κ is the lifetime of byte, κs that of run.
 module _ (κ κs : Lfts 1) (t : Borrowed) (p : TextPlace) (r : Borrowed) where

@@ -23,7 +23,7 @@ SizeBound n leaf arity levels counted r =
     size-bound-reads.Post tt (n, (leaf, (arity, (levels, (counted, tt))))) r (n, (leaf, (arity, (levels, (counted, tt)))))
 
 abbrev pub size_bound_call : Call
-size_bound_call = call size_bound_function size-bound-met.met (λ 𝓛 mem run κs a. (tt, refl))
+size_bound_call = call size_bound_function size-bound-met.met (λ 𝓤 𝓛 mem run κs a. (tt, refl))
 
 -- A refusal is 1, 2 or 3.
 pub size-bound-numbers : (n leaf arity levels k m : ℕ) → SizeBound n leaf arity levels k (size-bound.Refused m) → OneOf (1 ∷ 2 ∷ 3 ∷ []) m

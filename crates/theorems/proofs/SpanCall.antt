@@ -23,14 +23,14 @@ use Rattle.theorems.specs.Promises.{BlocksOfSpan, SpanAnswers, SpanRefuses}
 use Rattle.theorems.specs.PublicFunctions.{span_function}
 use Rattle.theorems.proofs.AcceptedTree.{text-size}
 use Rattle.theorems.proofs.BlocksEntered.{blocks-of-span}
-use Rattle.theorems.proofs.PublicCall.{Call, Borrowed, call}
+use Rattle.theorems.proofs.PublicCall.{Call, Borrowed, BorrowedMut, call}
 use Rattle.theorems.proofs.RefusalNumbers.{OneOf, asks-one, not-zero, header-one, answers-answer, answers-refused, then_one}
 use Rattle.query_access.proofs.span.Met as span-met
 -- What the contract allows, where the buffer is left as `after`: `Span κs tree place length buffer after r`.
 pub use Rattle.theorems.specs.CallContracts.{Span}
 
 abbrev pub span_call : Call
-span_call = call span_function span-met.met (λ 𝓛 mem run κs a. (tt, refl))
+span_call = call span_function span-met.met (λ 𝓤 𝓛 mem run κs a. (tt, refl))
 
 -- For any bytes.
 
@@ -55,7 +55,7 @@ span-passes t p len room h =
     let b = asks-pass questions refl a.1 in
     record { pass = a.0; fits = leb-true len room b.1.0; reached = b.1.1.0 }
 
-module _ (κs : Lfts 2) (t : Borrowed) (p : TextPlace) (len : ℕ) (buffer after : Borrowed) where
+module _ (κs : Lfts 2) (t : Borrowed) (p : TextPlace) (len : ℕ) (buffer after : BorrowedMut) where
   -- The result is the given length, which fits, with the blocks entered, and the bytes after it are unchanged.
   pub span-answer : (m e : ℕ) → Span κs t p len buffer after (span.Bytes m e)
       → (m ≡ len) × BlocksOfSpan t.now (at.settings t.now).levels p.0 len e × (len ≤ length buffer.now)
@@ -114,7 +114,7 @@ module _ (t : Borrowed) (v : check_result t.now ≡ 0) where
   }
 
   -- A refused span answers its number, and leaves the buffer.
-  refuses : (κs : Lfts 2) (p : TextPlace) (len : ℕ) (buffer after : Borrowed) (r : SpanAnswer) (n : ℕ) → Span κs t p len buffer after r
+  refuses : (κs : Lfts 2) (p : TextPlace) (len : ℕ) (buffer after : BorrowedMut) (r : SpanAnswer) (n : ℕ) → Span κs t p len buffer after r
       → span_refusal t.now p.0 len (length buffer.now) ≡ suc n → (suc n ≡ 14 → ⊥) → (r ≡ span.Refused (suc n)) × (after.now ≡ buffer.now)
   unfolding span_answer span_buffer buffer_after
   refuses κs p len buffer after r n a e other =

@@ -38,12 +38,12 @@ pub use Rattle.theorems.proofs.BuildCall.{build-accepted, build-one-text}
 -- Demand 3: build is refused by questions 1 to 4 only, and by 4 only if the buffer is shorter than the tree.
 pub use Rattle.theorems.proofs.BuildCall.{build-accepts-exact-buffer}
 -- Request 101: a text has as many rows as bytes 10, plus one if its last byte is another one; that row is what comes after the last byte 10.
-pub use Rattle.text.specs.RowLaws.{rows-count, row_last}
+pub use Rattle.text.proofs.RowTheorems.{rows-count, row_last}
 -- Request 101: questions 11 and 12 of row, where 12 allows that row.
 pub use Rattle.theory_counts.specs.RowsOfText.{row-lets, row-twelve, row-eleven}
 -- Request 102: a byte 13 next to the byte 10 that ends a row is left out of the row; every other byte 13 is part of its row (`row_last` for the row that
 -- no byte 10 ends).
-pub use Rattle.text.specs.RowLaws.{row-between, trimmed-mark, trimmed-plain, trimmed-none}
+pub use Rattle.text.proofs.RowTheorems.{row-between, trimmed-mark, trimmed-plain, trimmed-none}
 -- Request 103: the local test of edges, zeros included, that the check makes is exact.
 pub use Rattle.theory_edges.specs.Theorems.{edges-exact}
 -- Request 103: on an accepted tree the walk of a short span does not break and gives the bytes of the text.

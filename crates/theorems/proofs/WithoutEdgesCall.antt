@@ -18,7 +18,7 @@ use Rattle.build_without_edges.specs.declared.WithoutEdgesAnswer.TheVariants.{Si
 use Rattle.build_without_edges.specs.WithoutEdgesAnswers.{without_edges_refusal, without_edges_reply}
 use Rattle.theorems.specs.Promises.{Answers, Refuses}
 use Rattle.theorems.specs.PublicFunctions.{without_edges_function}
-use Rattle.theorems.proofs.PublicCall.{Call, Borrowed, call}
+use Rattle.theorems.proofs.PublicCall.{Call, Borrowed, BorrowedMut, call}
 use Rattle.theorems.proofs.RefusalNumbers.{OneOf, header-one}
 use Rattle.theorems.proofs.TreeAnswers.{accepted-answers, accepted-refuses}
 use Rattle.build_without_edges.proofs.without_edges.Met as without-edges-met
@@ -27,7 +27,7 @@ use Rattle.build_without_edges.proofs.Theorems as drops
 pub use Rattle.build_without_edges.proofs.Theorems.{WithoutEdges}
 
 abbrev pub without_edges_call : Call
-without_edges_call = call without_edges_function without-edges-met.met (λ 𝓛 mem run κs a. (tt, refl))
+without_edges_call = call without_edges_function without-edges-met.met (λ 𝓤 𝓛 mem run κs a. (tt, refl))
 
 -- On any bytes it returns 0, 5, 6, 7 or 13.
 number-one : (t out : List ℕ) → OneOf (5 ∷ 6 ∷ 7 ∷ 13 ∷ 0 ∷ []) (without_edges_refusal t out)
@@ -45,7 +45,7 @@ number-one t out = go (header_result t) (header-one t) (bool_cases (leb (length 
     go n (inr (inr (inr (inl e)))) (inl f) = rw (e, f) (inr (inr (inr (inr (inl refl)))))
     go n (inr (inr (inr (inl e)))) (inr f) = rw (e, f) (inr (inr (inr (inl refl))))
 
-module _ (κs : Lfts 2) (t out after : Borrowed) (r : WithoutEdgesAnswer) (a : WithoutEdges κs t out after r) where
+module _ (κs : Lfts 2) (t : Borrowed) (out after : BorrowedMut) (r : WithoutEdgesAnswer) (a : WithoutEdges κs t out after r) where
   pub without-edges-numbers : OneOf (5 ∷ 6 ∷ 7 ∷ 13 ∷ 0 ∷ []) (replied (without_edges_reply r)).number
   without-edges-numbers = rw a.0 (number-one t.now out.now)
 

@@ -3,7 +3,7 @@
 -- given twice, before the call and `after` it; κs are the lifetimes of the borrowed arguments.
 use Rattle.std.specs.Prelude.{List, ℕ}
 use contract.Lifetimes.{Lfts}
-use Rattle.std.specs.Borrow.{Bor}
+use Rattle.std.specs.Borrow.{Bor, MutBor}
 use Rattle.query_rank.proofs.count.Reads as count-reads
 use Rattle.query_select.proofs.find.Reads as find-reads
 use Rattle.query_rows.proofs.row.Reads as row_reads
@@ -34,9 +34,12 @@ pub use Rattle.query_columns.proofs.Theorems.{ByColumns}
 -- `Digest κs tree out after r`
 pub use Rattle.query_digest.proofs.Theorems.{Digest}
 
--- Borrowed bytes.
+-- Bytes that a call borrows to read them, and those that it borrows to write them.
 abbrev pub Borrowed : Type 0
 Borrowed = Bor (List ℕ)
+
+abbrev pub BorrowedMut : Type 0
+BorrowedMut = MutBor (List ℕ)
 
 abbrev pub Count : (κs : Lfts 1) → Borrowed → (byte i : ℕ) → CountAnswer → Type 0
 Count κs t byte i r = count-reads.Post κs (t, (byte, (i, tt))) r (t, (byte, (i, tt)))
@@ -44,10 +47,10 @@ Count κs t byte i r = count-reads.Post κs (t, (byte, (i, tt))) r (t, (byte, (i
 abbrev pub Find : (κs : Lfts 1) → Borrowed → (byte j : ℕ) → FindAnswer → Type 0
 Find κs t byte j r = find-reads.Post κs (t, (byte, (j, tt))) r (t, (byte, (j, tt)))
 
-abbrev pub Row : (κs : Lfts 2) → Borrowed → (q : ℕ) → (buffer after : Borrowed) → RowAnswer → Type 0
+abbrev pub Row : (κs : Lfts 2) → Borrowed → (q : ℕ) → (buffer after : BorrowedMut) → RowAnswer → Type 0
 Row κs t q buffer after r = row_reads.Post κs (t, (q, (buffer, tt))) r (t, (q, (after, tt)))
 
 -- `table` is the table `words` after the call, `after` is the buffer `out` after the call.
-abbrev pub BuildScanned : (κs : Lfts 4) (text : Borrowed) (leaf arity levels : ℕ) (counted words table out after : Borrowed) → BuildScannedAnswer → Type 0
+abbrev pub BuildScanned : (κs : Lfts 4) (text : Borrowed) (leaf arity levels : ℕ) (counted : Borrowed) (words table out after : BorrowedMut) → BuildScannedAnswer → Type 0
 BuildScanned κs text leaf arity levels counted words table out after r =
     scanned-reads.Post κs (text, (leaf, (arity, (levels, (counted, (words, (out, tt))))))) r (text, (leaf, (arity, (levels, (counted, (table, (after, tt)))))))

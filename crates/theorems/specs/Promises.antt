@@ -1,6 +1,6 @@
 -- What is promised about trees: statements without proofs, in the order of docs/FORMAT.md. The theorems of these types are `any-tree`, `built-tree` and
 -- `scanned-tree` of proofs/Theorems.antt; each is named below beside its type. A call is a relation (`CallContracts`): `Byte κs t p r` means that the contract
--- of byte allows the answer r for the tree t and the place p. `now x` are the bytes of x.
+-- of byte allows the answer r for the tree t and the place p. `x.now` are the bytes of x.
 use Rattle.std.specs.Prelude.{List, [], ◌++◌, true, false, cond, ◌≡◌, ◌↔◌, ℕ, ◌+◌, ◌-◌, ◌≤◌, ◌<◌, ◌*◌, ◌/◌, length, get_or, take, drop, eqb}
 use Rattle.std.proofs.Math.Option.{some}
 use contract.Lifetimes.{Lfts}
@@ -37,7 +37,7 @@ use Rattle.abi.proofs.Theorems.{calls as exported}
 use Rattle.list_lines.proofs.Theorems.{calls as listing}
 use Rattle.licence.proofs.Theorems.{calls as licence}
 use Rattle.theorems.specs.PublicFunctions.{functions, Every}
-use Rattle.theorems.specs.CallContracts.{Borrowed, TextPlace, ByteAnswer, SpanAnswer, CountAnswer}
+use Rattle.theorems.specs.CallContracts.{Borrowed, BorrowedMut, TextPlace, ByteAnswer, SpanAnswer, CountAnswer}
 use Rattle.theorems.specs.CallContracts.{FindAnswer, RowAnswer, PlacesAnswer, NextRowAnswer, BuildAnswer}
 use Rattle.theorems.specs.CallContracts.{Check, Build, BuildScanned, Byte, Run, Span, Count, Find, Row, Places, Digest, NextMatch}
 use Rattle.theorems.specs.CallContracts.{NextRowWithPrefix, ByColumns}
@@ -84,7 +84,7 @@ module _ (t : Borrowed) (S : Settings) (T : List ℕ) where
   pub record RunAnswers : Type 0 where
     -- A place of the text: a part of the tree's own bytes, at least one, which are the bytes of the text from the place on.
     pub run_of : (κs : Lfts 1) (p : TextPlace) (r : Borrowed) → Run κs t p r → p.0 < length T
-        → (from : ℕ) × (size : ℕ) × (1 ≤ size) × (from + size ≤ length t.now) × (r.ptr ≡ (t.ref_ptr.0, t.ref_ptr.1 + from))
+        → (from : ℕ) × (size : ℕ) × (1 ≤ size) × (from + size ≤ length t.now) × (r.ref_ptr ≡ (t.ref_ptr.0, t.ref_ptr.1 + from))
         × (r.now ≡ take size (drop from t.now)) × (p.0 + size ≤ length T) × (r.now ≡ substring T p.0 size)
 
   pub record RunRefuses : Type 0 where
@@ -94,16 +94,16 @@ module _ (t : Borrowed) (S : Settings) (T : List ℕ) where
   -- docs/FORMAT.md, "Span"
   pub record SpanAnswers : Type 0 where
     -- A span inside the text that fits the buffer: its bytes at the start of the buffer, the rest unchanged; with the number of blocks entered.
-    pub span_of : (κs : Lfts 2) (p : TextPlace) (len : ℕ) (buffer after : Borrowed) (r : SpanAnswer) → Span κs t p len buffer after r
+    pub span_of : (κs : Lfts 2) (p : TextPlace) (len : ℕ) (buffer after : BorrowedMut) (r : SpanAnswer) → Span κs t p len buffer after r
         → p.0 + len ≤ length T → len ≤ length buffer.now
         → (e : ℕ) × BlocksOfSpan t.now S.levels p.0 len e × (r ≡ span.Bytes len e) × (after.now ≡ substring T p.0 len ++ drop len buffer.now)
 
   pub record SpanRefuses : Type 0 where
     -- A span past the end of the text: 10, and the buffer is unchanged.
-    pub span_past : (κs : Lfts 2) (p : TextPlace) (len : ℕ) (buffer after : Borrowed) (r : SpanAnswer) → Span κs t p len buffer after r
+    pub span_past : (κs : Lfts 2) (p : TextPlace) (len : ℕ) (buffer after : BorrowedMut) (r : SpanAnswer) → Span κs t p len buffer after r
         → length T < p.0 + len → (r ≡ span.Refused 10) × (after.now ≡ buffer.now)
     -- A buffer that is too short: 13, and it is unchanged.
-    pub span_short : (κs : Lfts 2) (p : TextPlace) (len : ℕ) (buffer after : Borrowed) (r : SpanAnswer) → Span κs t p len buffer after r
+    pub span_short : (κs : Lfts 2) (p : TextPlace) (len : ℕ) (buffer after : BorrowedMut) (r : SpanAnswer) → Span κs t p len buffer after r
         → p.0 + len ≤ length T → length buffer.now < len → (r ≡ span.Refused 13) × (after.now ≡ buffer.now)
 
   -- docs/FORMAT.md, "Count"
@@ -137,45 +137,45 @@ module _ (t : Borrowed) (S : Settings) (T : List ℕ) where
   -- docs/FORMAT.md, "Row"
   pub record RowAnswers : Type 0 where
     -- A row of the text, which fits the buffer: its bytes at the buffer's start, the rest of the buffer unchanged.
-    pub row-of : (κs : Lfts 2) (q : ℕ) (buffer after : Borrowed) (r : RowAnswer) → Row κs t q buffer after r
+    pub row-of : (κs : Lfts 2) (q : ℕ) (buffer after : BorrowedMut) (r : RowAnswer) → Row κs t q buffer after r
         → CountedIn 10 S.counted → 1 ≤ q → q ≤ length (rows_of T) → length (row_of T q) ≤ length buffer.now
         → (r ≡ row.Bytes (length (row_of T q))) × (after.now ≡ row_of T q ++ drop (length (row_of T q)) buffer.now)
 
   pub record RowRefuses : Type 0 where
     -- Byte 10 is not counted: 11, and the buffer is unchanged.
-    pub row_other : (κs : Lfts 2) (q : ℕ) (buffer after : Borrowed) (r : RowAnswer) → Row κs t q buffer after r
+    pub row_other : (κs : Lfts 2) (q : ℕ) (buffer after : BorrowedMut) (r : RowAnswer) → Row κs t q buffer after r
         → (CountedIn 10 S.counted → ⊥) → (r ≡ row.Refused 11) × (after.now ≡ buffer.now)
     -- No row of this number: 12, and the buffer is unchanged.
-    pub row_none : (κs : Lfts 2) (q : ℕ) (buffer after : Borrowed) (r : RowAnswer) → Row κs t q buffer after r
+    pub row_none : (κs : Lfts 2) (q : ℕ) (buffer after : BorrowedMut) (r : RowAnswer) → Row κs t q buffer after r
         → CountedIn 10 S.counted → (1 ≤ q → q ≤ length (rows_of T) → ⊥) → (r ≡ row.Refused 12) × (after.now ≡ buffer.now)
     -- A buffer that is too short: 13, and it is unchanged.
-    pub row_short : (κs : Lfts 2) (q : ℕ) (buffer after : Borrowed) (r : RowAnswer) → Row κs t q buffer after r → CountedIn 10 S.counted
+    pub row_short : (κs : Lfts 2) (q : ℕ) (buffer after : BorrowedMut) (r : RowAnswer) → Row κs t q buffer after r → CountedIn 10 S.counted
         → 1 ≤ q → q ≤ length (rows_of T) → length buffer.now < length (row_of T q) → (r ≡ row.Refused 13) × (after.now ≡ buffer.now)
 
   -- docs/FORMAT.md, "Places"
   pub record PlacesAnswers : Type 0 where
     -- A pattern of 1 to 256 bytes, whose places fit the table: all its places, rising, each once, at the table's start, with their number.
-    pub places-of : (κs : Lfts 3) (P table after : Borrowed) (r : PlacesAnswer) → Places κs t P table after r
+    pub places-of : (κs : Lfts 3) (P : Borrowed) (table after : BorrowedMut) (r : PlacesAnswer) → Places κs t P table after r
         → 1 ≤ length P.now → length P.now ≤ max_pattern → (ps : List ℕ) → ps ≡ places_in P.now T → length ps ≤ length table.now
         → AllPlaces P.now T ps × (r ≡ places.Number (length ps)) × (after.now ≡ ps ++ drop (length ps) table.now)
 
   pub record PlacesRefuses : Type 0 where
     -- A pattern of another length: 16, and the table is unchanged.
-    pub places_length : (κs : Lfts 3) (P table after : Borrowed) (r : PlacesAnswer) → Places κs t P table after r
+    pub places_length : (κs : Lfts 3) (P : Borrowed) (table after : BorrowedMut) (r : PlacesAnswer) → Places κs t P table after r
         → (1 ≤ length P.now → length P.now ≤ max_pattern → ⊥) → (r ≡ places.Refused 16) × (after.now ≡ table.now)
     -- A table that is too short: 17, and it is unchanged.
-    pub places_short : (κs : Lfts 3) (P table after : Borrowed) (r : PlacesAnswer) → Places κs t P table after r → 1 ≤ length P.now
+    pub places_short : (κs : Lfts 3) (P : Borrowed) (table after : BorrowedMut) (r : PlacesAnswer) → Places κs t P table after r → 1 ≤ length P.now
         → length P.now ≤ max_pattern → length table.now < length (places_in P.now T) → (r ≡ places.Refused 17) × (after.now ≡ table.now)
 
   -- docs/FORMAT.md, "Digest"
   pub record DigestAnswers : Type 0 where
     -- The text's SHA-256, in the first 32 bytes of the buffer.
-    pub digest_of : (κs : Lfts 2) (out after : Borrowed) (r : ℕ) → Digest κs t out after r → 32 ≤ length out.now
+    pub digest_of : (κs : Lfts 2) (out after : BorrowedMut) (r : ℕ) → Digest κs t out after r → 32 ≤ length out.now
         → (r ≡ 0) × (after.now ≡ sha256 T ++ drop 32 out.now)
 
   pub record DigestRefuses : Type 0 where
     -- A buffer that is too short: 13, and it is unchanged.
-    pub digest_short : (κs : Lfts 2) (out after : Borrowed) (r : ℕ) → Digest κs t out after r → length out.now < 32 → (r ≡ 13) × (after.now ≡ out.now)
+    pub digest_short : (κs : Lfts 2) (out after : BorrowedMut) (r : ℕ) → Digest κs t out after r → length out.now < 32 → (r ≡ 13) × (after.now ≡ out.now)
 
   -- docs/FORMAT.md, "Keys"
   pub record MatchAnswers : Type 0 where
@@ -212,19 +212,19 @@ module _ (t : Borrowed) (S : Settings) (T : List ℕ) where
   -- docs/FORMAT.md, "Columns before rows"
   pub record ColumnAnswers : Type 0 where
     -- T is a text by columns: row a of that text, all w bytes, at the buffer's start, the rest of the buffer unchanged.
-    pub column_of : (κs : Lfts 2) (w a : ℕ) (buffer after : Borrowed) (r : SpanAnswer) → ByColumns κs t w a buffer after r
+    pub column_of : (κs : Lfts 2) (w a : ℕ) (buffer after : BorrowedMut) (r : SpanAnswer) → ByColumns κs t w a buffer after r
         → width_ok w (length T) ≡ true → a < length T / w → w ≤ length buffer.now
         → (r ≡ span.Bytes w 0) × (after.now ≡ substring (uncolumns w T) (a * w) w ++ drop w buffer.now)
 
   pub record ColumnRefuses : Type 0 where
     -- Width 0, or the length of the text is no multiple of the width: 20, and the buffer is unchanged.
-    pub column_width : (κs : Lfts 2) (w a : ℕ) (buffer after : Borrowed) (r : SpanAnswer) → ByColumns κs t w a buffer after r
+    pub column_width : (κs : Lfts 2) (w a : ℕ) (buffer after : BorrowedMut) (r : SpanAnswer) → ByColumns κs t w a buffer after r
         → width_ok w (length T) ≡ false → (r ≡ span.Refused 20) × (after.now ≡ buffer.now)
     -- A row past the last: 10, and the buffer is unchanged.
-    pub column_past : (κs : Lfts 2) (w a : ℕ) (buffer after : Borrowed) (r : SpanAnswer) → ByColumns κs t w a buffer after r
+    pub column_past : (κs : Lfts 2) (w a : ℕ) (buffer after : BorrowedMut) (r : SpanAnswer) → ByColumns κs t w a buffer after r
         → width_ok w (length T) ≡ true → length T / w ≤ a → (r ≡ span.Refused 10) × (after.now ≡ buffer.now)
     -- A buffer that is too short: 13, and it is unchanged.
-    pub column_short : (κs : Lfts 2) (w a : ℕ) (buffer after : Borrowed) (r : SpanAnswer) → ByColumns κs t w a buffer after r
+    pub column_short : (κs : Lfts 2) (w a : ℕ) (buffer after : BorrowedMut) (r : SpanAnswer) → ByColumns κs t w a buffer after r
         → width_ok w (length T) ≡ true → a < length T / w → length buffer.now < w → (r ≡ span.Refused 13) × (after.now ≡ buffer.now)
 
   -- All questions together: T gives the answer to each.
@@ -311,7 +311,7 @@ AnyTree = (κs : Lfts 1) (t : Borrowed) → Check κs t 0 → (T : List ℕ) × 
 -- Demand 3, `build-accepts-exact-buffer`: build refuses no text, settings and buffer that pass questions 1 to 4.
 abbrev pub CompleteBuilder : Type 0
 CompleteBuilder =
-    (κs : Lfts 3) (text : Borrowed) (leaf arity levels : ℕ) (counted out after : Borrowed) (r : BuildAnswer)
+    (κs : Lfts 3) (text : Borrowed) (leaf arity levels : ℕ) (counted : Borrowed) (out after : BorrowedMut) (r : BuildAnswer)
     → Build κs text leaf arity levels counted out after r
     → length_ok (length text.now) ≡ true → sizes_ok (given leaf arity levels counted.now) ≡ true → counted_ok counted.now ≡ true
     → length (tree_of (given leaf arity levels counted.now) text.now) ≤ length out.now
@@ -321,7 +321,7 @@ CompleteBuilder =
 -- to every question.
 abbrev pub BuiltTree : Type 0
 BuiltTree =
-    (κs : Lfts 3) (text : Borrowed) (leaf arity levels : ℕ) (counted out after : Borrowed) (size : ℕ)
+    (κs : Lfts 3) (text : Borrowed) (leaf arity levels : ℕ) (counted : Borrowed) (out after : BorrowedMut) (size : ℕ)
     → Build κs text leaf arity levels counted out after (build.Size size) → (t : Borrowed) → t.now ≡ take size after.now
     → (t.now ≡ tree_of (given leaf arity levels counted.now) text.now) × ((κ : Lfts 1) (r : ℕ) → Check κ t r → r ≡ 0)
     × OnlyText t (given leaf arity levels counted.now) text.now
@@ -329,7 +329,7 @@ BuiltTree =
 -- Demands 2 and 3, `scanned-tree`: the same for build_scanned, and the number of windows that it returns is that of the text.
 abbrev pub ScannedTree : Type 0
 ScannedTree =
-    (κs : Lfts 4) (text : Borrowed) (leaf arity levels : ℕ) (counted words table out after : Borrowed) (size windows : ℕ)
+    (κs : Lfts 4) (text : Borrowed) (leaf arity levels : ℕ) (counted : Borrowed) (words table out after : BorrowedMut) (size windows : ℕ)
     → BuildScanned κs text leaf arity levels counted words table out after (build-scanned.Size size windows) → (t : Borrowed) → t.now ≡ take size after.now
     → (windows ≡ windows_of (given leaf arity levels counted.now) text.now)
     × (t.now ≡ tree_of (given leaf arity levels counted.now) text.now) × ((κ : Lfts 1) (r : ℕ) → Check κ t r → r ≡ 0)

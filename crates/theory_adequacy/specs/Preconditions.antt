@@ -4,17 +4,16 @@ use Rattle.std.specs.Prelude.{List, [], ◌∷◌, ◌≡◌}
 use seplogic.Ra.Ura.{Ura}
 use base.Logic.{SProp, emp}
 use prog.Memory.{Memory}
-use prog.Routine.{Routine}
-use prog.Model.{Model}
+use prog.Routine.{Routine, Callee}
+use prog.Wired.{Code}
 use types.Logic.{Logic}
 use ghost.Model as Closed
 use contract.Lifetimes.{Lfts}
 use contract.Monad.{Fun}
-use contract.Running.{Running}
 use denote.Signature.{Signature}
 use denote.Triple.Entry.{Args}
-use denote.Triple.Spec.{Spec, Meets}
-use Rattle.theory_adequacy.specs.TotalCorrectness.{Function, TotallyCorrect, ends}
+use denote.Triple.Spec.{Spec}
+use Rattle.theory_adequacy.specs.TotalCorrectness.{Function, MeetsContract, TotallyCorrect, ends}
 
 -- No precondition: the contract requires nothing of a caller, for any lifetimes and arguments.
 abbrev pub NoPrecondition : Function → Type 2
@@ -30,19 +29,15 @@ pub record Call : Type 2 where
   pub asks_nothing : NoPrecondition function
 
 -- A call is made of the theorem that the function meets its contract.
-abbrev pub call : (f : Function)
-    → ((𝓤 : Ura Closed.Res) (𝓛 : Logic 𝓤) (𝓜 : Model 𝓤 𝓛.H) (𝓡 : Running 𝓤 𝓛.H 𝓜)
-    → Meets 𝓛 f.signature (𝓡.run f.routine) (f.clauses 𝓤 𝓛 𝓜.mem 𝓡.run))
-    → NoPrecondition f → Call
+abbrev pub call : (f : Function) → MeetsContract f → NoPrecondition f → Call
 call f met nothing = record { function = f; ends = ends f met; asks_nothing = nothing }
 
 -- The same for a function given by its parts, as the modules of its crate define them.
-abbrev pub call_of : (r : Routine) (s : Signature)
+abbrev pub call_of : (code : Code) (name : Callee) (s : Signature)
     (clauses : (𝓤 : Ura Closed.Res) (𝓛 : Logic 𝓤) → (Memory → SProp 𝓤) → (Routine → Fun 𝓤) → Spec 𝓤 s)
-    → ((𝓤 : Ura Closed.Res) (𝓛 : Logic 𝓤) (𝓜 : Model 𝓤 𝓛.H) (𝓡 : Running 𝓤 𝓛.H 𝓜)
-    → Meets 𝓛 s (𝓡.run r) (clauses 𝓤 𝓛 𝓜.mem 𝓡.run))
-    → NoPrecondition (record { routine = r; signature = s; clauses = clauses }) → Call
-call_of r s clauses met nothing = call (record { routine = r; signature = s; clauses = clauses }) met nothing
+    → MeetsContract (record { code = code; name = name; signature = s; clauses = clauses })
+    → NoPrecondition (record { code = code; name = name; signature = s; clauses = clauses }) → Call
+call_of code name s clauses met nothing = call (record { code = code; name = name; signature = s; clauses = clauses }) met nothing
 
 -- It holds of each of some calls.
 abbrev pub Each : (Function → Type 2) → List Call → Type 2

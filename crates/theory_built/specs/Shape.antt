@@ -8,7 +8,8 @@ use Rattle.std.proofs.Math.ListN.{length, get_or-append}
 use Rattle.std.proofs.lemmas.List.{length-replicate}
 use Rattle.format.specs.Layout.{word_at, words_bytes, Settings, max_levels, max_counted, counted_at, pairs_at, header_length}
 use Rattle.format.specs.Blocks.{tree_of, header, leaf_bytes, level_pairs, built_layout}
-use Rattle.format.specs.WordLaws.{word-at, length-words}
+use Rattle.format.specs.WordLaws.{length-words}
+use Rattle.format.proofs.WordTheorems.{word-at}
 use Rattle.theory_built.specs.Pairs.{level_words_of, offset, length-level_words_of}
 use Rattle.theory_built.specs.BuiltRecords.{records, length-records}
 use Rattle.theory_built.specs.BlockSizes.{Taken, BuiltBounds, bounds}

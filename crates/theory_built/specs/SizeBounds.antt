@@ -4,7 +4,7 @@ use Rattle.std.proofs.Common.{arith, length-take, length-drop}
 use Rattle.std.proofs.Math.Nat.{mul-le-mul_right}
 use Rattle.std.proofs.Math.Dec.{leb}
 use Rattle.text.specs.Text.{sum_below, count_below, substring, count_in}
-use Rattle.text.specs.CountLaws as text
+use Rattle.text.proofs.CountTheorems as text
 use Rattle.format.specs.Layout.{Settings}
 use Rattle.format.specs.SizeLaws.{record-edged}
 use Rattle.format.specs.Blocks.{target, record_bytes, built_layout}

@@ -6,7 +6,7 @@ use native.Mathlib.Omega.{arith}
 use Rattle.text.specs.ListLaws.{sum_below-part}
 use Rattle.text.specs.Text.{substring, count_in}
 use Rattle.text.specs.TextLaws.{substring-ext}
-use Rattle.text.specs.CountLaws.{count_add, count_none, count-substring-le}
+use Rattle.text.proofs.CountTheorems.{count_add, count_none, count-substring-le}
 use Rattle.format.specs.LayoutLaws.{Readable}
 use Rattle.format.specs.Layout as at
 use Rattle.format.specs.TreeReading.{width_at, text_of}

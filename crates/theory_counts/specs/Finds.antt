@@ -10,7 +10,8 @@ use Rattle.std.proofs.Math.Nat.{add-mul, one-mul, mul-le-mul_right}
 use Rattle.std.proofs.Math.Arith.{digits_div, digits_mod}
 use Rattle.text.specs.ListLaws.{lt-or-ge}
 use Rattle.text.specs.Text.{substring, count_in, place_of}
-use Rattle.text.specs.CountLaws.{count-whole, count-mono, Nth, nth-earlier, nth-later, nth_past, nth-before, nth-place}
+use Rattle.text.specs.CountLaws.{Nth}
+use Rattle.text.proofs.CountTheorems.{count-whole, count-mono, nth-earlier, nth-later, nth_past, nth-before, nth-place}
 use Rattle.format.specs.Layout.{pieces}
 use Rattle.format.specs.PieceLaws.{pieces-cover, pieces-start}
 use Rattle.format.specs.LayoutLaws.{Readable, full-pos}

@@ -8,7 +8,7 @@ use Rattle.std.proofs.Math.Nat.{div-add-mod'}
 use borrow.Author.Tests.{eqb-true, eq-eqb, ne_eqb, lt-ltb, le-ltb, le-leb, ltb-true}
 use Rattle.text.specs.ListLaws.{bool_cases, bool_clash, lt-or-ge, and_right}
 use Rattle.text.specs.Text.{count_in}
-use Rattle.text.specs.CountLaws.{count-start, count-nil}
+use Rattle.text.proofs.CountTheorems.{count-start, count-nil}
 use Rattle.format.specs.LayoutLaws.{Readable, header-facts, full-pos, level0-holds}
 use Rattle.format.specs.Layout as at
 use Rattle.format.specs.TreeReading.{Path, Visit, visit, is_kept_block, target_block, target_place, path_of, text_of, header_result}

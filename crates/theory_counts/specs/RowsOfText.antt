@@ -4,7 +4,8 @@ use Rattle.std.proofs.Common.{sym, ap, ◌∙◌, inl, inr, arith}
 use borrow.Author.Tests.{leb-true, lt-ltb}
 use Rattle.text.specs.ListLaws.{bool_cases, bool_clash, and_left, and_right, lt-or-ge}
 use Rattle.text.specs.Text.{count_in, rows_of}
-use Rattle.text.specs.RowLaws.{ends_open, rows-count}
+use Rattle.text.specs.RowLaws.{ends_open}
+use Rattle.text.proofs.RowTheorems.{rows-count}
 use Rattle.format.specs.Layout as at
 use Rattle.format.specs.TreeReading.{text_of, ask, check_result, header_result}
 use Rattle.format.specs.CheckResultLaws.{accepted-header, accepted-links}

@@ -3,7 +3,8 @@
 use Rattle.std.specs.Prelude.{List, true, cond, ◌≡◌, ℕ, ◌+◌, ◌-◌, ◌≤◌, ◌<◌, take, eqb}
 use Rattle.std.proofs.Common.{arith}
 use Rattle.text.specs.Text.{count_in, place_of}
-use Rattle.text.specs.CountLaws.{Nth, place-nth}
+use Rattle.text.specs.CountLaws.{Nth}
+use Rattle.text.proofs.CountTheorems.{place-nth}
 use Rattle.format.specs.Layout as at
 use Rattle.format.specs.TreeReading.{path_of, links_ok, text_of, counts_true, header_result, check_result}
 use Rattle.format.specs.CheckResultLaws.{accepted-header, accepted-links, accepted-counts}

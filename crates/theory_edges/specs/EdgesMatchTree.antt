@@ -7,7 +7,8 @@ use Rattle.text.specs.Text.{all_below, substring}
 use Rattle.text.specs.ListLaws.{lt-or-ge, or_right, all_below-at, all_below-make, same_list-true, eq-same_list}
 use Rattle.text.specs.TextLaws.{length-substring, get_or-substring}
 use Rattle.format.specs.Layout.{edges_of}
-use Rattle.format.specs.EdgeLaws.{length-edges, first-own, first-none, last-own, last_none}
+use Rattle.format.specs.EdgeLaws.{length-edges}
+use Rattle.format.proofs.EdgeTheorems.{first-own, first-none, last-own, last_none}
 use Rattle.format.specs.Layout as at
 use Rattle.format.specs.TreeReading.{block_edges_true, edges_true}
 use Rattle.theory_paths.specs.Links.{H, N, s, len}

@@ -1,5 +1,6 @@
 use Prim.Native.Nat.{ℕ, ◌-◌}
 use lib.ListN.{length-set}
+use mathlib.Core.List.{[]}
 use mathlib.Core.Path.{◌≡◌, refl, ap, ◌∙◌}
 use native.Mathlib.Omega.{arith}
 use Rattle.byte_slices.proofs.ByteSliceLaws.{bytes-more}

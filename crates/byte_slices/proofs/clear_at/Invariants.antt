@@ -1,5 +1,6 @@
 use Prim.Native.Nat.{◌≤◌, ◌-◌}
 use lib.ListN.{length}
+use mathlib.Core.List.{[]}
 use mathlib.Core.Path.{◌≡◌}
 use Rattle.byte_slices.specs.ByteSlices.{bytes_written}
 use Rattle.byte_slices.proofs.clear_at.Given as goal

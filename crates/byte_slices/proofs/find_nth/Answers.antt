@@ -1,7 +1,7 @@
 use Prim.Native.Nat.{◌-◌}
 use native.Mathlib.Omega.{arith}
 use Rattle.byte_slices.proofs.ByteSliceLaws as laws
-use Rattle.text.specs.CountLaws.{count_none}
+use Rattle.text.proofs.CountTheorems.{count_none}
 use Rattle.byte_slices.proofs.find_nth.Goals as goal
 
 pub loop-left-init : goal.loop-left-init

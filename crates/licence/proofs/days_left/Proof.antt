@@ -30,4 +30,4 @@ days-left-spec =
     let today = good-is _ _ n.before.before.read2.ensures _ n.now.given.1 in
     left-days _ _ last.0 today.0 _ _
     (c.before.before.number.ensures.0 ∙ ap day_number last.1) (c.before.number2.ensures.0 ∙ ap day_number today.1) _
-    (to_z-of_z w32 _ (record { sfits = c.difference.type-inv }) ∙ c.difference.ensures)))
+    (to_z-of_z w32 _ (record { sfits = c.difference.type_inv }) ∙ c.difference.ensures)))

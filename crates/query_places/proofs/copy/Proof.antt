@@ -18,9 +18,9 @@ copy_spec =
     tie.close
     (tie.spec invariant-loop decreases-loop
     (λ c. (omega arith, refl, refl))
-    (λ c. omega (arith, c.before.before.requires.0, c.before.before.well-formed.0.1))
+    (λ c. omega (arith, c.before.before.requires.0, c.before.before.well_formed.0.1))
     (λ c. omega (arith, c.before.before.before.requires.0))
-    (λ c. omega (arith, c.before.before.before.requires.0, c.before.before.before.well-formed.0.1))
+    (λ c. omega (arith, c.before.before.before.requires.0, c.before.before.before.well_formed.0.1))
     (λ c. omega (arith, c.before.before.before.requires.1, c.before.before.loop.invariant.1))
     (λ c. omega arith)
     (λ c. omega arith)

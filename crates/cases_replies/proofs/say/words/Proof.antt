@@ -16,7 +16,7 @@ words-spec =
     tie.close
     (tie.spec invariant-loop decreases-loop
     (λ c. search rules)
-    (λ c. omega (arith, c.before.before.before.well-formed.0.1))
+    (λ c. omega (arith, c.before.before.before.well_formed.0.1))
     (λ c. search rules)
     (λ c κs. search rules)
     (λ c. search rules)

@@ -29,7 +29,7 @@ copy-range-spec =
     (λ c. c.before.before.before.before.before.loop.invariant.1)
     (λ c. absurd (laws.run-not-refused _ _ _ _ c.before.before.before.byte-on.ensures c.before.enum_told.given.1))
     (λ c. let s = c.before.before.before.before.before.before.before.before in
-    omega (arith, s.requires.1, s.well-formed.1.1.1.0.1))
+    omega (arith, s.requires.1, s.well_formed.1.1.1.0.1))
     (λ c. let l = c.before.before.before.before.before in
     omega (arith, l.before.before.before.requires.1, l.loop.invariant.1))
     (λ c. omega arith)

@@ -15,9 +15,9 @@ compare-runs-spec =
     laws.compare-differs _ _ _ _ _ n.before.before.before.requires.0
     _ n.min.ensures _ c.before.before.agree.ensures c.before.if1.true _ c.by_byte.ensures)
     (λ c κs. let n = c.before.before in
-    laws.rest-inside _ _ _ _ _ n.before.before.before.requires.0 _ n.min.ensures n.before.before.before.well-formed.0.0)
+    laws.rest-inside _ _ _ _ _ n.before.before.before.requires.0 _ n.min.ensures n.before.before.before.well_formed.0.0)
     (λ c κs. let n = c.before.before.before in
-    laws.rest-inside-2 _ _ _ _ _ n.before.before.before.requires.0 _ n.min.ensures n.before.before.before.well-formed.1.1.0.0)
+    laws.rest-inside-2 _ _ _ _ _ n.before.before.before.requires.0 _ n.min.ensures n.before.before.before.well_formed.1.1.0.0)
     (λ c. let n = c.before.before.before.before in omega (arith, laws.place-small _ _ _ _ _ n.before.before.before.requires.0 _ n.min.ensures))
     (λ c. let n = c.before.before.before.before.before in
     omega (arith, laws.place-small _ _ _ _ _ n.before.before.before.requires.0 _ n.min.ensures))

@@ -97,7 +97,7 @@ add-link-2 c =
         (start turn).requires.3,
         b-small _ _ _ _ k,
         width_low turn,
-        (at-link turn).link.type-inv.1.1.0.1,
+        (at-link turn).link.type_inv.1.1.0.1,
       );
     }
 

@@ -1,0 +1,2 @@
+pub mod WordTheorems
+pub mod EdgeTheorems

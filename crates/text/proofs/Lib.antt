@@ -1,0 +1,2 @@
+pub mod CountTheorems
+pub mod RowTheorems
