@@ -1,5 +1,7 @@
 // Runs the cases on standard input: each line is copied, and a question's is followed by ` => ` and the answer, or by what is wrong with
 // the line. The lines are those of the cases file of an independent model; the file stdout has that model's answers.
+#![tactic(auto)]
+
 mod ask;
 mod beside;
 mod guide_cases;

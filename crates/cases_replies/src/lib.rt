@@ -1,5 +1,7 @@
 // Prints the library's answers in the format of the cases: ` => `, the refusal or 0, the figures, and the contents of
 // a buffer in hexadecimal.
+#![tactic(auto)]
+
 pub mod column_replies;
 pub mod digest_replies;
 pub mod guide_replies;

@@ -5,8 +5,7 @@ use mathlib.Core.Path.{◌≡◌, refl, sym, ap, ◌∙◌}
 use Prim.Native.Nat.{ℕ, zero, suc, ◌+◌, ◌-◌, ◌≤◌, ◌<◌}
 use native.Mathlib.Omega.{arith}
 use lib.ListN.{length, drop, drop_of_length-le}
-use Rattle.bytes.specs.Bytes.{index_of}
-use Rattle.cases_tokens.specs.Parts.{front, rest, token_of, Past}
+use Rattle.cases_tokens.specs.Parts.{index_of, front, rest, token_of, Past}
 use Rattle.cases_script.specs.NameLine.{gives_bytes, gives_name, giving_from, giving_line}
 use Rattle.cases_script.proofs.LineWordsLaws.{word-matches}
 

@@ -1,4 +1,6 @@
 // Cases written as lines: the question of each line, and the bytes of the texts and trees that lines name.
+#![tactic(auto)]
+
 mod given_bytes;
 mod line_words;
 mod name_line;

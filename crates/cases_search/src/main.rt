@@ -1,5 +1,7 @@
 // The search on worked texts, on fingerprints that collide, and out of range. Each line is an
 // answer; the file stdout has what is expected.
+#![tactic(auto)]
+
 use search::{Fingerprint, Occurrence};
 use text::TextPlace;
 

@@ -1,26 +1,55 @@
 -- Laws of bytes cut at a byte, for the proofs of `parts`.
 use mathlib.Core.List.{List}
 use mathlib.Core.Bool.{Bool, true, false}
+use Rattle.std.specs.Prelude.{Option, Some, None, cond, ltb, not, position}
+use Rattle.std.specs.List.{position_or_len}
+use Rattle.std.proofs.lemmas.List.Sums.{prefix_len-le-length}
 use mathlib.Core.Path.{◌≡◌, refl, sym, ap, ◌∙◌}
 use Prim.Native.Nat.{ℕ, ◌+◌, ◌-◌, ◌≤◌, ◌<◌}
 use native.Mathlib.Numerals.{add-one}
 use native.Mathlib.Omega.{arith}
 use lib.ListN.{length, take, drop, length-drop, drop_of_length-le}
-use lib.Seq.{take-length, drop-drop}
+use lib.Seq.{drop-drop}
+use Rattle.std.proofs.Common.{take_all}
 use lib.Dec.{eqb}
-use borrow.Author.Tests.{eqb-true, eqb-false, eq-eqb, ne_eqb}
-use Rattle.bytes.specs.Bytes.{index_of, slice}
-use Rattle.cases_tokens.specs.Parts.{front, rest, after, token_of, Past, Start}
+use borrow.Author.Tests.{ltb-false, eqb-true, eqb-false, eq-eqb, ne_eqb}
+use Rattle.cases_tokens.specs.Parts.{index_of, front, rest, after, token_of, Past, Start}
 
-token-whole : (s : List ℕ) (at : ℕ) → slice at (length s) s ≡ drop at s
-unfolding slice
-token-whole s at = ap (λ (l : List ℕ). drop at l) (take-length s)
+-- the first place in a list where a test holds, or none
+place-some : (n k l : ℕ) (t : Bool) → ltb n l ≡ t → Some k ≡ cond t (Some n) None → k ≡ n
+place-some n k l true e h = cc
+place-some n k l false e h = absurd (let z : ⊥ = cc in z)
+
+place-none : (n l : ℕ) (t : Bool) → ltb n l ≡ t → None ≡ cond t (Some n) None → l ≤ n
+place-none n l true e h = absurd (let z : ⊥ = cc in z)
+place-none n l false e h = ltb-false n l e
+
+-- where `stop` is found in the bytes from `at` on
+module _ (s : List ℕ) (at stop : ℕ) where
+  whole : take (length s - at) (drop at s) ≡ drop at s
+  whole = take_all (length s - at) (drop at s) (simp length-drop (omega arith))
+
+  first-is : (r : Option ℕ) → r ≡ position (λ b. eqb b stop) (take (length s - at) (drop at s)) → r ≡ position (λ b. eqb b stop) (drop at s)
+  first-is r h = h ∙ ap (λ (l : List ℕ). position (λ b. eqb b stop) l) whole
+
+  pub found-some : (r : Option ℕ) (k : ℕ) → r ≡ position (λ b. eqb b stop) (take (length s - at) (drop at s)) → r ≡ Some k
+      → at + k ≡ at + index_of stop (drop at s)
+  unfolding index_of
+  found-some r k h e =
+      ap (λ (n : ℕ). at + n)
+      (place-some _ k _ (ltb (position_or_len (λ b. eqb b stop) (drop at s)) (length (drop at s))) refl (sym e ∙ first-is r h))
+
+  pub found-none : (r : Option ℕ) → at ≤ length s → r ≡ position (λ b. eqb b stop) (take (length s - at) (drop at s)) → r ≡ None
+      → length s ≡ at + index_of stop (drop at s)
+  unfolding index_of
+  found-none r g h e =
+      let l : length (drop at s) ≤ position_or_len (λ b. eqb b stop) (drop at s) =
+      place-none _ _ (ltb (position_or_len (λ b. eqb b stop) (drop at s)) (length (drop at s))) refl (sym e ∙ first-is r h)
+      in
+      omega (arith, l, length-drop at s, prefix_len-le-length (λ b. not (eqb b stop)) (drop at s))
 
 -- e is where `stop` was found from `at` on
-module _ (s : List ℕ) (at stop e : ℕ) (found : e ≡ at + index_of stop (slice at (length s) s)) where
-  place : e ≡ at + index_of stop (drop at s)
-  place = found ∙ ap (λ (l : List ℕ). at + index_of stop l) (token-whole s at)
-
+module _ (s : List ℕ) (at stop e : ℕ) (place : e ≡ at + index_of stop (drop at s)) where
   pub until-is : take (e - at) (drop at s) ≡ front stop (drop at s)
   unfolding front
   until-is =

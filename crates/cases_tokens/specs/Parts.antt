@@ -1,6 +1,10 @@
 -- Bytes cut at a byte: lines at byte 10, the tokens of a line at byte 32.
-use Rattle.std.specs.Prelude.{List, ◌≡◌, ℕ, zero, suc, ◌+◌, ◌≤◌, ◌<◌, length, take, drop}
-use Rattle.bytes.specs.Bytes.{index_of}
+use Rattle.std.specs.Prelude.{List, ◌≡◌, ℕ, zero, suc, ◌+◌, ◌≤◌, ◌<◌, length, take, drop, eqb}
+use Rattle.std.specs.List.{position_or_len}
+
+-- The place of the first `stop`, or the number of bytes.
+unfoldable pub index_of : ℕ → List ℕ → ℕ
+index_of stop s = position_or_len (λ b. eqb b stop) s
 
 -- The bytes before the first `stop`, or all bytes.
 unfoldable pub front : ℕ → List ℕ → List ℕ

@@ -1,4 +1,6 @@
 // Lines of text cut into tokens, and the value of a token: a number, or bytes in hexadecimal.
+#![tactic(auto)]
+
 pub mod decimal;
 pub mod hexadecimal;
 mod parts;

@@ -1,13 +1,32 @@
 // Parts of a slice: a line has the bytes before the next byte 10, a token those before the next byte 32.
-ghost use Rattle.std.specs.Prelude.{◌≡◌, ◌≤◌, length, drop, eqb};
-ghost use Rattle.cases_tokens.specs.Parts.{front, Past, Start, after, token_of};
+ghost use Rattle.std.specs.Prelude.{◌≡◌, ◌+◌, ◌≤◌, length, drop, position, eqb};
+ghost use Rattle.cases_tokens.specs.Parts.{index_of, front, Past, Start, after, token_of};
+
+// The place of the first byte `stop`.
+fn first(s: &[u8], stop: u8) -> Option<usize>
+    ensures { result ≡ position (λ b. eqb b stop) s.now }
+{
+    s.iter().position(|b| *b == stop)
+}
+
+// The place of the next byte `stop` from `at` on, or the end.
+fn find(s: &[u8], at: usize, stop: u8) -> usize
+    requires { at ≤ length s.now }
+    ensures value { result ≡ at + index_of stop (drop at s.now) }
+    ensures upper_bound { result ≤ length s.now }
+{
+    match first(&s[at..], stop) {
+        Some(k) => at + k,
+        None => s.len(),
+    }
+}
 
 // The bytes from `at` on before the next byte `stop`, or to the end.
 pub fn until(s: &[u8], at: usize, stop: u8) -> &[u8]
     requires { at ≤ length s.now }
     ensures { result.now ≡ front stop (drop at s.now) }
 {
-    let end = bytes::scan::find(s, at, s.len(), stop);
+    let end = find(s, at, stop);
     &s[at..end]
 }
 
@@ -16,7 +35,7 @@ pub fn past(s: &[u8], at: usize, stop: u8) -> usize
     requires { at ≤ length s.now }
     ensures { Past s.now at stop result }
 {
-    let end = bytes::scan::find(s, at, s.len(), stop);
+    let end = find(s, at, stop);
     if end < s.len() {
         return end + 1;
     }

@@ -1,4 +1,6 @@
 // The list program.
+#![tactic(auto)]
+
 fn main() {
     list_run::run();
 }

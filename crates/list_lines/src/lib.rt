@@ -1,4 +1,6 @@
 // The list program: its questions, its lines and what it prints.
+#![tactic(auto)]
+
 mod kinds;
 mod put;
 

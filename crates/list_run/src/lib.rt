@@ -1,5 +1,6 @@
 // The list program: standard input is checked as a tree; for each level a line with level, blocks, kept and pointing blocks, or the
 // number of the question that refuses the input.
+#![tactic(auto)]
 
 // One byte more than the longest tree.
 const ROOM: usize = list_lines::MAX_INPUT + 1;

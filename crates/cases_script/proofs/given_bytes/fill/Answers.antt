@@ -1,0 +1,29 @@
+use borrow.Author.Fill.{fill_none, fill_more}
+use lib.ListN.{length, replicate, length-set}
+use lib.Seq.{drop-length}
+use mathlib.Core.List.{append-nil}
+use mathlib.Core.Path.{◌≡◌, refl, ◌∙◌}
+use native.Mathlib.Omega.{arith}
+use Rattle.cases_script.proofs.given_bytes.fill.Goals as goal
+
+pub loop-i-init : goal.loop-i-init
+loop-i-init c = (omega arith, refl, fill_none c.args.out.now c.args.byte)
+
+pub bounds-out-i : goal.bounds-out-i
+bounds-out-i c = omega arith
+
+pub overflow_add-i : goal.overflow_add-i
+overflow_add-i c = omega arith
+
+pub loop-i-smaller : goal.loop-i-smaller
+loop-i-smaller c = omega arith
+
+pub loop-i-preserved : goal.loop-i-preserved
+loop-i-preserved c = (omega arith, simp length-set c.loop-i.invariant.1, rw c.loop-i.invariant.2 (fill_more c.loop-i.i c.args.byte c.args.out.now (omega arith)))
+
+pub shape_of-out : goal.shape_of-out
+shape_of-out c = c.loop-i.invariant.1
+
+pub returns : goal.returns
+returns c = let e : c.loop-i.i ≡ length c.args.out.now = omega arith in
+    c.loop-i.invariant.2 ∙ rw (e, drop-length c.args.out.now) (append-nil (replicate (length c.args.out.now) c.args.byte))
