@@ -103,7 +103,7 @@ module _ (t : Bor (List ℕ)) (pass : header_result t.now ≡ 0) (links : links_
     pub some_byte : 1 ≤ size
     pub in_text : p + size ≤ at.text_length t.now
     pub in_tree : from + size ≤ length t.now
-    pub place : r.ref_ptr ≡ (t.ptr.0, t.ptr.1 + from)
+    pub place : r.ref_ptr ≡ (t.ref_ptr.0, t.ref_ptr.1 + from)
     pub of_tree : r.now ≡ take size (drop from t.now)
     pub of_text : r.now ≡ substring (text_of t.now) p size
 
