@@ -8,7 +8,7 @@ use mathlib.Core.Path.{◌≡◌, ap, ◌∙◌}
 use Prim.Native.Nat.{ℕ, suc, ◌+◌, ◌-◌, ◌*◌, ◌≤◌, ◌<◌}
 use native.Mathlib.Omega.{arith}
 use contract.Lifetimes.{Lfts}
-use denote.Ref.{Bor}
+use denote.Ref.{Bor, MutBor}
 use lib.ListN.{length, get_or, take, drop}
 use Rattle.text.specs.Text.{substring}
 use Rattle.text.specs.declared.TextPlace.{TextPlace}
@@ -38,7 +38,7 @@ abbrev pub Run : (κs : Lfts 1) → Bor (List ℕ) → TextPlace → Bor (List �
 Run κs t p r = run-reads.Post κs (t, (p, tt)) r (t, (p, tt))
 
 -- The contract of `span`; `after` is the buffer after the call.
-abbrev pub Span : (κs : Lfts 2) → Bor (List ℕ) → TextPlace → ℕ → Bor (List ℕ) → Bor (List ℕ) → SpanAnswer → Type 0
+abbrev pub Span : (κs : Lfts 2) → Bor (List ℕ) → TextPlace → ℕ → MutBor (List ℕ) → MutBor (List ℕ) → SpanAnswer → Type 0
 Span κs t p len buffer after r = span-reads.Post κs (t, (p, (len, (buffer, tt)))) r (t, (p, (len, (after, tt))))
 
 -- The answer in each case.
