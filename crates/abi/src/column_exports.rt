@@ -6,8 +6,7 @@ ghost use Rattle.query_columns.specs.ColumnRows.{row_by_columns_refusal, row_by_
 use query_access::SpanAnswer;
 
 // Rearranges a text of rows of `width` bytes, end byte included, by columns.
-#[unsafe(no_mangle)]
-pub extern "C" fn bt_to_columns(text: &[u8], width: u32, out: &mut [u8]) -> u32
+pub fn bt_to_columns(text: &[u8], width: u32, out: &mut [u8]) -> u32
     ensures value { result ≡ columns_refusal width text.now out.old }
     ensures out_after { out.new ≡ columns_buffer width text.now out.old }
 {
@@ -15,8 +14,7 @@ pub extern "C" fn bt_to_columns(text: &[u8], width: u32, out: &mut [u8]) -> u32
 }
 
 // Rearranges a text by columns back to rows.
-#[unsafe(no_mangle)]
-pub extern "C" fn bt_from_columns(text: &[u8], width: u32, out: &mut [u8]) -> u32
+pub fn bt_from_columns(text: &[u8], width: u32, out: &mut [u8]) -> u32
     ensures value { result ≡ columns_refusal width text.now out.old }
     ensures out_after { out.new ≡ uncolumns_buffer width text.now out.old }
 {
@@ -24,8 +22,7 @@ pub extern "C" fn bt_from_columns(text: &[u8], width: u32, out: &mut [u8]) -> u3
 }
 
 // Copies row a, from 0, of the original text from the tree of a text by columns.
-#[unsafe(no_mangle)]
-pub extern "C" fn bt_row_by_columns(tree: &[u8], width: u32, a: u32, buffer: &mut [u8]) -> u32
+pub fn bt_row_by_columns(tree: &[u8], width: u32, a: u32, buffer: &mut [u8]) -> u32
     ensures value { result ≡ row_by_columns_refusal tree.now width a (length buffer.old) }
     ensures buffer_after { buffer.new ≡ row_by_columns_buffer tree.now width a buffer.old }
 {

@@ -7,8 +7,7 @@ use query_compare::CompareAnswer;
 
 // Compares two trees: the order of the first text (1 before, 2 same, 3 after), the length of the longest common prefix, and which tree comes first (1 or 2; 1
 // if the texts are equal).
-#[unsafe(no_mangle)]
-pub extern "C" fn bt_compare(
+pub fn bt_compare(
     one: &[u8],
     other: &[u8],
     order: &mut u32,

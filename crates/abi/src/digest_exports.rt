@@ -4,8 +4,7 @@ ghost use Rattle.sha256.specs.Sha256.{digest_text_refusal, digest_text_buffer};
 ghost use Rattle.query_digest.specs.Digest.{digest_refusal, digest_buffer};
 
 // Writes the SHA-256 of a tree's text to the first 32 bytes of `out`.
-#[unsafe(no_mangle)]
-pub extern "C" fn bt_digest(tree: &[u8], out: &mut [u8]) -> u32
+pub fn bt_digest(tree: &[u8], out: &mut [u8]) -> u32
     ensures value { result ≡ digest_refusal tree.now (length out.old) }
     ensures out_after { out.new ≡ digest_buffer tree.now out.old }
 {
@@ -13,8 +12,7 @@ pub extern "C" fn bt_digest(tree: &[u8], out: &mut [u8]) -> u32
 }
 
 // Writes the SHA-256 of a text to the first 32 bytes of `out`.
-#[unsafe(no_mangle)]
-pub extern "C" fn bt_digest_text(text: &[u8], out: &mut [u8]) -> u32
+pub fn bt_digest_text(text: &[u8], out: &mut [u8]) -> u32
     ensures value { result ≡ digest_text_refusal (length out.old) }
     ensures out_after { out.new ≡ digest_text_buffer text.now out.old }
 {

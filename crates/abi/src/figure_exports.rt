@@ -11,16 +11,14 @@ use query_places::PlacesWordsAnswer;
 use query_rows::{RowCountAnswer, RowLengthAnswer};
 
 // The version as one number.
-#[unsafe(no_mangle)]
-pub extern "C" fn bt_version() -> u32
+pub fn bt_version() -> u32
     ensures { result ≡ version_number }
 {
     query_info::version()
 }
 
 // Writes the figures of a tree, in order.
-#[unsafe(no_mangle)]
-pub extern "C" fn bt_info(tree: &[u8], figures: &mut [u64; query_info::FIGURES]) -> u32
+pub fn bt_info(tree: &[u8], figures: &mut [u64; query_info::FIGURES]) -> u32
     ensures value { result ≡ header_result tree.now }
     ensures figures_after { figures.new ≡ info_buffer tree.now }
 {
@@ -28,8 +26,7 @@ pub extern "C" fn bt_info(tree: &[u8], figures: &mut [u64; query_info::FIGURES])
 }
 
 // The number of rows.
-#[unsafe(no_mangle)]
-pub extern "C" fn bt_row_count(tree: &[u8], rows: &mut u64) -> u32
+pub fn bt_row_count(tree: &[u8], rows: &mut u64) -> u32
     ensures { answer_with result rows.new 0 ≡ row_count_answer tree.now }
 {
     let count = query_rows::row_count(tree);
@@ -40,8 +37,7 @@ pub extern "C" fn bt_row_count(tree: &[u8], rows: &mut u64) -> u32
 }
 
 // The length of row q.
-#[unsafe(no_mangle)]
-pub extern "C" fn bt_row_length(tree: &[u8], q: u32, len: &mut u32) -> u32
+pub fn bt_row_length(tree: &[u8], q: u32, len: &mut u32) -> u32
     ensures { RowLengthAnswers tree.now q result len.new }
 {
     let length = query_rows::row_length(tree, q);
@@ -52,8 +48,7 @@ pub extern "C" fn bt_row_length(tree: &[u8], q: u32, len: &mut u32) -> u32
 }
 
 // The number of words that are enough for all places of any pattern of `len` bytes.
-#[unsafe(no_mangle)]
-pub extern "C" fn bt_places_words(tree: &[u8], len: u32, words: &mut u32) -> u32
+pub fn bt_places_words(tree: &[u8], len: u32, words: &mut u32) -> u32
     ensures { answer_with result words.new 0 ≡ places_words_answer tree.now len }
 {
     let room = query_places::places_words(tree, len);

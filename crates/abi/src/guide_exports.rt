@@ -11,8 +11,7 @@ use crate::figures::{put_next_row, put_row, put_u32, put_words};
 use query_guided::FindGuidedAnswer;
 
 // The number of words of the guide of a tree.
-#[unsafe(no_mangle)]
-pub extern "C" fn bt_guide_words(tree: &[u8], words: &mut u64) -> u32
+pub fn bt_guide_words(tree: &[u8], words: &mut u64) -> u32
     ensures { answer_with result words.new 0 ≡ guide_words_answer tree.now }
 {
     let size = query_guide::guide_words(tree);
@@ -20,8 +19,7 @@ pub extern "C" fn bt_guide_words(tree: &[u8], words: &mut u64) -> u32
 }
 
 // Writes the guide of a tree to the start of a table and returns its number of words.
-#[unsafe(no_mangle)]
-pub extern "C" fn bt_make_guide(tree: &[u8], table: &mut [u8], words: &mut u64) -> u32
+pub fn bt_make_guide(tree: &[u8], table: &mut [u8], words: &mut u64) -> u32
     ensures words_after { answer_with result words.new 0 ≡ make_guide_answer tree.now table.old }
     ensures table_after { table.new ≡ make_guide_buffer tree.now table.old }
 {
@@ -30,16 +28,14 @@ pub extern "C" fn bt_make_guide(tree: &[u8], table: &mut [u8], words: &mut u64) 
 }
 
 // Questions 5 to 9 for the tree, then 24 for the guide.
-#[unsafe(no_mangle)]
-pub extern "C" fn bt_check_guide(tree: &[u8], guide: &[u8]) -> u32
+pub fn bt_check_guide(tree: &[u8], guide: &[u8]) -> u32
     ensures { result ≡ guide_refusal tree.now guide.now }
 {
     build_guide::check_guide(tree, guide)
 }
 
 // The place of the j-th occurrence of a counted byte, the number of blocks on its path, and the steps on level 0.
-#[unsafe(no_mangle)]
-pub extern "C" fn bt_find_guided(
+pub fn bt_find_guided(
     tree: &[u8],
     guide: &[u8],
     byte: u32,
@@ -70,14 +66,7 @@ pub extern "C" fn bt_find_guided(
 }
 
 // Copies row q and returns its length.
-#[unsafe(no_mangle)]
-pub extern "C" fn bt_row_guided(
-    tree: &[u8],
-    guide: &[u8],
-    q: u32,
-    buffer: &mut [u8],
-    len: &mut u32,
-) -> u32
+pub fn bt_row_guided(tree: &[u8], guide: &[u8], q: u32, buffer: &mut [u8], len: &mut u32) -> u32
     ensures { RowBy tree.now
         (guide_refusal tree.now guide.now) q buffer.old result len.new buffer.new }
 {
@@ -86,8 +75,7 @@ pub extern "C" fn bt_row_guided(
 }
 
 // Moves the mark to the next row that starts with the prefix and returns that row, 0 for none. If refused, the mark is unchanged.
-#[unsafe(no_mangle)]
-pub extern "C" fn bt_next_with_prefix_guided(
+pub fn bt_next_with_prefix_guided(
     tree: &[u8],
     guide: &[u8],
     prefix: &[u8],

@@ -1,7 +1,9 @@
 // The calls exported to C. Each returns 0 or the refusal. Figures are written behind references, 0 if refused. Any bytes may be given as a tree.
-mod column_exports;
+#![tactic(auto)]
+
+pub mod column_exports;
 pub mod compare_exports;
-mod digest_exports;
+pub mod digest_exports;
 pub mod figure_exports;
 mod figures;
 pub mod guide_exports;
@@ -32,8 +34,7 @@ use text::TextPlace;
 use tree::{BuildAnswer, BuildScannedAnswer, SizeBoundAnswer};
 
 // Builds the tree of a text.
-#[unsafe(no_mangle)]
-pub extern "C" fn bt_build(
+pub fn bt_build(
     text: &[u8],
     leaf: u32,
     arity: u32,
@@ -54,8 +55,7 @@ pub extern "C" fn bt_build(
 }
 
 // Builds the same tree by one scan of the text for each level above the last, with the caller's table of words.
-#[unsafe(no_mangle)]
-pub extern "C" fn bt_build_scanned(
+pub fn bt_build_scanned(
     text: &[u8],
     leaf: u32,
     arity: u32,
@@ -84,16 +84,14 @@ pub extern "C" fn bt_build_scanned(
 }
 
 // The number of words that this table must have for a text of n bytes.
-#[unsafe(no_mangle)]
-pub extern "C" fn bt_scan_words(n: u32, leaf: u32) -> u64
+pub fn bt_scan_words(n: u32, leaf: u32) -> u64
     ensures { result ≡ table_words n leaf }
 {
     tree::scan_words(n, leaf)
 }
 
 // A size that is enough for the tree of any text of n bytes.
-#[unsafe(no_mangle)]
-pub extern "C" fn bt_size_bound(
+pub fn bt_size_bound(
     n: u32,
     leaf: u32,
     arity: u32,
@@ -111,16 +109,14 @@ pub extern "C" fn bt_size_bound(
 }
 
 // Checks a tree: questions 5 to 9.
-#[unsafe(no_mangle)]
-pub extern "C" fn bt_check(tree: &[u8]) -> u32
+pub fn bt_check(tree: &[u8]) -> u32
     ensures { result ≡ check_result tree.now }
 {
     tree::check(tree)
 }
 
 // The byte at a place, and the number of blocks entered.
-#[unsafe(no_mangle)]
-pub extern "C" fn bt_byte(tree: &[u8], place: u32, value: &mut u32, entered: &mut u32) -> u32
+pub fn bt_byte(tree: &[u8], place: u32, value: &mut u32, entered: &mut u32) -> u32
     ensures { answer_with result value.new entered.new ≡ byte_answer tree.now place }
 {
     let answer = query_access::byte(tree, TextPlace(place));
@@ -131,8 +127,7 @@ pub extern "C" fn bt_byte(tree: &[u8], place: u32, value: &mut u32, entered: &mu
 }
 
 // Where the run of a place starts in the bytes of the tree, and its length.
-#[unsafe(no_mangle)]
-pub extern "C" fn bt_run_range(tree: &[u8], place: u32, offset: &mut u64, len: &mut u32) -> u32
+pub fn bt_run_range(tree: &[u8], place: u32, offset: &mut u64, len: &mut u32) -> u32
     ensures value { result ≡ (byte_answer tree.now place).number }
     ensures offset_after { offset.new ≡ (run_answer tree.now place).0 }
     ensures len_after { len.new ≡ (run_answer tree.now place).1 }
@@ -149,14 +144,7 @@ pub extern "C" fn bt_run_range(tree: &[u8], place: u32, offset: &mut u64, len: &
 }
 
 // Copies the bytes from a place on and returns the number of blocks entered: that of a short span of a layout 2 tree, else 0.
-#[unsafe(no_mangle)]
-pub extern "C" fn bt_span(
-    tree: &[u8],
-    place: u32,
-    len: u32,
-    buffer: &mut [u8],
-    entered: &mut u32,
-) -> u32
+pub fn bt_span(tree: &[u8], place: u32, len: u32, buffer: &mut [u8], entered: &mut u32) -> u32
     ensures value { result ≡ (span_answer tree.now place len (length buffer.old)).number }
     ensures entered_after { entered.new ≡ (span_answer tree.now place len (length buffer.old)).entered }
     ensures buffer_after { buffer.new ≡ span_buffer tree.now place len buffer.old }
@@ -169,14 +157,7 @@ pub extern "C" fn bt_span(
 }
 
 // How often a counted byte occurs in the first i bytes, and the number of blocks entered.
-#[unsafe(no_mangle)]
-pub extern "C" fn bt_count(
-    tree: &[u8],
-    byte: u32,
-    i: u32,
-    times: &mut u64,
-    entered: &mut u32,
-) -> u32
+pub fn bt_count(tree: &[u8], byte: u32, i: u32, times: &mut u64, entered: &mut u32) -> u32
     ensures { answer_with result times.new entered.new ≡ count_answer tree.now byte i }
 {
     if 255 < byte {
@@ -191,8 +172,7 @@ pub extern "C" fn bt_count(
 }
 
 // The place of the j-th occurrence of a counted byte, and the number of blocks on its path.
-#[unsafe(no_mangle)]
-pub extern "C" fn bt_find(tree: &[u8], byte: u32, j: u32, place: &mut u32, entered: &mut u32) -> u32
+pub fn bt_find(tree: &[u8], byte: u32, j: u32, place: &mut u32, entered: &mut u32) -> u32
     ensures { FindBy tree.now (check_result tree.now) byte j (answer_with result place.new entered.new) }
 {
     if 255 < byte {
@@ -207,8 +187,7 @@ pub extern "C" fn bt_find(tree: &[u8], byte: u32, j: u32, place: &mut u32, enter
 }
 
 // Copies row q and returns its length.
-#[unsafe(no_mangle)]
-pub extern "C" fn bt_row(tree: &[u8], q: u32, buffer: &mut [u8], len: &mut u32) -> u32
+pub fn bt_row(tree: &[u8], q: u32, buffer: &mut [u8], len: &mut u32) -> u32
     ensures { RowBy tree.now (check_result tree.now) q buffer.old result len.new buffer.new }
 {
     let copied = query_rows::row(tree, q, buffer);
@@ -216,8 +195,7 @@ pub extern "C" fn bt_row(tree: &[u8], q: u32, buffer: &mut [u8], len: &mut u32) 
 }
 
 // Writes all places of a pattern and returns their number.
-#[unsafe(no_mangle)]
-pub extern "C" fn bt_places(tree: &[u8], pattern: &[u8], table: &mut [u32], number: &mut u32) -> u32
+pub fn bt_places(tree: &[u8], pattern: &[u8], table: &mut [u32], number: &mut u32) -> u32
     ensures number_after { answer_with result number.new 0 ≡ places_answer tree.now pattern.now (length table.old) }
     ensures table_after { table.new ≡ places_buffer tree.now pattern.now table.old }
 {
@@ -229,8 +207,7 @@ pub extern "C" fn bt_places(tree: &[u8], pattern: &[u8], table: &mut [u32], numb
 }
 
 // Moves the mark to the next row that matches and returns that row, 0 for none. If refused, the mark is unchanged.
-#[unsafe(no_mangle)]
-pub extern "C" fn bt_next_match(tree: &[u8], ranges: &[u8], mark: &mut u32, row: &mut u32) -> u32
+pub fn bt_next_match(tree: &[u8], ranges: &[u8], mark: &mut u32, row: &mut u32) -> u32
     ensures { MatchOutcome
         tree.now ranges.now mark.old (record { refusal = result; row = row.new; mark = mark.new }) }
 {
@@ -239,13 +216,7 @@ pub extern "C" fn bt_next_match(tree: &[u8], ranges: &[u8], mark: &mut u32, row:
 }
 
 // Moves the mark to the next row that starts with the prefix and returns that row, 0 for none. If refused, the mark is unchanged.
-#[unsafe(no_mangle)]
-pub extern "C" fn bt_next_with_prefix(
-    tree: &[u8],
-    prefix: &[u8],
-    mark: &mut u32,
-    row: &mut u32,
-) -> u32
+pub fn bt_next_with_prefix(tree: &[u8], prefix: &[u8], mark: &mut u32, row: &mut u32) -> u32
     ensures { AllowedOutcome tree.now (check_result tree.now)
         (query_refusal tree.now 16 (pattern_ok prefix.now))
         (starts_with prefix.now) mark.old (record { refusal = result; row = row.new; mark = mark.new }) }
@@ -255,8 +226,7 @@ pub extern "C" fn bt_next_with_prefix(
 }
 
 // Writes a line for each level of a tree.
-#[unsafe(no_mangle)]
-pub extern "C" fn bt_list(tree: &[u8], out: &mut [u8], len: &mut u32) -> u32
+pub fn bt_list(tree: &[u8], out: &mut [u8], len: &mut u32) -> u32
     ensures len_after { answer_with result len.new 0 ≡ list_answer tree.now (length out.old) }
     ensures out_after { out.new ≡ list_buffer tree.now out.old }
 {

@@ -22,14 +22,14 @@ use Rattle.build_guide.proofs.make_guide.Reads as make-reads
 use Rattle.build_guide.proofs.check_guide.Reads as check-reads
 
 -- r is an answer that the contract of the call allows with these arguments; making leaves the table as `after`
-abbrev pub MakeGuide : (κs : Lfts 2) → (t table after : Bor (List ℕ)) → GuideWordsAnswer → Type 0
+abbrev pub MakeGuide : (κs : Lfts 2) → (t : Bor (List ℕ)) (table after : MutBor (List ℕ)) → GuideWordsAnswer → Type 0
 MakeGuide κs t table after r = make-reads.Post κs (t, (table, tt)) r (t, (after, tt))
 
 abbrev pub CheckGuide : (κs : Lfts 2) → (t guide : Bor (List ℕ)) → ℕ → Type 0
 CheckGuide κs t guide r = check-reads.Post κs (t, (guide, tt)) r (t, (guide, tt))
 
 -- Making: refused with 5 to 9 if the check refuses the tree.
-module _ (κs : Lfts 2) (t table after : Bor (List ℕ)) (r : GuideWordsAnswer) (a : MakeGuide κs t table after r) where
+module _ (κs : Lfts 2) (t : Bor (List ℕ)) (table after : MutBor (List ℕ)) (r : GuideWordsAnswer) (a : MakeGuide κs t table after r) where
   pub make-unread : (check_result t.now ≡ 0 → ⊥) → (r ≡ Refused (check_result t.now)) × (after.now ≡ table.now)
   make-unread n =
       let u = laws.unmade t.now table.now (check_result t.now) refl n in

@@ -23,7 +23,7 @@ use Rattle.theory_without_edges.specs.WithoutEdges.{edgeless_layout, without_edg
 use Rattle.build_without_edges.specs.WithoutEdgesAnswers.{without_edges_refusal, without_edges_size, without_edges_buffer, without_edges_reply}
 use Rattle.theory_without_edges.specs.TreeInLayout.{tree_in}
 use Rattle.theory_without_edges.specs.TreesAgree.{Agree}
-use Rattle.theory_without_edges.specs.Layout1Accepted as layout1
+use Rattle.theory_without_edges.proofs.Layout1Accepted as layout1
 use Rattle.build_without_edges.specs.declared.WithoutEdgesAnswer.{WithoutEdgesAnswer}
 use Rattle.build_without_edges.specs.declared.WithoutEdgesAnswer.TheVariants.{Size, Refused}
 use Rattle.build_without_edges.proofs.without_edges.Reads as reads

@@ -18,7 +18,7 @@ use Rattle.byte_slices.specs.ByteSlices.{bytes_written}
 use Rattle.theory_built.specs.Gather.{concat-suc, length-concat}
 use Rattle.theory_without_edges.specs.WithoutEdges.{edgeless_layout, layout1_record_size, layout1_offset, offsets_in, layout1_header, record_count}
 use Rattle.theory_without_edges.specs.WithoutEdges.{layout1_record, layout1_records, layout1_leaf_bytes, without_edges}
-use Rattle.theory_without_edges.specs.Layout1Sizes as sizes
+use Rattle.theory_without_edges.proofs.Layout1Sizes as sizes
 use Rattle.format.specs.SizeLaws.{record-plain}
 use Rattle.format.specs.TreeReading.{header_result}
 use Rattle.layout.specs.declared.header.Header.{Header}

@@ -123,7 +123,7 @@ module _ (t : Bor (List ℕ)) (pass : header_result t.now ≡ 0) (links : links_
 -- For any tree that the check accepts: a span inside the text and the buffer is not refused. The buffer then has these bytes, and its old bytes after them. The
 -- number of blocks entered is at most twice the number of levels; 0 if the span is not short.
 pub span-copies :
-    (t : Bor (List ℕ)) → check_result t.now ≡ 0 → (κs : Lfts 2) (p : TextPlace) (len : ℕ) (buffer after : Bor (List ℕ)) (r : SpanAnswer)
+    (t : Bor (List ℕ)) → check_result t.now ≡ 0 → (κs : Lfts 2) (p : TextPlace) (len : ℕ) (buffer after : MutBor (List ℕ)) (r : SpanAnswer)
     → p.0 + len ≤ at.text_length t.now → len ≤ length buffer.now → Span κs t p len buffer after r
     → (r ≡ span.Bytes len (span_blocks t.now p.0 len)) × (span_blocks t.now p.0 len ≤ 2 * (at.settings t.now).levels)
     × (after.now ≡ substring (text_of t.now) p.0 len ++ drop len buffer.now)

@@ -28,11 +28,11 @@ use Rattle.query_columns.specs.ColumnRows.{cell, cells_hold, row_by_columns_refu
 use Rattle.query_columns.proofs.row_by_columns.Reads as reads
 
 -- r is an answer that the contract of `row_by_columns` allows to a call with these arguments, with the buffer left as `after`
-abbrev pub ByColumns : (κs : Lfts 2) → Bor (List ℕ) → (w a : ℕ) → (buffer after : Bor (List ℕ)) → SpanAnswer → Type 0
+abbrev pub ByColumns : (κs : Lfts 2) → Bor (List ℕ) → (w a : ℕ) → (buffer after : MutBor (List ℕ)) → SpanAnswer → Type 0
 ByColumns κs t w a buffer after r = reads.Post κs (t, (w, (a, (buffer, tt)))) r (t, (w, (a, (after, tt))))
 
 -- For any bytes.
-module _ (κs : Lfts 2) (t : Bor (List ℕ)) (w a : ℕ) (buffer after : Bor (List ℕ)) (r : SpanAnswer) (c : ByColumns κs t w a buffer after r) where
+module _ (κs : Lfts 2) (t : Bor (List ℕ)) (w a : ℕ) (buffer after : MutBor (List ℕ)) (r : SpanAnswer) (c : ByColumns κs t w a buffer after r) where
   -- A refusal other than 14 leaves the buffer.
   refuses : (n : ℕ) → row_by_columns_refusal t.now w a (length buffer.now) ≡ suc n → (suc n ≡ 14 → ⊥) → (r ≡ span.Refused (suc n)) × (after.now ≡ buffer.now)
   unfolding row_by_columns_answer row_by_columns_buffer
@@ -88,7 +88,7 @@ module _ (κs : Lfts 2) (t : Bor (List ℕ)) (w a : ℕ) (buffer after : Bor (Li
               (copied_is r w 0 c.0.numbered (c.0.answers ∙ rw number), c.1 ∙ rw number)
 
 -- For any accepted tree whose text is a rearrangement: row a of the original text, end byte included, then the old bytes of the buffer.
-module _ (κs : Lfts 2) (t : Bor (List ℕ)) (v : check_result t.now ≡ 0) (w a : ℕ) (buffer after : Bor (List ℕ)) (r : SpanAnswer)
+module _ (κs : Lfts 2) (t : Bor (List ℕ)) (v : check_result t.now ≡ 0) (w a : ℕ) (buffer after : MutBor (List ℕ)) (r : SpanAnswer)
     (c : ByColumns κs t w a buffer after r) where
   pub column-copies : width_ok w (length (text_of t.now)) ≡ true → a < length (text_of t.now) / w → w ≤ length buffer.now
       → (r ≡ span.Bytes w 0) × (after.now ≡ substring (uncolumns w (text_of t.now)) (a * w) w ++ drop w buffer.now)

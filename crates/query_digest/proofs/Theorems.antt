@@ -32,10 +32,10 @@ use Rattle.query_digest.specs.Digest.{digest_refusal, digest_buffer}
 use Rattle.query_digest.proofs.digest.Reads as reads
 
 -- The contract of `digest` allows it to return r for these arguments and to leave the buffer as `after`.
-abbrev pub Digest : (κs : Lfts 2) → (t out after : Bor (List ℕ)) → ℕ → Type 0
+abbrev pub Digest : (κs : Lfts 2) → (t : Bor (List ℕ)) (out after : MutBor (List ℕ)) → ℕ → Type 0
 Digest κs t out after r = reads.Post κs (t, (out, tt)) r (t, (after, tt))
 
-module _ (κs : Lfts 2) (t out after : Bor (List ℕ)) (r : ℕ) (a : Digest κs t out after r) where
+module _ (κs : Lfts 2) (t : Bor (List ℕ)) (out after : MutBor (List ℕ)) (r : ℕ) (a : Digest κs t out after r) where
   -- Any refusal but 14 leaves the buffer unchanged.
   refuses : (n : ℕ) → digest_refusal t.now (length out.now) ≡ suc n → (suc n ≡ 14 → ⊥) → (r ≡ suc n) × (after.now ≡ out.now)
   unfolding digest_buffer buffer_after

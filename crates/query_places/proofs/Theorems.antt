@@ -30,7 +30,7 @@ use Rattle.query_places.proofs.places.Reads as places-reads
 use Rattle.query_places.proofs.places_words.Reads as words-reads
 
 -- r is an answer that the contract of `places` allows to a call with these arguments, with the table left as `after`
-abbrev pub Places : (κs : Lfts 3) → (t P table after : Bor (List ℕ)) → PlacesAnswer → Type 0
+abbrev pub Places : (κs : Lfts 3) → (t P : Bor (List ℕ)) (table after : MutBor (List ℕ)) → PlacesAnswer → Type 0
 Places κs t P table after r = places-reads.Post κs (t, (P, (table, tt))) r (t, (P, (after, tt)))
 
 -- The answer in each case.
@@ -64,7 +64,7 @@ other_length P wrong = go (bool_cases (leb 1 (length P) && leb (length P) max_pa
     go (inl h) = absurd (wrong (leb-true _ _ (and_left _ _ h)) (leb-true _ _ (and_right (leb 1 (length P)) _ h)))
     go (inr h) = h
 
-module _ (κs : Lfts 3) (t P table after : Bor (List ℕ)) (r : PlacesAnswer) (a : Places κs t P table after r) where
+module _ (κs : Lfts 3) (t P : Bor (List ℕ)) (table after : MutBor (List ℕ)) (r : PlacesAnswer) (a : Places κs t P table after r) where
   -- A refusal: its number, and the table as it was.
   refuses : (q : ℕ) → places_refusal t.now P.now (length table.now) ≡ suc q → (r ≡ places.Refused (suc q)) × (after.now ≡ table.now)
   unfolding places_answer places_buffer

@@ -37,10 +37,10 @@ use Rattle.query_rows.proofs.row.Reads as row_reads
 use Rattle.query_rows.proofs.row_guided.Reads as guided-reads
 
 -- r is an answer that the contract of the call allows with these arguments, with the buffer left as `after`
-abbrev pub RowGuided : (κs : Lfts 3) → (t guide : Bor (List ℕ)) → (q : ℕ) → (buffer after : Bor (List ℕ)) → RowAnswer → Type 0
+abbrev pub RowGuided : (κs : Lfts 3) → (t guide : Bor (List ℕ)) → (q : ℕ) → (buffer after : MutBor (List ℕ)) → RowAnswer → Type 0
 RowGuided κs t guide q buffer after r = guided-reads.Post κs (t, (guide, (q, (buffer, tt)))) r (t, (guide, (q, (after, tt))))
 
-abbrev Row : (κs : Lfts 2) → Bor (List ℕ) → (q : ℕ) → (buffer after : Bor (List ℕ)) → RowAnswer → Type 0
+abbrev Row : (κs : Lfts 2) → Bor (List ℕ) → (q : ℕ) → (buffer after : MutBor (List ℕ)) → RowAnswer → Type 0
 Row κs t q buffer after r = row_reads.Post κs (t, (q, (buffer, tt))) r (t, (q, (after, tt)))
 
 -- Two answers with the same number and length are the same.
@@ -75,7 +75,7 @@ module _ (t : List ℕ) (v : check_result t ≡ 0)
           (d.0, d.1, d.2 ∙ ap (λ (i : ℕ). row_of (text_of t) q ++ drop i buffer) d.1)
 
 -- If the tree and the guide are accepted, row with a guide returns what row returns.
-pub guided-as-row : (κs : Lfts 3) (t guide : Bor (List ℕ)) (q : ℕ) (buffer after : Bor (List ℕ)) (r : RowAnswer) → RowGuided κs t guide q buffer after r
+pub guided-as-row : (κs : Lfts 3) (t guide : Bor (List ℕ)) (q : ℕ) (buffer after : MutBor (List ℕ)) (r : RowAnswer) → RowGuided κs t guide q buffer after r
     → guide_refusal t.now guide.now ≡ 0 → (κ : Lfts 2) (left : Bor (List ℕ)) (s : RowAnswer) → Row κ t q buffer left s → (r ≡ s) × (after.now ≡ left.now)
 guided-as-row κs t guide q buffer after r a g κ left s b =
     let v = guide-checked t.now guide.now g in
@@ -147,7 +147,7 @@ module _ (κs : Lfts 1) (t : Bor (List ℕ)) (v : check_result t.now ≡ 0) wher
         bytes-are r (length (row_of (text_of t.now) q)) a.numbered z.0 z.1
 
     -- A buffer of that length is enough for row, which is then not refused with 13.
-    pub length-enough : (n : ℕ) → LengthOf κs t q (size.Bytes n) → (κ : Lfts 2) (buffer after : Bor (List ℕ)) (r : RowAnswer) → Row κ t q buffer after r
+    pub length-enough : (n : ℕ) → LengthOf κs t q (size.Bytes n) → (κ : Lfts 2) (buffer after : MutBor (List ℕ)) (r : RowAnswer) → Row κ t q buffer after r
         → n ≤ length buffer.now → (r ≡ row.Bytes n) × (after.now ≡ row_of (text_of t.now) q ++ drop n buffer.now)
     length-enough n a κ buffer after r b room = go (lt-or-ge 0 (row_refusal t.now q))
       where

@@ -171,7 +171,7 @@ pub use Rattle.theorems.proofs.WithoutEdgesCall.{without-edges-numbers}
 -- For any tree that passes questions 5 to 7: fields, paths and text stay the same, the check returns what it returns if edges are ignored, a tree of layout
 -- 1 is copied, and no tree becomes larger.
 pub use Rattle.build_without_edges.proofs.Theorems.{written-header, written-text, written_byte, written-checked, written_same, written-shorter}
-pub use Rattle.theory_without_edges.specs.Layout1Accepted.{layout1-length, layout1-saves, built-layout1-length}
+pub use Rattle.theory_without_edges.proofs.Layout1Accepted.{layout1-length, layout1-saves, built-layout1-length}
 -- For an accepted tree: the written tree is accepted, only the same text fits, and every call returns what that text has.
 pub use Rattle.build_without_edges.proofs.Theorems.{written-accepted, written-only}
 pub use Rattle.theorems.proofs.WithoutEdgesCall.{without-edges-answers, without-edges-refuses}

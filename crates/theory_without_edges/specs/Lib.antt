@@ -1,14 +1,8 @@
 pub mod WithoutEdges
-pub mod Layout1Sizes
 pub mod LinksMade
 pub mod TreesAgree
 pub mod TreesExact
 pub mod PathsAgree
-pub mod Layout1Bytes
-pub mod Layout1Reads
 pub mod TreeInLayout
 pub mod PairsInLayout
-pub mod Layout1Built
-pub mod Layout1Same
-pub mod Layout1Accepted
 pub mod Layout1Examples

@@ -8,7 +8,7 @@ use native.Mathlib.Omega.{arith}
 use Rattle.text.specs.ListLaws.{bool_cases, bool_clash, lt-or-ge, and_left, and_right, tabulate-ext}
 use Rattle.format.specs.LayoutLaws.{Readable}
 use Rattle.format.specs.Layout as at
-use Rattle.format.specs.TreeReading.{Path, entered, is_kept_block, pointing_block, target_block, target_place, resolved_block, resolved_place, resolved_visits, resolves}
+use Rattle.format.specs.TreeReading.{Path, is_kept_block, pointing_block, target_block, target_place, resolved_block, resolved_place, resolved_visits, resolves}
 use Rattle.format.specs.TreeReading.{path_from, path_of, leaf_of, text_of, header_result}
 use Rattle.format.specs.Answers.{byte_of, byte_answer}
 use Rattle.theory_paths.specs.Links.{H, N, b}

@@ -61,11 +61,11 @@ module _ (S : Settings) (T out : List ℕ) (passed : build_refusal S T out ≡ 0
   leaves-tree = rw passed (take-append_seam (tree_of S T) (drop (length (tree_of S T)) out))
 
 -- r is an answer that the contract of `build` allows to a call with these arguments, which leaves the buffer `out` as `after`
-abbrev pub Build : (κs : Lfts 3) (text : Bor (List ℕ)) (leaf arity levels : ℕ) (counted out after : Bor (List ℕ)) → BuildAnswer → Type 0
+abbrev pub Build : (κs : Lfts 3) (text : Bor (List ℕ)) (leaf arity levels : ℕ) (counted : Bor (List ℕ)) (out after : MutBor (List ℕ)) → BuildAnswer → Type 0
 Build κs text leaf arity levels counted out after r =
     build-reads.Post κs (text, (leaf, (arity, (levels, (counted, (out, tt)))))) r (text, (leaf, (arity, (levels, (counted, (after, tt))))))
 
-module _ (κs : Lfts 3) (text : Bor (List ℕ)) (leaf arity levels : ℕ) (counted out after : Bor (List ℕ)) (r : BuildAnswer)
+module _ (κs : Lfts 3) (text : Bor (List ℕ)) (leaf arity levels : ℕ) (counted : Bor (List ℕ)) (out after : MutBor (List ℕ)) (r : BuildAnswer)
     (a : Build κs text leaf arity levels counted out after r) (good : (replied (build_reply r)).number ≡ 0) where
   abbrev S : Settings
   S = given leaf arity levels counted.now

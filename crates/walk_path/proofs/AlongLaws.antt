@@ -148,12 +148,12 @@ module _ (t : List ℕ) where
       go : ((j p : ℕ) (c : Above) → above_from t n (l + 1) j (p % b t (l + 1)) ≡ some c → c.place < b t L)
           → Lands t l i o ⊎ ((is_kept_block t l i ≡ false) × (pointing_block t l i ≡ true → is_kept_block t l (target_block t l i o) ≡ false)) → a.place < b t L
       go rest (inl (inl kept)) =
-          let y = above-some _ _ a (sym (above_kept t n l i o kept) ∙ e) in
+          let y = above-some (visit l i o ∷ []) (above_from t n (l + 1) (at.link t l i + o / b t (l + 1)) (o % b t (l + 1))) a (sym (above_kept t n l i o kept) ∙ e) in
           rw y.4 (rest (at.link t l i + o / b t (l + 1)) o y.0 y.1)
       go rest (inl (inr x)) =
           let j = target_block t l i o in
           let p = target_place t l i o in
-          let y = above-some _ _ a (sym (above-points t n l i o x.0 x.1 x.2) ∙ e) in
+          let y = above-some (visit l i o ∷ visit l j p ∷ []) (above_from t n (l + 1) (at.link t l j + p / b t (l + 1)) (p % b t (l + 1))) a (sym (above-points t n l i o x.0 x.1 x.2) ∙ e) in
           rw y.4 (rest (at.link t l j + p / b t (l + 1)) p y.0 y.1)
       go rest (inr x) = absurd (let z : none ≡ some a = sym (above-off t n l i o x.0 x.1) ∙ e in let y : ◌≡◌ {A = ℕ} 0 1 = cc in omega arith)
 
@@ -168,12 +168,12 @@ module _ (t : List ℕ) where
       go : ((j p : ℕ) (c : Above) → above_from t n (l + 1) j p ≡ some c → c.block < N t L)
           → Lands t l i o ⊎ ((is_kept_block t l i ≡ false) × (pointing_block t l i ≡ true → is_kept_block t l (target_block t l i o) ≡ false)) → a.block < N t L
       go rest (inl (inl kept)) =
-          let y = above-some _ _ a (sym (above_kept t n l i o kept) ∙ e) in
+          let y = above-some (visit l i o ∷ []) (above_from t n (l + 1) (at.link t l i + o / b t (l + 1)) (o % b t (l + 1))) a (sym (above_kept t n l i o kept) ∙ e) in
           rw y.3 (rest (at.link t l i + o / b t (l + 1)) (o % b t (l + 1)) y.0 y.1)
       go rest (inl (inr x)) =
           let j = target_block t l i o in
           let p = target_place t l i o in
-          let y = above-some _ _ a (sym (above-points t n l i o x.0 x.1 x.2) ∙ e) in
+          let y = above-some (visit l i o ∷ visit l j p ∷ []) (above_from t n (l + 1) (at.link t l j + p / b t (l + 1)) (p % b t (l + 1))) a (sym (above-points t n l i o x.0 x.1 x.2) ∙ e) in
           rw y.3 (rest (at.link t l j + p / b t (l + 1)) (p % b t (l + 1)) y.0 y.1)
       go rest (inr x) = absurd (let z : none ≡ some a = sym (above-off t n l i o x.0 x.1) ∙ e in let y : ◌≡◌ {A = ℕ} 0 1 = cc in omega arith)
 

@@ -10,7 +10,7 @@ pub loop-p-init : goal.loop-p-init
 loop-p-init c = (omega arith, c.fingerprint_at-h.ensures, ahead-start c.args.text.now c.args.at.0 c.args.n)
 
 pub occurs_at-requires : goal.occurs_at-requires
-occurs_at-requires c = ((omega arith, omega arith), (c.loop-p.invariant.1, c.fingerprint_at.ensures))
+occurs_at-requires c = record { n_in_bounds = (omega arith, omega arith); fingerprint_value = c.loop-p.invariant.1; fingerprint_value_2 = c.fingerprint_at.ensures }
 
 pub returns-then-occurs_at : goal.returns-then-occurs_at
 returns-then-occurs_at c = ahead-hit _ _ _ _ c.loop-p.invariant.2 _ c.occurs_at.ensures c.if-occurs_at.true (omega arith)

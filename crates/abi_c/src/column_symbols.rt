@@ -1,0 +1,31 @@
+// The symbols of the functions of `abi::column_exports`.
+ghost use Rattle.std.specs.Prelude.{◌≡◌, length};
+ghost use Rattle.columns.specs.Columns.{columns_refusal, columns_buffer, uncolumns_buffer};
+ghost use Rattle.query_columns.specs.ColumnRows.{row_by_columns_refusal, row_by_columns_buffer};
+
+// Rearranges a text of rows of `width` bytes, end byte included, by columns.
+#[unsafe(no_mangle)]
+pub extern "C" fn bt_to_columns(text: &[u8], width: u32, out: &mut [u8]) -> u32
+    ensures value { result ≡ columns_refusal width text.now out.old }
+    ensures out_after { out.new ≡ columns_buffer width text.now out.old }
+{
+    abi::column_exports::bt_to_columns(text, width, out)
+}
+
+// Rearranges a text by columns back to rows.
+#[unsafe(no_mangle)]
+pub extern "C" fn bt_from_columns(text: &[u8], width: u32, out: &mut [u8]) -> u32
+    ensures value { result ≡ columns_refusal width text.now out.old }
+    ensures out_after { out.new ≡ uncolumns_buffer width text.now out.old }
+{
+    abi::column_exports::bt_from_columns(text, width, out)
+}
+
+// Copies row a, from 0, of the original text from the tree of a text by columns.
+#[unsafe(no_mangle)]
+pub extern "C" fn bt_row_by_columns(tree: &[u8], width: u32, a: u32, buffer: &mut [u8]) -> u32
+    ensures value { result ≡ row_by_columns_refusal tree.now width a (length buffer.old) }
+    ensures buffer_after { buffer.new ≡ row_by_columns_buffer tree.now width a buffer.old }
+{
+    abi::column_exports::bt_row_by_columns(tree, width, a, buffer)
+}

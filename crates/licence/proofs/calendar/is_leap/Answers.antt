@@ -1,0 +1,15 @@
+use borrow.Author.Tests.{eq-eqb, ne_eqb}
+use Rattle.licence.specs.Licence.{leap}
+use Rattle.licence.proofs.calendar.is_leap.Goals as goal
+
+pub returns-then-year-ne0 : goal.returns-then-year-ne0
+unfolding leap
+returns-then-year-ne0 c = simp (ne_eqb _ 0 c.if-year-ne0.true)
+
+pub returns-then-year-ne0-2 : goal.returns-then-year-ne0-2
+unfolding leap
+returns-then-year-ne0-2 c = simp (eq-eqb _ 0 c.if-year-ne0.false, ne_eqb _ 0 c.if-year-ne0-2.true)
+
+pub returns : goal.returns
+unfolding leap
+returns c = simp (eq-eqb _ 0 c.if-year-ne0.false, eq-eqb _ 0 c.if-year-ne0-2.false)
