@@ -1,4 +1,6 @@
 // The calls exported to C. Each returns 0 or the refusal. Figures are written behind references, 0 if refused. Any bytes may be given as a tree.
+#![tactic(auto)]
+
 pub mod column_exports;
 pub mod compare_exports;
 pub mod digest_exports;

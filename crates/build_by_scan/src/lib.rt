@@ -1,5 +1,7 @@
 // The builder with one scan for each level: it enters the blocks and pairs of a level in the caller's table of words and passes once over the text. It writes
 // the same tree as the builder that searches.
+#![tactic(auto)]
+
 mod scanned_fill;
 mod scanned_levels;
 mod table;

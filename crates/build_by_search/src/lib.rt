@@ -1,4 +1,6 @@
 // The builder that searches the text: writes the block tree of a text into the caller's buffer.
+#![tactic(auto)]
+
 mod all_levels;
 pub mod level_fill;
 

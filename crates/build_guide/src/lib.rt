@@ -1,4 +1,6 @@
 // Guides made and checked: a guide is written for a tree that the check accepts, or compared with the one that would be written.
+#![tactic(auto)]
+
 mod guide_checked;
 mod guide_written;
 

@@ -1,4 +1,6 @@
 // Marking: decides which blocks of a level are kept, and where the others point.
+#![tactic(auto)]
+
 mod occurrences;
 pub mod pair;
 pub mod target;

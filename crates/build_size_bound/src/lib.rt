@@ -1,4 +1,6 @@
 // The size bound of the trees of all texts of a length, with given settings.
+#![tactic(auto)]
+
 ghost use Rattle.std.specs.Prelude.{◌≡◌, ◌*◌, ◌≤◌};
 ghost use Rattle.layout.specs.SettingsLevel.{Sized};
 ghost use Rattle.build_size_bound.specs.SizeBound.{blocks_at_most, IsSizeBoundAnswer};

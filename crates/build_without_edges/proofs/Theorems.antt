@@ -9,6 +9,7 @@ use native.Mathlib.Omega.{arith}
 use native.Mathlib.Nat.{le_trans}
 use contract.Lifetimes.{Lfts}
 use denote.Ref.{Bor}
+use denote.MutBor.{MutBor}
 use lib.ListN.{length, take, drop}
 use lib.Seq.{take_at}
 use borrow.Author.Tests.{le-leb, lt-leb, ne_eqb}
@@ -32,7 +33,7 @@ abbrev pub Layout1Lent : Type 0
 Layout1Lent = Bor (List ℕ)
 
 -- The contract of `without_edges` allows a call with these arguments to return r and leave the buffer as `after`.
-abbrev pub WithoutEdges : Lfts 2 → (t out after : Layout1Lent) → WithoutEdgesAnswer → Type 0
+abbrev pub WithoutEdges : Lfts 2 → (t : Layout1Lent) (out after : MutBor (List ℕ)) → WithoutEdgesAnswer → Type 0
 WithoutEdges κs t out after r = reads.Post κs (t, (out, tt)) r (t, (after, tt))
 
 -- Refusal and size determine the answer.
@@ -44,7 +45,7 @@ layout1-size-is : (r : WithoutEdgesAnswer) (m : ℕ) → (replied (without_edges
 layout1-size-is (Size n) m z e low = rw e
 layout1-size-is (Refused n) m z e low = absurd (let z : ⊥ = omega arith in z)
 
-module _ (κs : Lfts 2) (t out after : Layout1Lent) (r : WithoutEdgesAnswer) (a : WithoutEdges κs t out after r) where
+module _ (κs : Lfts 2) (t : Layout1Lent) (out after : MutBor (List ℕ)) (r : WithoutEdgesAnswer) (a : WithoutEdges κs t out after r) where
   -- A tree that fails question 5, 6 or 7 is refused with its number; the buffer is unchanged.
   pub refused-unreadable : (q : ℕ) → header_result t.now ≡ suc q → (r ≡ Refused (suc q)) × (after.now ≡ out.now)
   unfolding without_edges_buffer without_edges_refusal

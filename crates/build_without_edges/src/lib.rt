@@ -1,4 +1,6 @@
 // Writes a tree in layout 1, without its edges, into a buffer of the caller.
+#![tactic(auto)]
+
 ghost use Rattle.std.specs.Prelude.{◌++◌, ◌≡◌, ◌+◌, ◌-◌, ◌*◌, ◌/◌, ◌≤◌, ◌<◌, length, take, drop};
 ghost use Rattle.text.specs.Text.{tabulate, concat};
 ghost use Rattle.format.specs.Answers.{replied};

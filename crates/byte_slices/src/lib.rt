@@ -1,4 +1,6 @@
 // Functions on ranges of bytes: count or find a byte, compare, copy, clear; and the smaller of two lengths.
+#![tactic(auto)]
+
 ghost use Rattle.std.specs.Prelude.{◌≡◌, [], ◌++◌, ◌+◌, ◌≤◌, min, length, drop, replicate};
 ghost use Rattle.text.specs.Text.{same_list, substring, count_in};
 ghost use Rattle.byte_slices.specs.ByteSlices.{HasBytes, bytes_written};

@@ -1,4 +1,6 @@
 // Question 9: whether all counts before, inside and skip are right.
+#![tactic(auto)]
+
 ghost use Rattle.std.specs.Prelude.{◌≡◌};
 ghost use Rattle.format.specs.TreeReading.{text_of, counts_true};
 ghost use Rattle.check_counts.specs.CountsAsked.{Linking};

@@ -1,4 +1,6 @@
 // Question 8: whether the starts, kinds, links, gaps, block counts and the leaf count of a tree are right.
+#![tactic(auto)]
+
 mod block_links;
 mod level_read;
 

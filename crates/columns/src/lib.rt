@@ -1,4 +1,6 @@
 // Rearranges a text of rows of one width by columns (matrix transposition), and back.
+#![tactic(auto)]
+
 ghost use Rattle.std.specs.Prelude.{◌++◌, cond, ◌≡◌, ◌*◌, ◌≤◌, ◌<◌, length, drop};
 ghost use Rattle.std.proofs.Math.Seq.{paste};
 ghost use Rattle.columns.specs.Columns.{transposed, width_ok, refusal_of, columns_refusal, columns_buffer, uncolumns_buffer};

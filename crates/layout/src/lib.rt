@@ -1,4 +1,6 @@
 // Reads and writes the bytes of a tree in place: words, settings, the header, the fields of a record.
+#![tactic(auto)]
+
 pub mod cut;
 pub mod fields;
 pub mod header;

@@ -1,4 +1,6 @@
 // Licence dates: a first and a last day, each written as eight digits. Open on a day, days left, renewal.
+#![tactic(auto)]
+
 mod calendar;
 mod days;
 

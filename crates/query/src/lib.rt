@@ -1,4 +1,6 @@
 // The public calls that read a tree. Any bytes may be given as a tree; no call has a `requires`. The theorems about them are in the crate `theorems`.
+#![tactic(auto)]
+
 pub use build_guide::{check_guide, make_guide};
 pub use build_without_edges::{WithoutEdgesAnswer, without_edges};
 pub use layout::place::TextPlace;

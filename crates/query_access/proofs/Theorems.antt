@@ -8,7 +8,7 @@ use mathlib.Core.Path.{◌≡◌, ap, ◌∙◌}
 use Prim.Native.Nat.{ℕ, suc, ◌+◌, ◌-◌, ◌*◌, ◌≤◌, ◌<◌}
 use native.Mathlib.Omega.{arith}
 use contract.Lifetimes.{Lfts}
-use denote.Ref.{Bor}
+use denote.Ref.{Bor, MutBor}
 use lib.ListN.{length, get_or, take, drop}
 use Rattle.text.specs.Text.{substring}
 use Rattle.text.specs.declared.TextPlace.{TextPlace}
@@ -38,7 +38,7 @@ abbrev pub Run : (κs : Lfts 1) → Bor (List ℕ) → TextPlace → Bor (List �
 Run κs t p r = run-reads.Post κs (t, (p, tt)) r (t, (p, tt))
 
 -- The contract of `span`; `after` is the buffer after the call.
-abbrev pub Span : (κs : Lfts 2) → Bor (List ℕ) → TextPlace → ℕ → Bor (List ℕ) → Bor (List ℕ) → SpanAnswer → Type 0
+abbrev pub Span : (κs : Lfts 2) → Bor (List ℕ) → TextPlace → ℕ → MutBor (List ℕ) → MutBor (List ℕ) → SpanAnswer → Type 0
 Span κs t p len buffer after r = span-reads.Post κs (t, (p, (len, (buffer, tt)))) r (t, (p, (len, (after, tt))))
 
 -- The answer in each case.
@@ -103,7 +103,7 @@ module _ (t : Bor (List ℕ)) (pass : header_result t.now ≡ 0) (links : links_
     pub some_byte : 1 ≤ size
     pub in_text : p + size ≤ at.text_length t.now
     pub in_tree : from + size ≤ length t.now
-    pub place : r.ref_ptr ≡ (t.ptr.0, t.ptr.1 + from)
+    pub place : r.ref_ptr ≡ (t.ref_ptr.0, t.ref_ptr.1 + from)
     pub of_tree : r.now ≡ take size (drop from t.now)
     pub of_text : r.now ≡ substring (text_of t.now) p size
 

@@ -1,4 +1,6 @@
 // Byte, run and span: any bytes may be given as a tree, and each call checks questions 5 to 7 first.
+#![tactic(auto)]
+
 pub mod descent;
 pub mod read_by_header;
 mod short_copy;

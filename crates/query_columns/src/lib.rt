@@ -1,4 +1,6 @@
 // Reads a row of the original text from the tree of a text by columns. Any bytes may be given as a tree: questions 5 to 7 come first.
+#![tactic(auto)]
+
 ghost use Rattle.std.specs.Prelude.{◌≡◌, length};
 ghost use Rattle.layout.specs.HeaderFields.{HeaderOf};
 ghost use Rattle.query_columns.specs.ColumnRows.{IsRowByColumnsAnswer, row_by_columns_buffer};

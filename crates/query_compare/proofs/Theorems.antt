@@ -8,7 +8,7 @@ use native.Mathlib.Omega.{arith}
 use native.Mathlib.Numerals.{add-one}
 use native.Mathlib.Nat.{add-zero}
 use contract.Lifetimes.{Lfts}
-use denote.Ref.{Bor}
+use denote.Ref.{Bor, MutBor}
 use borrow.Author.Tests.{lt-ltb, le-ltb}
 use lib.ListN.{length, get_or, drop, drop_of_length-le}
 use lib.Seq.{drop-cons}
@@ -195,7 +195,7 @@ module _ (κs : Lfts 2) (t u : Bor (List ℕ)) (r : CompareAnswer) (a : Compare 
               outcome-is r after p (a.answers ∙ from-there ∙ e ∙ rw (le-ltb (byte_answer t.now p).value (byte_answer u.now p).value (omega arith)))
 
 -- r is a slice that the contract of `first` allows to be returned, with these figures.
-abbrev pub CompareFirst : (κs : Lfts 4) → (t u : Bor (List ℕ)) → (number order length number' order' length' : Bor ℕ) → Bor (List ℕ) → Type 0
+abbrev pub CompareFirst : (κs : Lfts 4) → (t u : Bor (List ℕ)) → (number order length number' order' length' : MutBor ℕ) → Bor (List ℕ) → Type 0
 CompareFirst κs t u number order length number' order' length' r =
     first_reads.Post κs (t, (u, (number, (order, (length, tt))))) r (t, (u, (number', (order', (length', tt)))))
 
@@ -213,7 +213,7 @@ module _ (t u : Bor (List ℕ)) (rt : header_result t.now ≡ 0) (ru : header_re
   compare-texts κs r a = outcome-is r s n (a.answers ∙ order-of-texts t.now u.now rt ru lt lu)
 
   -- `first` returns the tree whose text comes first, the first argument if the texts are equal, with the figures of the comparison.
-  pub first-texts : (κs : Lfts 4) (number order length number' order' length' : Bor ℕ) (r : Bor (List ℕ))
+  pub first-texts : (κs : Lfts 4) (number order length number' order' length' : MutBor ℕ) (r : Bor (List ℕ))
       → CompareFirst κs t u number order length number' order' length' r
       → (r ≡ first_of s t u) × (record { number = number'.now; value = order'.now; entered = length'.now } ≡ order_answer s n)
   first-texts κs number order length number' order' length' r a =

@@ -1,4 +1,6 @@
 // The lexicographic order of the texts of two trees: both are read up to the first difference.
+#![tactic(auto)]
+
 mod side_by_side;
 
 ghost use Rattle.std.specs.Prelude.{◌≡◌};

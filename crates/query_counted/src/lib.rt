@@ -1,4 +1,6 @@
 // A counted byte: its number in the header, and how often it occurs in the whole text. Count, find and row use it.
+#![tactic(auto)]
+
 ghost use Rattle.std.specs.Prelude.{◌≡◌, ◌≤◌, ◌<◌};
 ghost use Rattle.format.specs.Layout as at;
 ghost use Rattle.format.specs.Answers.{number_of_byte};

@@ -1,4 +1,6 @@
 // digest: the SHA-256 of the text of a tree, for any bytes given as a tree.
+#![tactic(auto)]
+
 ghost use Rattle.std.specs.Prelude.{◌≡◌, ◌+◌, ◌-◌, ◌≤◌, ◌<◌, length};
 ghost use Rattle.layout.specs.HeaderFields.{HeaderOf};
 ghost use Rattle.query_digest.specs.Digest.{digest_refusal, digest_buffer};

@@ -1,5 +1,7 @@
 // Guides (sampled select directories): what a guide contains, and its size. A guide has, for each counted byte, a word for every 64 occurrences:
 // the block of level 0 that contains the first of them. Making and checking one needs the check of the tree: see `build_guide`.
+#![tactic(auto)]
+
 pub mod entry_words;
 
 ghost use Rattle.std.specs.Prelude.{◌≡◌};

@@ -1,4 +1,6 @@
 // Find with a guide: its steps on level 0 start at an entry of the guide. Any bytes may be given as a tree: questions 5 to 7 come first.
+#![tactic(auto)]
+
 pub mod guided_find;
 
 ghost use Rattle.query_guided.specs.Guided.{IsFindGuidedAnswer};

@@ -1,5 +1,7 @@
 // The figures of a tree that a caller needs before reading its text: those of the header, and the totals of the counted bytes; and the version of the
 // library.
+#![tactic(auto)]
+
 ghost use Rattle.std.specs.Prelude.{◌≡◌, ◌≤◌, ◌<◌, length};
 ghost use Rattle.text.specs.Text.{tabulate};
 ghost use Rattle.format.specs.Layout.{max_levels, max_counted, header_length};

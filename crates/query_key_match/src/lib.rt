@@ -1,4 +1,6 @@
 // The search for a worn key: the next row whose cuts are each in a range of depths.
+#![tactic(auto)]
+
 mod key_search;
 
 ghost use Rattle.std.specs.Prelude.{◌≡◌};

@@ -8,7 +8,7 @@ use mathlib.Core.Logic.{◌⊎◌, inl, inr}
 use Prim.Native.Nat.{ℕ, zero, suc, ◌+◌, ◌≤◌, ◌<◌}
 use native.Mathlib.Omega.{arith}
 use contract.Lifetimes.{Lfts}
-use denote.Ref.{Bor}
+use denote.Ref.{Bor, MutBor}
 use borrow.Author.Tests.{le-leb, lt-leb, leb-true, ne_eqb}
 use lib.ListN.{length, drop}
 use lib.Dec.{leb, eqb}
@@ -118,14 +118,14 @@ abbrev pub PlacesWords : (κs : Lfts 1) → Bor (List ℕ) → (len : ℕ) → P
 PlacesWords κs t len r = words-reads.Post κs (t, (len, tt)) r (t, (len, tt))
 
 -- On any tree that passes questions 5 to 7, a table of the words that places_words returns for a pattern's length is large enough for all its places.
-module _ (κ : Lfts 1) (t P table : Bor (List ℕ))
+module _ (κ : Lfts 1) (t P : Bor (List ℕ)) (table : MutBor (List ℕ))
     (words : ℕ) (a : PlacesWords κ t (length P.now) (places-words.Words words)) (enough : words ≤ length table.now) where
   pub room-holds : length (places_in P.now (text_of t.now)) ≤ length table.now
   unfolding places_of
   room-holds = let k = words-answered t.now (length P.now) words a.answers in omega (arith, k.words_are, places-few t.now P.now k.low)
 
   -- With a table of that size the call is not refused with 17.
-  pub room-enough : (κs : Lfts 3) (after : Bor (List ℕ)) → Places κs t P table after (places.Refused 17) → ⊥
+  pub room-enough : (κs : Lfts 3) (after : MutBor (List ℕ)) → Places κs t P table after (places.Refused 17) → ⊥
   unfolding places_answer places_refusal pattern_ok places_of
   room-enough κs after b = go (paths_hold t.now 0 (at.text_length t.now)) refl
     where

@@ -1,4 +1,6 @@
 // Places (locate): all places of a pattern in the bytes that the paths of a tree give.
+#![tactic(auto)]
+
 mod pattern_seek;
 mod room;
 

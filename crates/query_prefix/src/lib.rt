@@ -1,4 +1,6 @@
 // Rows by prefix: the next row after a mark that starts with a prefix, without a guide and with one.
+#![tactic(auto)]
+
 mod prefix_search;
 
 ghost use Rattle.format.specs.TreeReading.{check_result};

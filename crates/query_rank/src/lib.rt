@@ -1,4 +1,6 @@
 // Count (rank): how often a counted byte occurs in a prefix of the text. Any bytes may be given as a tree: questions 5 to 7 come first.
+#![tactic(auto)]
+
 mod count_by_header;
 mod sums;
 pub mod uncounted;

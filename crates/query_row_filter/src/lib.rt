@@ -1,4 +1,6 @@
 // What all searches for the next selected row share: where the rows after a mark begin, and what is returned.
+#![tactic(auto)]
+
 pub mod rows_after;
 
 // The next row, which is the new mark; or none, with the new mark; or the refusal, with the mark unchanged.

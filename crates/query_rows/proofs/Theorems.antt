@@ -7,7 +7,7 @@ use mathlib.Core.Logic.{◌⊎◌, inl, inr}
 use Prim.Native.Nat.{ℕ, ◌-◌, ◌≤◌, ◌<◌}
 use native.Mathlib.Omega.{arith}
 use contract.Lifetimes.{Lfts}
-use denote.Ref.{Bor}
+use denote.Ref.{Bor, MutBor}
 use lib.ListN.{length, drop}
 use borrow.Author.Tests.{eq-eqb, ne_eqb, lt-ltb, le-ltb}
 use Rattle.text.specs.ListLaws.{lt-or-ge}
@@ -76,7 +76,7 @@ module _ (t : List ℕ) (v : check_result t ≡ 0)
 
 -- If the tree and the guide are accepted, row with a guide returns what row returns.
 pub guided-as-row : (κs : Lfts 3) (t guide : Bor (List ℕ)) (q : ℕ) (buffer after : MutBor (List ℕ)) (r : RowAnswer) → RowGuided κs t guide q buffer after r
-    → guide_refusal t.now guide.now ≡ 0 → (κ : Lfts 2) (left : Bor (List ℕ)) (s : RowAnswer) → Row κ t q buffer left s → (r ≡ s) × (after.now ≡ left.now)
+    → guide_refusal t.now guide.now ≡ 0 → (κ : Lfts 2) (left : MutBor (List ℕ)) (s : RowAnswer) → Row κ t q buffer left s → (r ≡ s) × (after.now ≡ left.now)
 guided-as-row κs t guide q buffer after r a g κ left s b =
     let v = guide-checked t.now guide.now g in
     let z = a.answers in

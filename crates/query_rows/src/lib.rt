@@ -1,5 +1,7 @@
 // Row: copies one row of the text, with or without a guide; the length of a row, and the number of rows. Any bytes may be given as a tree: questions 5 to 7
 // come first.
+#![tactic(auto)]
+
 mod next_newline;
 pub mod row_bounds;
 mod row_copy;

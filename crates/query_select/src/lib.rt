@@ -1,4 +1,6 @@
 // Find (select): the place of the j-th occurrence of a counted byte. Any bytes may be given as a tree: questions 5 to 7 come first.
+#![tactic(auto)]
+
 pub mod find_by_header;
 pub mod seek;
 

@@ -1,4 +1,6 @@
 // A hash table in the caller's words: the blocks and pairs of a level by their fingerprints, and lookups of the text's windows.
+#![tactic(auto)]
+
 mod chain_head;
 pub mod entry;
 pub mod item;

@@ -1,4 +1,6 @@
 // One pass over the text for a level: enters its blocks and pairs in the table, then looks up every window of their lengths.
+#![tactic(auto)]
+
 mod enter;
 mod pass;
 

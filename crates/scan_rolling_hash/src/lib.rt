@@ -1,5 +1,7 @@
 // Windows that roll over a text. Their fingerprints are modulo the prime 2^31 - 1, with a base from a seed: a text that is chosen without knowing the seed
 // has equal fingerprints of different windows only by chance.
+#![tactic(auto)]
+
 ghost use Rattle.std.specs.Prelude.{◌≡◌, ◌+◌, ◌-◌, ◌*◌, ◌/◌, ◌%◌, ◌^◌, ◌≤◌, ◌<◌, length, take, get_or};
 ghost use Rattle.text.specs.Text.{substring};
 ghost use Rattle.scan_rolling_hash.specs.Fingerprints.{base_of, fingerprint};

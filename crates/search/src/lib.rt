@@ -1,5 +1,7 @@
 // The leftmost occurrence of bytes of a text, by Karp-Rabin fingerprints: equal fingerprints only
 // propose a place, and a comparison of bytes decides.
+#![tactic(auto)]
+
 mod karp_rabin;
 mod scan;
 

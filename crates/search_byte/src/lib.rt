@@ -1,6 +1,8 @@
 // The first occurrence of a byte. Sixteen bytes are compared at once: their results are the binary digits of one number, and that
 // number's trailing zeros are the bytes before the first occurrence. The sum of two halves on each level is what the compiler
 // turns into one vector comparison.
+#![tactic(auto)]
+
 ghost use Rattle.std.specs.Prelude.{◌≡◌, ◌+◌, ◌≤◌, ◌<◌, min, length};
 ghost use Rattle.search_byte.specs.FirstByte.{FirstByte, bit_of, mask_of};
 

@@ -1,5 +1,7 @@
 // The search for a pattern in bytes that are read one at a time (Knuth, Morris, Pratt). The state is the length of the longest prefix of the pattern that is
 // a suffix of the bytes read. Each byte is read once, and none is stored.
+#![tactic(auto)]
+
 ghost use Rattle.std.specs.Prelude.{◌≡◌, ◌&&◌, ◌+◌, ◌≤◌, ◌<◌, length, get_or, ltb, eqb};
 ghost use Rattle.search_kmp.specs.Borders.{Next, Borders, GoesOn};
 

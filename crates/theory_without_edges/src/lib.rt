@@ -1,1 +1,2 @@
 // A tree without its edges, and its theorems. All of this crate is in specs/ and proofs/.
+#![tactic(auto)]

@@ -7,7 +7,7 @@ use mathlib.Core.Bool.{true, Bool}
 use mathlib.Core.Option.{some}
 use Prim.Native.Nat.{ℕ, ◌+◌, ◌≤◌, ◌<◌}
 use contract.Lifetimes.{Lfts}
-use denote.Ref.{Bor}
+use denote.Ref.{Bor, MutBor}
 use lib.ListN.{length, get_or, take, drop}
 use lib.Seq.{take-append_seam}
 use lib.Dec.{leb}

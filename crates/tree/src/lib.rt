@@ -1,4 +1,6 @@
 // The public calls on whole trees: build and build_scanned write the block tree of a text, check accepts or refuses any bytes as a tree.
+#![tactic(auto)]
+
 ghost use Rattle.std.specs.Prelude.{◌≡◌};
 ghost use Rattle.format.specs.TreeReading.{check_result};
 ghost use Rattle.layout.specs.HeaderFields.{HeaderOf};

@@ -1,5 +1,7 @@
 // The bytes of some places of the text, whose paths are walked together: level by level, each path one step. The steps of different paths do not depend on
 // each other, so that the processor overlaps them.
+#![tactic(auto)]
+
 ghost use Rattle.std.specs.Prelude.{◌+◌, ◌-◌, ◌≤◌, ◌<◌, length};
 ghost use Rattle.format.specs.Layout as at;
 ghost use Rattle.layout.specs.HeaderFields.{HeaderOf};

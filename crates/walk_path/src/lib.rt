@@ -1,5 +1,7 @@
 // The walk along the path of a place. The steps of kept and pointing blocks are mutually recursive. Their measure is 2 × (levels left), plus 1
 // while a pointer can be followed. A step carries no header and returns one word.
+#![tactic(auto)]
+
 ghost use Rattle.std.specs.Prelude.{◌≡◌, ◌+◌, ◌-◌, ◌*◌, ◌/◌, ◌≤◌, ◌<◌};
 ghost use Rattle.format.specs.Layout as at;
 ghost use Rattle.walk_steps.specs.Steps.{OnLevel};

@@ -49,7 +49,7 @@ split-mod q c r =
 
 -- Leaf numbers.
 
-leaf-enter : (vs : List Visit) (p : Option Path) → leaf_number (entered vs p) ≡ leaf_number p
+pub leaf-enter : (vs : List Visit) (p : Option Path) → leaf_number (entered vs p) ≡ leaf_number p
 leaf-enter vs none = refl
 leaf-enter vs (some q) = refl
 

@@ -1,5 +1,7 @@
 // The steps of a path: the kind of the block that is reached, and the block that a place refers to. A number past the table, even past 32 bits, is no block.
 // The starts of blocks are not read. `size` is the number of bytes of a record.
+#![tactic(auto)]
+
 pub mod position;
 
 ghost use Rattle.std.specs.Prelude.{◌≡◌, cond, ◌+◌, ◌*◌, ◌/◌, ◌%◌, ◌≤◌, ◌<◌, ltb};

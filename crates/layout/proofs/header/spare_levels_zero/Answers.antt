@@ -28,10 +28,10 @@ returns-then-count-offset-ne0 c = scan-fails (zero_level c.args.t.now c.args.lev
 pub loop-x-preserved : goal.loop-x-preserved
 unfolding spare_levels
 loop-x-preserved c = (
-      omega arith,
-      scan-more (zero_level c.args.t.now c.args.levels) c.loop-x.x c.loop-x.invariant.1
-          (level-zero c.args.t.now c.args.levels c.loop-x.x _ _ c.read-count.ensures c.read-offset.ensures c.if-count-offset-ne0.false),
-    )
+  omega arith,
+  scan-more (zero_level c.args.t.now c.args.levels) c.loop-x.x c.loop-x.invariant.1
+      (level-zero c.args.t.now c.args.levels c.loop-x.x _ _ c.read-count.ensures c.read-offset.ensures c.if-count-offset-ne0.false),
+)
 
 pub returns : goal.returns
 unfolding spare_levels

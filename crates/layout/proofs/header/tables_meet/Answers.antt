@@ -18,16 +18,16 @@ returns-then-offset-end c = level-apart c.args.t.now c.args.levels (scan-fails (
 
 pub loop-l-preserved : goal.loop-l-preserved
 loop-l-preserved c = (
-      omega arith,
-      (
-        end_more c.args.t.now c.loop-l.l _ _ _ _ c.loop-l.invariant.1.0 c.read.ensures c.requires.2 c.table_bytes-end.ensures.0,
-        (
-          omega (arith, c.table_bytes-end.ensures.1, c.loop-l.invariant.1.1.0),
-          scan-more (follows c.args.t.now) c.loop-l.l c.loop-l.invariant.1.1.1
-              (meets c.args.t.now c.loop-l.l _ _ c.loop-l.invariant.1.0 c.read-offset.ensures c.if-offset-end.false),
-        ),
-      ),
-    )
+  omega arith,
+  (
+    end_more c.args.t.now c.loop-l.l _ _ _ _ c.loop-l.invariant.1.0 c.read.ensures c.requires.2 c.table_bytes-end.ensures.0,
+    (
+      omega (arith, c.table_bytes-end.ensures.1, c.loop-l.invariant.1.1.0),
+      scan-more (follows c.args.t.now) c.loop-l.l c.loop-l.invariant.1.1.1
+          (meets c.args.t.now c.loop-l.l _ _ c.loop-l.invariant.1.0 c.read-offset.ensures c.if-offset-end.false),
+    ),
+  ),
+)
 
 pub returns : goal.returns
 returns c = let e : c.loop-l.l ≡ c.args.levels = omega arith in

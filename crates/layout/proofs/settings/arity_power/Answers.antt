@@ -13,12 +13,12 @@ overflow_mul-square-2 c = record { fits = omega (arith, laws.fourth-bound _ _ c.
 
 pub overflow_mul-result-2 : goal.overflow_mul-result-2
 overflow_mul-result-2 c = record {
-      fits = omega (
-        arith,
-        laws.three-bound c.args.arity c.args.exponent c.requires.0 c.requires.1
-            _ _ c.factor.ensures c.factor-2.ensures _ c.factor-3.ensures,
-      );
-    }
+  fits = omega (
+    arith,
+    laws.three-bound c.args.arity c.args.exponent c.requires.0 c.requires.1
+        _ _ c.factor.ensures c.factor-2.ensures _ c.factor-3.ensures,
+  );
+}
 
 pub returns : goal.returns
 returns c = laws.three_digits c.args.arity c.args.exponent c.requires.0 c.requires.1

@@ -21,32 +21,32 @@ returns-then-arity-lt-MIN_ARITY c = simp (le-leb min_leaf _ c.if-leaf-lt-MIN_LEA
 pub returns-then-arity-gt-MAX_ARITY : goal.returns-then-arity-gt-MAX_ARITY
 unfolding sizes_ok
 returns-then-arity-gt-MAX_ARITY c = simp (
-      le-leb min_leaf _ c.if-leaf-lt-MIN_LEAF.false,
-      le-leb _ max_leaf c.if-leaf-gt-MAX_LEAF.false,
-      le-leb min_arity _ c.if-arity-lt-MIN_ARITY.false,
-      lt-leb _ max_arity c.if-arity-gt-MAX_ARITY.true,
-    )
+  le-leb min_leaf _ c.if-leaf-lt-MIN_LEAF.false,
+  le-leb _ max_leaf c.if-leaf-gt-MAX_LEAF.false,
+  le-leb min_arity _ c.if-arity-lt-MIN_ARITY.false,
+  lt-leb _ max_arity c.if-arity-gt-MAX_ARITY.true,
+)
 
 pub returns-then-levels-lt-MIN_LEVELS : goal.returns-then-levels-lt-MIN_LEVELS
 unfolding sizes_ok
 returns-then-levels-lt-MIN_LEVELS c = simp (
-      le-leb min_leaf _ c.if-leaf-lt-MIN_LEAF.false,
-      le-leb _ max_leaf c.if-leaf-gt-MAX_LEAF.false,
-      le-leb min_arity _ c.if-arity-lt-MIN_ARITY.false,
-      le-leb _ max_arity c.if-arity-gt-MAX_ARITY.false,
-      lt-leb min_levels _ c.if-levels-lt-MIN_LEVELS.true,
-    )
+  le-leb min_leaf _ c.if-leaf-lt-MIN_LEAF.false,
+  le-leb _ max_leaf c.if-leaf-gt-MAX_LEAF.false,
+  le-leb min_arity _ c.if-arity-lt-MIN_ARITY.false,
+  le-leb _ max_arity c.if-arity-gt-MAX_ARITY.false,
+  lt-leb min_levels _ c.if-levels-lt-MIN_LEVELS.true,
+)
 
 pub returns-then-levels-gt-MAX_LEVELS : goal.returns-then-levels-gt-MAX_LEVELS
 unfolding sizes_ok
 returns-then-levels-gt-MAX_LEVELS c = simp (
-      le-leb min_leaf _ c.if-leaf-lt-MIN_LEAF.false,
-      le-leb _ max_leaf c.if-leaf-gt-MAX_LEAF.false,
-      le-leb min_arity _ c.if-arity-lt-MIN_ARITY.false,
-      le-leb _ max_arity c.if-arity-gt-MAX_ARITY.false,
-      le-leb min_levels _ c.if-levels-lt-MIN_LEVELS.false,
-      lt-leb _ max_levels c.if-levels-gt-MAX_LEVELS.true,
-    )
+  le-leb min_leaf _ c.if-leaf-lt-MIN_LEAF.false,
+  le-leb _ max_leaf c.if-leaf-gt-MAX_LEAF.false,
+  le-leb min_arity _ c.if-arity-lt-MIN_ARITY.false,
+  le-leb _ max_arity c.if-arity-gt-MAX_ARITY.false,
+  le-leb min_levels _ c.if-levels-lt-MIN_LEVELS.false,
+  lt-leb _ max_levels c.if-levels-gt-MAX_LEVELS.true,
+)
 
 pub power-requires : goal.power-requires
 unfolding sizes_ok
@@ -55,11 +55,11 @@ power-requires c = search rules
 pub returns : goal.returns
 unfolding sizes_ok
 returns c = simp (
-      le-leb min_leaf _ c.if-leaf-lt-MIN_LEAF.false,
-      le-leb _ max_leaf c.if-leaf-gt-MAX_LEAF.false,
-      le-leb min_arity _ c.if-arity-lt-MIN_ARITY.false,
-      le-leb _ max_arity c.if-arity-gt-MAX_ARITY.false,
-      le-leb min_levels _ c.if-levels-lt-MIN_LEVELS.false,
-      le-leb _ max_levels c.if-levels-gt-MAX_LEVELS.false,
-    )
+  le-leb min_leaf _ c.if-leaf-lt-MIN_LEAF.false,
+  le-leb _ max_leaf c.if-leaf-gt-MAX_LEAF.false,
+  le-leb min_arity _ c.if-arity-lt-MIN_ARITY.false,
+  le-leb _ max_arity c.if-arity-gt-MAX_ARITY.false,
+  le-leb min_levels _ c.if-levels-lt-MIN_LEVELS.false,
+  le-leb _ max_levels c.if-levels-gt-MAX_LEVELS.false,
+)
     (ap (λ (b : ℕ). leb b max_text) c.power.ensures)

@@ -24,7 +24,7 @@ overflow_add-i-in-loop-i-2 c = search (rules, c.well_formed.1.1.1.0.1.1.1.0.1.1.
 pub overflow_add-steps : goal.overflow_add-steps
 overflow_add-steps c = omega (
       arith,
-      (add-i c).ranges,
+      (overflow_add-i-in-loop-i-2 c).fits,
       c.by_fours-near.ensures.0.low,
       c.by_fours-near.ensures.1,
       c.loop-i.invariant.0,

@@ -1,0 +1,10 @@
+use mathlib.Core.Path.{sym}
+use lib.Seq.{length-take-le}
+use Rattle.cases_script.proofs.GivenBytesLaws.{gives-inside}
+use Rattle.cases.proofs.guide_cases.make.Goals as goal
+
+pub slice_bounds-make_of-end : goal.slice_bounds-make_of-end
+slice_bounds-make_of-end c = gives-inside _ _ _ _ c.named-made.ensures c.in-Bytes.is
+
+pub slice_bounds-make_of-end-in-Bytes : goal.slice_bounds-make_of-end-in-Bytes
+slice_bounds-make_of-end-in-Bytes c = sym (length-take-le c.in-Bytes.n c.named-made.new.out (gives-inside _ _ _ _ c.named-made.ensures c.in-Bytes.is))
