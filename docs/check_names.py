@@ -28,7 +28,7 @@ GIVEN_UP = {
     "leafing": "leaf bytes", "Roomy": "what holds",
 }
 DEFINITION = re.compile(r"^([ ]*)((?:abbrev |unfoldable |pub |opaque )*)(?:(?:record|data) )?([^\s(){}:,.;]+)(?=[\s(:{])(?:[^\n=]*?)(?<![\w-])(?::|where)", re.M)
-LIBRARY = re.compile(r"^(?:ghost )?(?:pub )?use (?!Rattle·)[\w.·-]+\.\{([^}]*)\}", re.M)
+LIBRARY = re.compile(r"^(?:ghost )?(?:pub )?use (?:(?!Rattle\.)|Rattle\.std\.)[\w.-]+\.\{([^}]*)\}", re.M)
 ITEM = re.compile(r"\b(?:fn|struct|enum|const|mod) (\w+)")
 
 
