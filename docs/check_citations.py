@@ -17,6 +17,11 @@ PAGES = ["README.md", "CHANGELOG.md", "CONTRIBUTING.md", *(f"docs/{path.name}" f
 AUDIT = ["docs/PROOFS.md", "docs/THEOREMS.md", "docs/CALLS.md", "docs/LINES.md", "docs/MUST_FAIL.md"]
 
 
+def sources():
+    """The files of code, definitions and proofs, without what rt makes."""
+    return sorted(path for kind in ("antt", "rt") for path in CRATES.glob(f"**/*.{kind}") if "out" not in path.parts)
+
+
 def comments(text):
     """The comment lines of a file as one text."""
     return " ".join(re.findall(r"^\s*(?:--|//)\s?(.*)", text, re.M))
@@ -49,7 +54,7 @@ def links_missing(name, text):
 def names_missing():
     """The definitions, theorems, functions, modules and crates that the pages of the audit name and that no crate has."""
     known = set()
-    for path in [*CRATES.glob("**/*.antt"), *CRATES.glob("**/*.rt")]:
+    for path in sources():
         known.add(path.stem)
         known.update(path.relative_to(CRATES).parts)
         known.update(re.findall(r"[^\s(){};,.:⌜⌝|&<>*]+", re.sub(r"^\s*(//|--).*$", "", path.read_text(), flags=re.M)))
@@ -61,7 +66,7 @@ def names_missing():
 
 def from_comments(headings):
     definitions = {path.name: "".join(f.read_text() for f in path.glob("*/*.antt")) for path in CRATES.iterdir() if path.is_dir()}
-    for path in sorted([*CRATES.glob("**/*.antt"), *CRATES.glob("**/*.rt")]):
+    for path in sources():
         name, text = path.relative_to(ROOT), comments(path.read_text())
         yield from (f"{name}: docs/FORMAT.md has no heading {heading!r}" for heading in headings_missing(text, headings))
         yield from (f"{name}: there is no {file}" for file in files_missing(text))

@@ -11,11 +11,16 @@ from pathlib import Path
 
 ROOT = Path(__file__).resolve().parents[1]
 CRATES = ROOT / "crates"
-COMMON = {"Lib", "Theorems", "lib", "main", "Proof"}
+COMMON = {"Lib", "Theorems", "lib", "main", "Proof", "Invariants", "Answers"}
+
+
+def sources(folder):
+    """The files of code, definitions and proofs below a folder, without what rt makes there."""
+    return sorted(path for kind in ("antt", "rt") for path in folder.glob(f"**/*.{kind}") if "out" not in path.parts)
 
 
 def long_lines():
-    for path in sorted([*CRATES.glob("**/*.antt"), *CRATES.glob("**/*.rt")]):
+    for path in sources(CRATES):
         for number, line in enumerate(path.read_text().splitlines(), 1):
             if len(line) > 160:
                 yield f"{path.relative_to(ROOT)}:{number}: {len(line)} characters"
@@ -35,6 +40,7 @@ def listed():
     found, last = {}, ""
     for line in (ROOT / "crates.txt").read_text().splitlines():
         name, _, below = line.partition(":")
+        name = name.split(" ")[0]
         if line and not line.startswith("#"):
             found[name] = (below.split(), bool(re.match("# [a-z]", last)))
         last = line
@@ -44,12 +50,11 @@ def listed():
 def named(crate, others):
     """The crates that a crate's files name."""
     text = ""
-    for path in sorted((CRATES / crate).glob("**/*")):
-        if path.suffix in (".rt", ".antt"):
-            text += re.sub(r"^\s*(//|--).*$", "", path.read_text(), flags=re.M)
+    for path in sources(CRATES / crate):
+        text += re.sub(r"^\s*(//|--).*$", "", path.read_text(), flags=re.M)
     modules = {path.stem for path in (CRATES / crate).glob("src/*.rt")}
-    code = {name for name in others - modules if re.search(rf"(?<![\w:.·]){name}::|^(pub )?use {name};", text, re.M)}
-    return (code | set(re.findall(r"Rattle·([a-z_0-9]+)", text)) & others) - {crate}
+    code = {name for name in others - modules if re.search(rf"(?<![\w:.]){name}::|^(pub )?use {name};", text, re.M)}
+    return (code | set(re.findall(r"Rattle\.([a-z_0-9]+)", text)) & others) - {crate}
 
 
 def dependencies():

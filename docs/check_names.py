@@ -19,7 +19,7 @@ COMMON = {"calls", "every-call-ends", "no-preconditions", "Find", "Row"}
 # a word that names must not have, and the word to use
 GIVEN_UP = {
     "Says": "Answer", "Said": "Answer or Reply", "says": "answers", "said": "answer", "saying": "answer", "told": "answered", "Told": "what holds", "Leaves": "Buffer (leaf bytes: LeafBytes)",
-    "verdict": "checkResult", "Verdict": "CheckResult", "readable": "header", "Enough": "SizeBound", "stretches": "byte_slices", "Demands": "Theorems", "trusts": "no-preconditions",
+    "verdict": "check_result", "Verdict": "CheckResult", "readable": "header", "Enough": "SizeBound", "stretches": "byte_slices", "Demands": "Theorems", "trusts": "no-preconditions",
     "twin": "equal item", "twins": "equal items", "Spot": "BlockPosition", "spot": "position", "Trail": "WalkState", "trail": "state", "worn": "key match",
     "Worn": "KeyMatch", "shelf": "sort", "Stretch": "BlockSpan or substring", "Stretches": "substrings",
     "stretch": "substring", "Standing": "ordering", "standing": "ordering", "Growth": "WritesOnlyTree", "grown": "only-tree", "Noted": "lengths", "noted": "lengths",
@@ -28,7 +28,7 @@ GIVEN_UP = {
     "leafing": "leaf bytes", "Roomy": "what holds",
 }
 DEFINITION = re.compile(r"^([ ]*)((?:abbrev |unfoldable |pub |opaque )*)(?:(?:record|data) )?([^\s(){}:,.;]+)(?=[\s(:{])(?:[^\n=]*?)(?<![\w-])(?::|where)", re.M)
-LIBRARY = re.compile(r"^(?:ghost )?(?:pub )?use (?!Rattle·)[\w.·-]+\.\{([^}]*)\}", re.M)
+LIBRARY = re.compile(r"^(?:ghost )?(?:pub )?use (?:(?!Rattle\.)|Rattle\.std\.)[\w.-]+\.\{([^}]*)\}", re.M)
 ITEM = re.compile(r"\b(?:fn|struct|enum|const|mod) (\w+)")
 
 

@@ -30,7 +30,7 @@ def contracts(path):
     """The text of each public function's `ensures`, by name."""
     found, name = {}, None
     for line in path.read_text().splitlines():
-        head = re.match(r'\s*(?:#\[no_mangle\] )?(pub )?(?:extern "C" )?fn (\w+)', line)
+        head = re.match(r"\s*(pub )?fn (\w+)", line)
         if head:
             name = head[2] if head[1] else None
         if line.strip() == "{":
@@ -43,7 +43,7 @@ def contracts(path):
 def imports(path):
     """The modules of specs/ that each name imported by a file comes from."""
     found = {}
-    for crate, rest in re.findall(r"^(?:ghost )?(?:pub )?use Rattle·(\w+?)(?:·specs)?\.specs\.(.*?);?$", path.read_text(), re.M):
+    for crate, rest in re.findall(r"^(?:ghost )?(?:pub )?use Rattle\.(?!std\.)(\w+)\.specs\.(.*?);?$", path.read_text(), re.M):
         if ".{" in rest:
             module, names = rest.split(".{")
             names = [name.strip().split(" as ")[-1] for name in names.rstrip("}").split(",")]
@@ -72,7 +72,7 @@ def outside():
 def named(path, name):
     """Each definition that a call's contract names, with its file."""
     known, found = imports(path), []
-    for word in re.findall(r"[^\s(){};,.⌜⌝]+", contracts(path)[name]):
+    for word in re.findall(r"[^\s(){};,.]+", contracts(path)[name]):
         found += [(word, module) for module in sorted(known.get(word, ())) if (word, module) not in found]
     return found
 
@@ -163,7 +163,7 @@ def crates_table():
     for crate in sorted(path for path in CRATES.iterdir() if path.is_dir()):
         code, promised = source(crate / "src")
         trusted = examples = laws = imported = 0
-        for path in crate.glob("**/*.antt"):
+        for path in (path for path in crate.glob("**/*.antt") if "out" not in path.parts):
             size, used = stated(path)
             imported += used
             if path in read:

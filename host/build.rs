@@ -1,4 +1,4 @@
-//! Links the proved library, target/staticlib/libabi.a; makes it first with `rt staticlib abi` if it is missing.
+//! Links the proved library, target/staticlib/libabi.a; makes it first with `host/make-archive` if it is missing.
 //!
 //! BLOCKTREE_ARCHIVE names another build of the archive, a file called lib*.a.
 //!
@@ -61,12 +61,12 @@ fn module(repository: &Path, archive: &Path) -> Option<PathBuf> {
 }
 
 fn make(repository: &Path) {
-    match Command::new("rt").args(["staticlib", "abi"]).current_dir(repository).status() {
+    match Command::new(repository.join("host/make-archive")).current_dir(repository).status() {
         Ok(status) if status.success() => {}
-        Ok(status) => fail(&format!("`rt staticlib abi` ended with {status}; run it at the top of the repository to see why")),
+        Ok(status) => fail(&format!("`host/make-archive` ended with {status}; run it at the top of the repository to see why")),
         Err(error) => fail(&format!(
-            "the library target/staticlib/libabi.a is not built, and `rt` of the Rattle toolchain cannot be started to build it ({error}). \
-             Install the toolchain, or run `rt staticlib abi` where it is and copy the archive here"
+            "the library target/staticlib/libabi.a is not built, and `host/make-archive`, which builds it with `rt` of the Rattle toolchain, cannot be started \
+             ({error}). Install the toolchain, or run `host/make-archive` where it is and copy the archive here"
         )),
     }
 }

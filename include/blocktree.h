@@ -1,8 +1,8 @@
 /* blocktree.h - block trees of code books: build, check and read them.
  *
  * C99 and C++. Link with libblocktree.a: -lblocktree after `make install` (pkg-config knows it as blocktree), target/libblocktree.a in the repository after
- * `make` or ./demo. That archive is for x86-64 Linux: it needs memcpy and memset and no other symbol, is position independent, and no call uses more than
- * 4 KB of stack. docs/TARGETS.md has the archives for other processors, what they need, and their stack. The format and every question are in
+ * `make` or ./demo. That archive is for x86-64 Linux (x86-64-v2): it needs memcpy and memset and no other symbol, is position independent, and no call uses
+ * more than 4 KB of stack. docs/TARGETS.md has the archives for other processors, what they need, and their stack. The format and every question are in
  * docs/FORMAT.md.
  *
  * What all calls have in common

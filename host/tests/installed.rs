@@ -261,15 +261,18 @@ fn the_demo() {
 #[test]
 fn the_archive_is_made_of_the_present_crates() {
     let root = folder("archive");
-    for name in ["host", "tools", "crates/abi"] {
+    for name in ["host", "targets", "tools", "crates/abi", "crates/abi_c"] {
         fs::create_dir_all(root.join(name)).expect("a folder");
     }
-    fs::copy(repository().join("host/make-archive"), root.join("host/make-archive")).expect("the script");
-    fs::write(root.join("crates.txt"), "text:\nabi: text # the calls\nother: abi\n").expect("a file");
+    for name in ["host/make-archive", "targets/below"] {
+        fs::copy(repository().join(name), root.join(name)).expect("the script");
+    }
+    fs::write(root.join("crates.txt"), "text:\nabi: text # the calls\nabi_c staticlib: abi\nother: abi\n").expect("a file");
     fs::write(root.join("crates/abi/source"), "1").expect("a file");
-    let rt = "#!/bin/sh\n[ \"$1\" = version ] && exec echo one\necho proved >> calls\n[ -e fails ] && { echo no proof; exit 1; }\n\
-              echo 'fn text::f: proved'; echo 'rt: text proved (1 s)'; sleep 2; echo 'rt: abi proved (2 s)'; echo 'rt: ok, 2 crates proved'\n\
-              mkdir -p target/staticlib && cp crates/abi/source target/staticlib/libabi.a\n";
+    // `rt lib` is called in the folder of abi_c
+    let rt = "#!/bin/sh\n[ \"$1\" = version ] && exec echo one\necho proved >> ../../calls\n[ -e ../../fails ] && { echo no proof; exit 1; }\n\
+              echo 'rt: chose --jobs 2 for text'; echo 'fn text::f: proved'; sleep 2; echo 'rt: chose --jobs 2 for abi'; echo 'rt: chose --jobs 2 for abi_c'\n\
+              mkdir -p out && cp ../abi/source out/libabi_c.a\n";
     fs::write(root.join("tools/rt"), rt).expect("a file");
     fs::set_permissions(root.join("tools/rt"), std::os::unix::fs::PermissionsExt::from_mode(0o755)).expect("permissions");
     let path = format!("{}:{}", root.join("tools").display(), std::env::var("PATH").unwrap_or_default());
@@ -279,10 +282,10 @@ fn the_archive_is_made_of_the_present_crates() {
     let said = String::from_utf8_lossy(&run().stderr).into_owned();
     // a line for each crate, with the time so far, where there is no terminal too
     let said: Vec<&str> = said.lines().map(|line| line.trim_start_matches([' ', '0', '1', '2', '3', '4', '5', '6', '7', '8', '9'])).collect();
-    assert_eq!(said.len(), 4, "{said:?}");
-    assert!(said[0].starts_with("proving the library, 2 crates: some ten minutes"), "{said:?}");
-    assert_eq!(said[1..3], ["s   1 of 2  text", "s   2 of 2  abi"]);
-    assert!(said[3].starts_with("the library is proved: 2 crates, "), "{said:?}");
+    assert_eq!(said.len(), 5, "{said:?}");
+    assert!(said[0].starts_with("proving the library, 3 crates: this takes long the first time"), "{said:?}");
+    assert_eq!(said[1..4], ["s   1 of 3  text", "s   2 of 3  abi", "s   3 of 3  abi_c"]);
+    assert!(said[4].starts_with("the library is proved: 3 crates, "), "{said:?}");
     assert!(run().stderr.is_empty());
     assert_eq!((calls(), archive()), (1, "1".to_owned()));
     fs::write(root.join("crates/abi/source"), "2").expect("a file");

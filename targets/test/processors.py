@@ -55,7 +55,7 @@ def compiled(target, program, archive, folder=None, flags=()):
 
 def clang():
     """The kit's compiler."""
-    return Path(run(["targets/kit"]).strip()) / "on" / os.uname().machine / "toolchain/bin/clang"
+    return Path(run(["targets/kit"]).strip()) / "toolchain/bin/clang"
 
 
 def compiled_to_wasm(program, out):

@@ -5,7 +5,7 @@ use mathlib.Core.Path.{◌≡◌, refl, sym, ap, ◌∙◌}
 use Prim.Native.Nat.{ℕ, zero, suc, ◌+◌, ◌-◌, ◌≤◌, ◌<◌}
 use native.Mathlib.Omega.{arith}
 use lib.ListN.{length, drop, drop_of_length-le}
-use Rattle.cases_tokens.specs.Parts.{index_of, front, rest, token_of, Past}
+use Rattle.cases_tokens.specs.Parts.{place_of_stop, front, rest, token_of, Past}
 use Rattle.cases_script.specs.NameLine.{gives_bytes, gives_name, giving_from, giving_line}
 use Rattle.cases_script.proofs.LineWordsLaws.{word-matches}
 
@@ -57,7 +57,7 @@ either true x e = refl
 either false x e = e
 
 giving-nothing : (n : ℕ) (name : List ℕ) → giving_from n [] name ≡ []
-unfolding giving_from front rest index_of
+unfolding giving_from front rest place_of_stop
 giving-nothing zero name = refl
 giving-nothing (suc n) name = either (gives_name [] name) (giving_from n [] name) (giving-nothing n name)
 

@@ -13,7 +13,7 @@ use lib.Seq.{drop-drop}
 use Rattle.std.proofs.Common.{take_all}
 use lib.Dec.{eqb}
 use borrow.Author.Tests.{ltb-false, eqb-true, eqb-false, eq-eqb, ne_eqb}
-use Rattle.cases_tokens.specs.Parts.{index_of, front, rest, after, token_of, Past, Start}
+use Rattle.cases_tokens.specs.Parts.{place_of_stop, front, rest, after, token_of, Past, Start}
 
 -- the first place in a list where a test holds, or none
 place-some : (n k l : ℕ) (t : Bool) → ltb n l ≡ t → Some k ≡ cond t (Some n) None → k ≡ n
@@ -33,15 +33,15 @@ module _ (s : List ℕ) (at stop : ℕ) where
   first-is r h = h ∙ ap (λ (l : List ℕ). position (λ b. eqb b stop) l) whole
 
   pub found-some : (r : Option ℕ) (k : ℕ) → r ≡ position (λ b. eqb b stop) (take (length s - at) (drop at s)) → r ≡ Some k
-      → at + k ≡ at + index_of stop (drop at s)
-  unfolding index_of
+      → at + k ≡ at + place_of_stop stop (drop at s)
+  unfolding place_of_stop
   found-some r k h e =
       ap (λ (n : ℕ). at + n)
       (place-some _ k _ (ltb (position_or_len (λ b. eqb b stop) (drop at s)) (length (drop at s))) refl (sym e ∙ first-is r h))
 
   pub found-none : (r : Option ℕ) → at ≤ length s → r ≡ position (λ b. eqb b stop) (take (length s - at) (drop at s)) → r ≡ None
-      → length s ≡ at + index_of stop (drop at s)
-  unfolding index_of
+      → length s ≡ at + place_of_stop stop (drop at s)
+  unfolding place_of_stop
   found-none r g h e =
       let l : length (drop at s) ≤ position_or_len (λ b. eqb b stop) (drop at s) =
       place-none _ _ (ltb (position_or_len (λ b. eqb b stop) (drop at s)) (length (drop at s))) refl (sym e ∙ first-is r h)
@@ -49,18 +49,18 @@ module _ (s : List ℕ) (at stop : ℕ) where
       omega (arith, l, length-drop at s, prefix_len-le-length (λ b. not (eqb b stop)) (drop at s))
 
 -- e is where `stop` was found from `at` on
-module _ (s : List ℕ) (at stop e : ℕ) (place : e ≡ at + index_of stop (drop at s)) where
+module _ (s : List ℕ) (at stop e : ℕ) (place : e ≡ at + place_of_stop stop (drop at s)) where
   pub until-is : take (e - at) (drop at s) ≡ front stop (drop at s)
   unfolding front
   until-is =
-      let d : e - at ≡ index_of stop (drop at s) = omega (arith, place) in
+      let d : e - at ≡ place_of_stop stop (drop at s) = omega (arith, place) in
       rw d
 
   pub past-some : e < length s → Past s at stop (e + 1)
   unfolding rest
   past-some h =
-      let d : e + 1 ≡ at + (index_of stop (drop at s) + 1) = omega (arith, place) in
-      record { inside = omega arith; later = λ _. omega (arith, place); begins = rw d (sym (drop-drop (index_of stop (drop at s) + 1) at s)) }
+      let d : e + 1 ≡ at + (place_of_stop stop (drop at s) + 1) = omega (arith, place) in
+      record { inside = omega arith; later = λ _. omega (arith, place); begins = rw d (sym (drop-drop (place_of_stop stop (drop at s) + 1) at s)) }
 
   pub past-none : e ≤ length s → length s ≤ e → Past s at stop e
   unfolding rest
@@ -68,7 +68,7 @@ module _ (s : List ℕ) (at stop e : ℕ) (place : e ≡ at + index_of stop (dro
       record {
         inside = h;
         later = λ z. omega arith;
-        begins = drop_of_length-le s g ∙ sym (drop_of_length-le (drop at s) {i = index_of stop (drop at s) + 1} (simp length-drop (omega (arith, place))));
+        begins = drop_of_length-le s g ∙ sym (drop_of_length-le (drop at s) {i = place_of_stop stop (drop at s) + 1} (simp length-drop (omega (arith, place))));
       }
 
 pub start-next : (line : List ℕ) (k a b : ℕ) → Start line k a → Past line a 32 b → Start line (k + 1) b

@@ -3,16 +3,16 @@ use Rattle.std.specs.Prelude.{List, ◌≡◌, ℕ, zero, suc, ◌+◌, ◌≤�
 use Rattle.std.specs.List.{position_or_len}
 
 -- The place of the first `stop`, or the number of bytes.
-unfoldable pub index_of : ℕ → List ℕ → ℕ
-index_of stop s = position_or_len (λ b. eqb b stop) s
+unfoldable pub place_of_stop : ℕ → List ℕ → ℕ
+place_of_stop stop s = position_or_len (λ b. eqb b stop) s
 
 -- The bytes before the first `stop`, or all bytes.
 unfoldable pub front : ℕ → List ℕ → List ℕ
-front stop s = take (index_of stop s) s
+front stop s = take (place_of_stop stop s) s
 
 -- The bytes after the first `stop`, or none.
 unfoldable pub rest : ℕ → List ℕ → List ℕ
-rest stop s = drop (index_of stop s + 1) s
+rest stop s = drop (place_of_stop stop s + 1) s
 
 -- The bytes from token k on.
 unfoldable pub after : List ℕ → ℕ → List ℕ

@@ -1,6 +1,6 @@
 // Parts of a slice: a line has the bytes before the next byte 10, a token those before the next byte 32.
 ghost use Rattle.std.specs.Prelude.{◌≡◌, ◌+◌, ◌≤◌, length, drop, position, eqb};
-ghost use Rattle.cases_tokens.specs.Parts.{index_of, front, Past, Start, after, token_of};
+ghost use Rattle.cases_tokens.specs.Parts.{place_of_stop, front, Past, Start, after, token_of};
 
 // The place of the first byte `stop`.
 fn first(s: &[u8], stop: u8) -> Option<usize>
@@ -12,7 +12,7 @@ fn first(s: &[u8], stop: u8) -> Option<usize>
 // The place of the next byte `stop` from `at` on, or the end.
 fn find(s: &[u8], at: usize, stop: u8) -> usize
     requires { at ≤ length s.now }
-    ensures value { result ≡ at + index_of stop (drop at s.now) }
+    ensures value { result ≡ at + place_of_stop stop (drop at s.now) }
     ensures upper_bound { result ≤ length s.now }
 {
     match first(&s[at..], stop) {

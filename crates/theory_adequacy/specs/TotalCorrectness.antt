@@ -11,14 +11,17 @@ use Rattle.std.specs.Borrow.{Share}
 use prog.Memory.{Memory, load_m}
 use prog.Machine.{Program, done, call_m}
 use prog.Model.{Model}
-use prog.Routine.{Routine, Callee, Env, step, machine, machine_ran}
+use prog.Routine as routine
+use prog.Routine.{Routine, Callee, Env, machine, machine_ran}
 use prog.Wired.{Code, Wired}
-use prog.Linked.{Entry, Has, Has-Wired, in_program, machine-Follows, tie, tie-Follows}
+use prog.Linked as linked
+use prog.Linked.{Entry, Has-Wired, in_program, machine-Follows, tie, tie-Follows}
 use types.Logic.{Logic}
 use ghost.Model as Closed
 use contract.Closed.{model⁺, real⁺, real⁺_strict}
 use contract.Monad.{Fun, fact_i}
-use contract.Running.{Running, tables, within}
+use contract.Running as run
+use contract.Running.{Running, tables}
 use contract.BorrowModel.{logic₀}
 use contract.Adequate.{Satisfies, sat_weaken, sat_fact}
 use denote.Signature.{Signature}
@@ -79,7 +82,7 @@ module _ (f : Function) where
   -- A run of a routine on the arguments of a call, from the memory σ: it ends after some number n of steps with a value v, in a memory that satisfies the
   -- postcondition for v and F.
   abbrev pub Ends : Routine → call.Ghost → Memory → Assertion → Type 1
-  Ends r x σ F = ∥ ((n : ℕ) × (v : Val) × (σ' : Memory) × (step r n (call.args x) σ ≡ done (v, σ')) × Holds σ' (call.post x v ∗ F)) ∥₁
+  Ends r x σ F = ∥ ((n : ℕ) × (v : Val) × (σ' : Memory) × (routine.step r n (call.args x) σ ≡ done (v, σ')) × Holds σ' (call.post x v ∗ F)) ∥₁
 
   -- Total correctness with a frame, for demand 1 (docs/FORMAT.md, "What is proved"). Let the environment γ, which gives each name a routine, have the code of
   -- the function (`Wired`): each step of the machine on a call is then that of the code. Let a memory satisfy the precondition of the call (`call.pre x`: what
@@ -92,17 +95,17 @@ module _ (f : Function) where
   pub ends : MeetsContract → TotallyCorrect
   ends met γ wired =
       adequate Closed.𝓤 Closed.H model⁺ (tables Closed.𝓤 Closed.H model⁺ running γ) real⁺_strict f.name call
-      (met Closed.𝓤 logic₀ model⁺ (within Closed.𝓤 Closed.H model⁺ running γ) wired)
+      (met Closed.𝓤 logic₀ model⁺ (run.within Closed.𝓤 Closed.H model⁺ running γ) wired)
 
   -- So all other memory is unchanged: a cell outside the memory of the call has the same contents after it, and the machine loads them from there.
   pub frame : TotallyCorrect → (γ : Env) → Wired γ f.code
       → (x : call.Ghost) (σ : Memory) (q : Share) (ty : Ty) (b o : ℕ) (w : Val) → Holds σ (call.pre x ∗ Cell q ty b o w)
-      → ∥ ((n : ℕ) × (v : Val) × (σ' : Memory) × (step (γ f.name) n (call.args x) σ ≡ done (v, σ')) × (load_m σ' ty b o ≡ some w)) ∥₁
+      → ∥ ((n : ℕ) × (v : Val) × (σ' : Memory) × (routine.step (γ f.name) n (call.args x) σ ≡ done (v, σ')) × (load_m σ' ty b o ≡ some w)) ∥₁
   frame e γ wired x σ q ty b o w s =
       ∥∥₁_elim (e γ wired x σ (Cell q ty b o w) s) ∥∥₁_prop (λ r. ∥∥₁_map (loads r.2 (call.post x r.1) q ty b o w r.4) (λ l. (r.0, r.1, r.2, r.3, l)))
 
   -- So the call ends in every program that has the code: on the program P the machine's own steps are `call_m n P`.
-  pub ends_in_program : TotallyCorrect → (P : Program) → Has (in_program P) f.code
+  pub ends_in_program : TotallyCorrect → (P : Program) → linked.Has (in_program P) f.code
       → (x : call.Ghost) (σ : Memory) (F : Assertion) → Holds σ (call.pre x ∗ F)
       → ∥ ((n : ℕ) × (v : Val) × (σ' : Memory) × (call_m n P f.name (call.args x) σ ≡ done (v, σ')) × Holds σ' (call.post x v ∗ F)) ∥₁
   ends_in_program e P has x σ F s =
@@ -110,6 +113,6 @@ module _ (f : Function) where
       (λ r. (r.0, r.1, r.2, machine_ran P f.name r.0 (call.args x) σ r.3, r.4))
 
   -- And wherever names are looked up, in a program with foreign functions too, if the look-up finds the code.
-  pub ends_where_found : TotallyCorrect → (look : Symbol → Entry) → Has look f.code
+  pub ends_where_found : TotallyCorrect → (look : Symbol → Entry) → linked.Has look f.code
       → (x : call.Ghost) (σ : Memory) (F : Assertion) → Holds σ (call.pre x ∗ F) → Ends (tie look f.name) x σ F
   ends_where_found e look has = e (tie look) (Has-Wired look (tie look) (tie-Follows look) f.code has)
