@@ -243,7 +243,7 @@ def first_errors(edits):
             was = {path: (folder / path).read_text() for path in texts}
             for path, text in texts.items():
                 (folder / path).write_text(text)
-            ran = subprocess.run(["rt", "check"], cwd=folder, stdin=subprocess.DEVNULL, stdout=subprocess.PIPE, stderr=subprocess.STDOUT, text=True)
+            ran = subprocess.run(["rt", "check", "--jobs", "1"], cwd=folder, stdin=subprocess.DEVNULL, stdout=subprocess.PIPE, stderr=subprocess.STDOUT, text=True)
             for path, text in was.items():
                 (folder / path).write_text(text)
             yield edit, first_error(ran.stdout) if ran.returncode == 1 else ""
