@@ -64,7 +64,7 @@ def crates():
             fresh = True
         elif not line.startswith("#"):
             name, _, below = line.partition(":")
-            found[name] = (layer, below.split())
+            found[name.split(" ")[0]] = (layer, below.split())  # `staticlib` may follow the name
     return found
 
 

@@ -1,4 +1,5 @@
 use borrow.Author.Rules.{rules}
+use Rattle.std.specs.Prelude.{length}
 use borrow.Author.Tests.{lt-leb}
 use Rattle.sha256.specs.Sha256.{digest_text_refusal, digest_text_buffer}
 use Rattle.sha256.proofs.DigestLaws.{digested}
@@ -6,7 +7,7 @@ use Rattle.sha256.proofs.digest_text.Goals as goal
 
 pub returns-then-out-lt32 : goal.returns-then-out-lt32
 unfolding digest_text_refusal digest_text_buffer
-returns-then-out-lt32 c = record { value = simp (lt-leb 32 _ c.if-out-lt32.true); out_after = simp (lt-leb 32 _ c.if-out-lt32.true) }
+returns-then-out-lt32 c = let short = lt-leb 32 (length c.args.out.now) c.if-out-lt32.true in record { value = simp short; out_after = simp short }
 
 pub hash-requires : goal.hash-requires
 unfolding digest_text_refusal digest_text_buffer

@@ -89,11 +89,11 @@ loop-n-smaller c = omega arith
 pub loop-n-preserved : goal.loop-n-preserved
 unfolding schedule
 loop-n-preserved c = (
-      omega arith,
-      simp length-set c.loop-n.invariant.1,
-      schedule-more (take 16 c.args.words.now) c.loop-n.words c.loop-n.n _ _ _ c.loop-n.invariant.2 (omega (arith, c.loop-n.invariant.1))
-          c.small_sigma_1.ensures c.small_sigma_0.ensures c.sum_of_four.ensures,
-    )
+  omega arith,
+  simp length-set c.loop-n.invariant.1,
+  schedule-more (take 16 c.args.words.now) c.loop-n.words c.loop-n.n _ _ _ c.loop-n.invariant.2 (omega (arith, c.loop-n.invariant.1))
+      c.small_sigma_1.ensures c.small_sigma_0.ensures c.sum_of_four.ensures,
+)
 
 pub shape_of-words : goal.shape_of-words
 unfolding schedule

@@ -33,11 +33,11 @@ loop-t-smaller c = omega arith
 
 pub loop-t-preserved : goal.loop-t-preserved
 loop-t-preserved c = (
-      omega arith,
-      simp length-set c.loop-t.invariant.1,
-      tab-more c.loop-t.t _ (λ t. word_bE c.args.bytes.now (c.args.at + 4 * t)) c.args.words.now c.loop-t.words
-          (omega (arith, c.requires.1)) c.word.ensures c.loop-t.invariant.2,
-    )
+  omega arith,
+  simp length-set c.loop-t.invariant.1,
+  tab-more c.loop-t.t _ (λ t. word_bE c.args.bytes.now (c.args.at + 4 * t)) c.args.words.now c.loop-t.words
+      (omega (arith, c.requires.1)) c.word.ensures c.loop-t.invariant.2,
+)
 
 pub shape_of-words : goal.shape_of-words
 shape_of-words c = c.loop-t.invariant.1 ∙ sym c.requires.1

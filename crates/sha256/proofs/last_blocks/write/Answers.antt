@@ -24,11 +24,11 @@ loop-i-smaller c = omega arith
 
 pub loop-i-preserved : goal.loop-i-preserved
 loop-i-preserved c = (
-      omega arith,
-      simp length-set c.loop-i.invariant.1,
-      tab-more c.loop-i.i _ (λ j. get_or (c.args.rest.now ++ padding c.args.n) j 0) c.args.last.now c.loop-i.last
-          (omega (arith, c.requires.2)) c.byte_at.ensures c.loop-i.invariant.2,
-    )
+  omega arith,
+  simp length-set c.loop-i.invariant.1,
+  tab-more c.loop-i.i _ (λ j. get_or (c.args.rest.now ++ padding c.args.n) j 0) c.args.last.now c.loop-i.last
+      (omega (arith, c.requires.2)) c.byte_at.ensures c.loop-i.invariant.2,
+)
 
 pub shape_of-last : goal.shape_of-last
 shape_of-last c = c.loop-i.invariant.1

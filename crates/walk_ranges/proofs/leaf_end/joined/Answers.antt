@@ -11,14 +11,13 @@ overflow_sub-n c =
     omega (arith, c.requires.1.place-in, c.requires.0.leaf_is)
 
 pub loop-n-init : goal.loop-n-init
-loop-n-init c =
-    (
-      omega arith,
-      rw c.requires.0.leaf_is (laws.next-first c.args.end.block.0 (at.settings c.args.t.now).leaf _ c.args.end.place.0
-          (omega (arith, c.requires.1.place-in)) refl),
-      omega (arith, c.requires.0.leaf_is),
-      laws.join_first _ _ c.requires.0 _ c.requires.1 _ refl,
-    )
+loop-n-init c = (
+  omega arith,
+  rw c.requires.0.leaf_is (laws.next-first c.args.end.block.0 (at.settings c.args.t.now).leaf _ c.args.end.place.0
+      (omega (arith, c.requires.1.place-in)) refl),
+  omega (arith, c.requires.0.leaf_is),
+  laws.join_first _ _ c.requires.0 _ c.requires.1 _ refl,
+)
 
 pub returns-then-not-follows : goal.returns-then-not-follows
 returns-then-not-follows c = c.loop-n.invariant.3
@@ -46,14 +45,13 @@ loop-n-smaller c =
     omega (arith, c.requires.0.leaf_is, c.requires.0.facts.bounds.leaf_low, c.loop-n-test.true)
 
 pub loop-n-preserved : goal.loop-n-preserved
-loop-n-preserved c =
-    (
-      omega (arith, c.loop-n.invariant.0),
-      rw c.requires.0.leaf_is (laws.next_more _ _ _ _ _ c.loop-n.invariant.0 c.loop-n.invariant.1),
-      omega (arith, c.requires.0.leaf_is, c.loop-n-test.true),
-      rw c.requires.0.leaf_is (laws.join-next _ _ c.requires.0 _ c.requires.1 _ _ c.loop-n.invariant.0 c.loop-n.invariant.3 c.loop-n.invariant.1
-          _ c.follows.ensures (not-false _ c.if-not-follows.false-raw)),
-    )
+loop-n-preserved c = (
+  omega (arith, c.loop-n.invariant.0),
+  rw c.requires.0.leaf_is (laws.next_more _ _ _ _ _ c.loop-n.invariant.0 c.loop-n.invariant.1),
+  omega (arith, c.requires.0.leaf_is, c.loop-n-test.true),
+  rw c.requires.0.leaf_is (laws.join-next _ _ c.requires.0 _ c.requires.1 _ _ c.loop-n.invariant.0 c.loop-n.invariant.3 c.loop-n.invariant.1
+      _ c.follows.ensures (not-false _ c.if-not-follows.false-raw)),
+)
 
 pub returns : goal.returns
 returns c = c.loop-n.invariant.3

@@ -1,11 +1,14 @@
 use mathlib.Core.Path.{◌∙◌}
 use native.Mathlib.Omega.{arith}
+use Rattle.std.specs.Prelude.{◌≡◌}
 use Rattle.layout.proofs.ShapeLaws.{shapes}
 use Rattle.walk_ranges.proofs.NextSegmentLaws as laws
 use Rattle.walk_ranges.proofs.segments.across.Goals as goal
 
 pub returns-then-rules-eq0 : goal.returns-then-rules-eq0
-returns-then-rules-eq0 c = rw c.if-rules-eq0.true (laws.across-none _ c.requires.0.on.facts _ c.requires.0.on.level_in _ _ c.requires.0.points (omega (arith, c.requires.0.place-in, c.requires.0.on.b_is)))
+returns-then-rules-eq0 c =
+    let none : c.args.rules.pointers ≡ 0 = c.if-rules-eq0.true in
+    rw none (laws.across-none _ c.requires.0.on.facts _ c.requires.0.on.level_in _ _ c.requires.0.points (omega (arith, c.requires.0.place-in, c.requires.0.on.b_is)))
 
 pub shape_of-shape-requires : goal.shape_of-shape-requires
 shape_of-shape-requires c = c.requires.0.on.facts.long

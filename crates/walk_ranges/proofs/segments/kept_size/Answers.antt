@@ -17,14 +17,13 @@ link-first-requires c =
     field-there _ _ _ _ _ 2 c.requires.0 (kept_in _ _ _ c.requires.1) (omega arith)
 
 pub loop-n-init : goal.loop-n-init
-loop-n-init c =
-    (
-      omega arith,
-      laws.counts-none _ _ _,
-      laws.counts-none _ _ _,
-      omega arith,
-      λ i o small kept next_is n-is link_is. laws.kept-first _ c.requires.0.facts _ c.requires.0.level_in i o (omega (arith, c.requires.0.b_is)) _ kept (omega (arith, c.requires.0.b_is)),
-    )
+loop-n-init c = (
+  omega arith,
+  laws.counts-none _ _ _,
+  laws.counts-none _ _ _,
+  omega arith,
+  λ i o small kept next_is n-is link_is. laws.kept-first _ c.requires.0.facts _ c.requires.0.level_in i o (omega (arith, c.requires.0.b_is)) _ kept (omega (arith, c.requires.0.b_is)),
+)
 
 pub continues-requires : goal.continues-requires
 continues-requires c = c.requires.0
@@ -68,16 +67,15 @@ loop-n-smaller c =
     omega (arith, b-pos _ _ _ _ c.requires.0, c.loop-n-test.true)
 
 pub loop-n-preserved : goal.loop-n-preserved
-loop-n-preserved c =
-    (
-      omega (arith, c.loop-n.invariant.0),
-      laws.counts-more _ _ _ _ _ c.loop-n.invariant.0 c.loop-n.invariant.1,
-      laws.counts-more _ _ _ _ _ c.loop-n.invariant.0 c.loop-n.invariant.2,
-      omega (arith, c.loop-n-test.true),
-      λ i o small kept next_is n-is link_is. laws.kept_again _ c.requires.0.facts _ c.requires.0.level_in i o (omega (arith, c.requires.0.b_is)) _ _ _ _ _ _ _ _
-          c.requires.0.b_is c.width-step.ensures (c.loop-n.invariant.4 i o small kept next_is n-is link_is) next_is n-is link_is c.loop-n.invariant.0 c.loop-n.invariant.1 c.loop-n.invariant.2
-          _ c.continues.ensures (not-false _ c.if-not-continues.false-raw),
-    )
+loop-n-preserved c = (
+  omega (arith, c.loop-n.invariant.0),
+  laws.counts-more _ _ _ _ _ c.loop-n.invariant.0 c.loop-n.invariant.1,
+  laws.counts-more _ _ _ _ _ c.loop-n.invariant.0 c.loop-n.invariant.2,
+  omega (arith, c.loop-n-test.true),
+  λ i o small kept next_is n-is link_is. laws.kept_again _ c.requires.0.facts _ c.requires.0.level_in i o (omega (arith, c.requires.0.b_is)) _ _ _ _ _ _ _ _
+      c.requires.0.b_is c.width-step.ensures (c.loop-n.invariant.4 i o small kept next_is n-is link_is) next_is n-is link_is c.loop-n.invariant.0 c.loop-n.invariant.1 c.loop-n.invariant.2
+      _ c.continues.ensures (not-false _ c.if-not-continues.false-raw),
+)
 
 pub returns : goal.returns
 returns c =
