@@ -64,7 +64,7 @@ module _ (κs : Lfts 2) (t guide : Bor (List ℕ)) (r : ℕ) (a : CheckGuide κs
   check-guide-wrong v n = a ∙ sym (laws.compared t.now guide.now v false (sym (ne-same_list guide.now (guide_bytes t.now) n)))
 
 -- What making writes, checking accepts.
-pub made-accepted : (κs κ : Lfts 2) (t table after guide : Bor (List ℕ)) (n r : ℕ)
+pub made-accepted : (κs κ : Lfts 2) (t : Bor (List ℕ)) (table after : MutBor (List ℕ)) (guide : Bor (List ℕ)) (n r : ℕ)
     → MakeGuide κs t table after (Words n) → guide.now ≡ take (4 * n) after.now → CheckGuide κ t guide r → r ≡ 0
 made-accepted κs κ t table after guide n r a is c = go (lt-or-ge 0 (check_result t.now)) (lt-or-ge (length table.now) (4 * guide_words t.now))
   where

@@ -114,7 +114,7 @@ module _ (κs : Lfts 3) (text : Bor (List ℕ)) (leaf arity levels : ℕ) (count
   )
 
 -- The contract determines the result and the buffer, so they cannot depend on the base or the modulus that a builder uses.
-pub build-settled : (κs : Lfts 3) (text : Bor (List ℕ)) (leaf arity levels : ℕ) (counted out one other : Bor (List ℕ)) (r s : BuildAnswer)
+pub build-settled : (κs : Lfts 3) (text : Bor (List ℕ)) (leaf arity levels : ℕ) (counted : Bor (List ℕ)) (out one other : MutBor (List ℕ)) (r s : BuildAnswer)
     → Build κs text leaf arity levels counted out one r → Build κs text leaf arity levels counted out other s
     → ((replied (build_reply r)).number ≡ (replied (build_reply s)).number) × ((replied (build_reply r)).value ≡ (replied (build_reply s)).value)
     × (one.now ≡ other.now)
