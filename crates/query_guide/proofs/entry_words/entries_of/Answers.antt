@@ -13,7 +13,7 @@ total-all-requires c = search rules
 
 pub returns-then-all-eq0 : goal.returns-then-all-eq0
 unfolding entries_of
-returns-then-all-eq0 c = (laws.whole-entries _ c.if-all-eq0.true ∙ ap (λ (x : ℕ). pieces x listed_every) c.total-all.ensures, omega arith)
+returns-then-all-eq0 c = (laws.whole-entries c.total-all.result c.if-all-eq0.true ∙ ap (λ (x : ℕ). pieces x listed_every) c.total-all.ensures, omega arith)
 
 pub overflow_add-result : goal.overflow_add-result
 unfolding entries_of
@@ -21,4 +21,4 @@ overflow_add-result c = omega arith
 
 pub returns : goal.returns
 unfolding entries_of
-returns c = (laws.begun-entries _ c.if-all-eq0.false ∙ ap (λ (x : ℕ). pieces x listed_every) c.total-all.ensures, omega arith)
+returns c = (laws.begun-entries c.total-all.result c.if-all-eq0.false ∙ ap (λ (x : ℕ). pieces x listed_every) c.total-all.ensures, omega arith)
