@@ -100,6 +100,7 @@ module _ (κs : Lfts 4) (text : Borrowed) (leaf arity levels : ℕ) (counted : B
         go (inr (inr (inl e))) = omega arith
         go (inr (inr (inr (inl e)))) = omega arith
         go (inr (inr (inr (inr (inl e))))) = omega arith
+        go (inr (inr (inr (inr (inr e))))) = elim e [ ]
 
     -- Refusal 4 leaves zeros in the whole buffer, any other refusal leaves the buffer unchanged.
     pub scanned-zeros : n ≡ 4 → after.now ≡ replicate (length out.now) 0
@@ -140,6 +141,7 @@ module _ (κs : Lfts 4) (text : Borrowed) (leaf arity levels : ℕ) (counted : B
         go (inr (inr (inl e))) = omega arith
         go (inr (inr (inr (inl e)))) = omega arith
         go (inr (inr (inr (inr (inl e))))) = omega arith
+        go (inr (inr (inr (inr (inr e))))) = elim e [ ]
 
     -- Request 106: with the same text, settings and buffer, build_scanned and build return the same number and size and leave the same bytes, unless
     -- build_scanned is refused with 18.

@@ -95,6 +95,7 @@ not-13 (inr (inr (inl e))) = omega arith
 not-13 (inr (inr (inr (inl e)))) = omega arith
 not-13 (inr (inr (inr (inr (inl e))))) = omega arith
 not-13 (inr (inr (inr (inr (inr (inl e)))))) = omega arith
+not-13 (inr (inr (inr (inr (inr (inr e)))))) = elim e [ ]
 
 -- At most this many zeros at the start of the buffer; the rest is unchanged.
 abbrev pub Zeros : (most : ℕ) (buffer after : List ℕ) → Type 0

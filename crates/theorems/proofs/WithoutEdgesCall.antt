@@ -44,6 +44,7 @@ number-one t out = go (header_result t) (header-one t) (bool_cases (leb (length 
     go n (inr (inr (inl e))) f = rw e (inr (inr (inl refl)))
     go n (inr (inr (inr (inl e)))) (inl f) = rw (e, f) (inr (inr (inr (inr (inl refl)))))
     go n (inr (inr (inr (inl e)))) (inr f) = rw (e, f) (inr (inr (inr (inl refl))))
+    go n (inr (inr (inr (inr e)))) f = elim e [ ]
 
 module _ (κs : Lfts 2) (t : Borrowed) (out after : BorrowedMut) (r : WithoutEdgesAnswer) (a : WithoutEdges κs t out after r) where
   pub without-edges-numbers : OneOf (5 ∷ 6 ∷ 7 ∷ 13 ∷ 0 ∷ []) (replied (without_edges_reply r)).number
