@@ -4,7 +4,8 @@
     docs/check_conventions.py
 
 No line over 160 characters; a module's name in one crate only; crates.txt has each crate after all that it depends on, and a crate lists those that it names and no
-other, unless a comment above it says why. Needs python3 and nothing else."""
+other, unless a comment above it says why; each function of the header is exported by abi_c, with the signature and the clauses of abi's. Needs python3 and nothing
+else."""
 
 import re
 from pathlib import Path
@@ -69,8 +70,25 @@ def dependencies():
                 yield f"crates.txt: {crate} {'lists and does not name' if name in own else 'names and does not list'} {name}"
 
 
+def calls(crate, head):
+    """The signature and the clauses of each call of a crate, without the layout."""
+    found = {}
+    for path in sources(CRATES / crate / "src"):
+        for name, promised in re.findall(rf"^{head}fn (bt_\w+)(.*?)^\{{$", path.read_text(), re.M | re.S):
+            found[name] = "".join(promised.split())
+    return found
+
+
+def exports():
+    called, exported = calls("abi", "pub "), calls("abi_c", r'#\[unsafe\(no_mangle\)\]\npub extern "C" ')
+    declared = set(re.findall(r"^uint\d+_t (bt_\w+)\(", (ROOT / "include/blocktree.h").read_text(), re.M))
+    for name in sorted({*called, *exported, *declared}):
+        if name not in declared or called.get(name) != exported.get(name):
+            yield f"{name}: its export in abi_c, its function in abi and its line in the header do not agree"
+
+
 def main():
-    broken = [*long_lines(), *names_twice(), *dependencies()]
+    broken = [*long_lines(), *names_twice(), *dependencies(), *exports()]
     if broken:
         raise SystemExit("\n".join(broken))
 
