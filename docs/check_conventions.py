@@ -75,7 +75,7 @@ def calls(crate, head):
     found = {}
     for path in sources(CRATES / crate / "src"):
         for name, promised in re.findall(rf"^{head}fn (bt_\w+)(.*?)^\{{$", path.read_text(), re.M | re.S):
-            found[name] = "".join(promised.split())
+            found[name] = "".join(promised.split()).replace(",)", ")")
     return found
 
 
