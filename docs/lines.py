@@ -63,10 +63,11 @@ def outside():
             for name in contracts(path):
                 if not only or name in only:
                     yield path, name
-            for words in re.findall(r"^pub use ([\w:]+);", path.read_text(), re.M):
-                crate, *inner, name = words.split("::")
-                if name[0].islower():
-                    yield CRATES / crate / "src" / f"{inner[0] if inner else 'lib'}.rt", name
+            for words, group, one in re.findall(r"^pub use ([\w:]+)::(?:\{([^}]*)\}|(\w+));", path.read_text(), re.M):
+                crate, *inner = words.split("::")
+                for name in [one] if one else re.findall(r"\w+", group):
+                    if name[0].islower():
+                        yield CRATES / crate / "src" / f"{inner[0] if inner else 'lib'}.rt", name
 
 
 def named(path, name):

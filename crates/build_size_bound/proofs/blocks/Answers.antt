@@ -18,20 +18,20 @@ block_length-requires c = laws.sized-at c.args.s c.requires.0 c.requires.1 c.loo
 pub pieces-requires : goal.pieces-requires
 unfolding blocks_at_most
 pieces-requires c = (
-      c.requires.2,
-      omega (arith, c.block_length.ensures, laws.block-low c.args.s c.requires.0 c.requires.1 c.loop-l.l),
-      omega (arith, c.block_length.ensures, laws.block-few c.args.s c.requires.0 c.requires.1 c.loop-l.l),
-    )
+  c.requires.2,
+  omega (arith, c.block_length.ensures, laws.block-low c.args.s c.requires.0 c.requires.1 c.loop-l.l),
+  omega (arith, c.block_length.ensures, laws.block-few c.args.s c.requires.0 c.requires.1 c.loop-l.l),
+)
 
 pub overflow_add-sum : goal.overflow_add-sum
 unfolding blocks_at_most
 overflow_add-sum c = omega (
-      arith,
-      c.loop-l.invariant.0,
-      c.loop-l.invariant.1.0,
-      c.requires.0.bounds.levels_high,
-      laws.level-few c.args.s c.requires.0 c.requires.1 c.args.n c.loop-l.l 0 _ _ c.requires.2 c.block_length.ensures c.pieces.ensures,
-    )
+  arith,
+  c.loop-l.invariant.0,
+  c.loop-l.invariant.1.0,
+  c.requires.0.bounds.levels_high,
+  laws.level-few c.args.s c.requires.0 c.requires.1 c.args.n c.loop-l.l 0 _ _ c.requires.2 c.block_length.ensures c.pieces.ensures,
+)
 
 pub overflow_add-l : goal.overflow_add-l
 unfolding blocks_at_most
@@ -44,22 +44,22 @@ loop-l-smaller c = omega (arith, c.loop-l-test.true)
 pub loop-l-preserved : goal.loop-l-preserved
 unfolding blocks_at_most
 loop-l-preserved c = (
-      omega (arith, c.loop-l-test.true),
-      (
-        omega (
-          arith,
-          c.loop-l.invariant.1.0,
-          laws.level-few c.args.s c.requires.0 c.requires.1
-              c.args.n c.loop-l.l 0 _ _ c.requires.2 c.block_length.ensures c.pieces.ensures,
-        ),
-        laws.one_level c.args.s c.requires.0
-            c.requires.1 c.args.n c.loop-l.l _ _ _ c.requires.2 c.block_length.ensures c.pieces.ensures c.loop-l.invariant.1.1,
-      ),
-    )
+  omega (arith, c.loop-l-test.true),
+  (
+    omega (
+      arith,
+      c.loop-l.invariant.1.0,
+      laws.level-few c.args.s c.requires.0 c.requires.1
+          c.args.n c.loop-l.l 0 _ _ c.requires.2 c.block_length.ensures c.pieces.ensures,
+    ),
+    laws.one_level c.args.s c.requires.0
+        c.requires.1 c.args.n c.loop-l.l _ _ _ c.requires.2 c.block_length.ensures c.pieces.ensures c.loop-l.invariant.1.1,
+  ),
+)
 
 pub returns : goal.returns
 unfolding blocks_at_most
 returns c = let e : c.loop-l.l ≡ c.args.s.levels = omega (arith, c.loop-l.invariant.0, c.loop-l-test.false) in (
-      c.loop-l.invariant.1.1 ∙ ap (λ (k : ℕ). sum_below k (λ l. pieces c.args.n (c.args.s.leaf * c.args.s.arity ^ (c.args.s.levels - 1 - l)))) e,
-      omega (arith, c.loop-l.invariant.0, c.loop-l.invariant.1.0, c.requires.0.bounds.levels_high),
-    )
+  c.loop-l.invariant.1.1 ∙ ap (λ (k : ℕ). sum_below k (λ l. pieces c.args.n (c.args.s.leaf * c.args.s.arity ^ (c.args.s.levels - 1 - l)))) e,
+  omega (arith, c.loop-l.invariant.0, c.loop-l.invariant.1.0, c.requires.0.bounds.levels_high),
+)

@@ -26,10 +26,10 @@ overflow_mul-result c = omega (arith, laws.bytes-few _ _ c.record_size-size.ensu
 
 pub overflow_add-result-2 : goal.overflow_add-result-2
 overflow_add-result-2 c = omega (
-      arith,
-      c.if-n-gt-MAX_TEXT.false,
-      laws.bytes-few _ _ c.record_size-size.ensures.1 c.blocks-2.ensures.1,
-    )
+  arith,
+  c.if-n-gt-MAX_TEXT.false,
+  laws.bytes-few _ _ c.record_size-size.ensures.1 c.blocks-2.ensures.1,
+)
 
 pub returns : goal.returns
 returns c = laws.size-bound-is c.args.n c.args.leaf c.args.arity c.args.levels c.args.counted c.if-n-gt-MAX_TEXT.false

@@ -27,12 +27,12 @@ loop-l-smaller c = omega arith
 
 pub loop-l-preserved : goal.loop-l-preserved
 loop-l-preserved c = (
-      omega arith,
-      c.write.auto.t ∙ c.loop-l.invariant.1,
-      c.write.ensures
-          ∙ laws.offsets-more c.args.tree.now c.loop-l.l c.loop-l.at c.args.out.now c.loop-l.out c.loop-l.invariant.2 c.loop-l.invariant.3,
-      laws.offset-more c.args.tree.now _ _ _ _ c.loop-l.invariant.3 c.level_count.ensures c.requires.0.stride_is,
-    )
+  omega arith,
+  c.write.auto.t ∙ c.loop-l.invariant.1,
+  c.write.ensures
+      ∙ laws.offsets-more c.args.tree.now c.loop-l.l c.loop-l.at c.args.out.now c.loop-l.out c.loop-l.invariant.2 c.loop-l.invariant.3,
+  laws.offset-more c.args.tree.now _ _ _ _ c.loop-l.invariant.3 c.level_count.ensures c.requires.0.stride_is,
+)
 
 pub shape_of-out : goal.shape_of-out
 shape_of-out c = c.loop-l.invariant.1

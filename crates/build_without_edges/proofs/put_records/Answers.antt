@@ -21,9 +21,9 @@ overflow_add-j-in-loop-j c = omega (arith, laws.word_held _ _ _ _ _ c.requires c
 
 pub copy-requires : goal.copy-requires
 copy-requires c = (
-      omega (arith, laws.word_room _ _ _ _ _ c.requires c.loop-j.j (omega arith), c.loop-j.invariant.1),
-      laws.word_held _ _ _ _ _ c.requires c.loop-j.j (omega arith),
-    )
+  omega (arith, laws.word_room _ _ _ _ _ c.requires c.loop-j.j (omega arith), c.loop-j.invariant.1),
+  laws.word_held _ _ _ _ _ c.requires c.loop-j.j (omega arith),
+)
 
 pub overflow_add-j-in-loop-j-2 : goal.overflow_add-j-in-loop-j-2
 overflow_add-j-in-loop-j-2 c = omega arith
@@ -33,10 +33,10 @@ loop-j-smaller c = omega arith
 
 pub loop-j-preserved : goal.loop-j-preserved
 loop-j-preserved c = (
-      omega arith,
-      c.copy.auto.out ∙ c.loop-j.invariant.1,
-      laws.record-more _ _ _ _ _ c.requires c.loop-j.j (omega arith) c.args.out.now c.loop-j.out _ refl c.loop-j.invariant.2 c.copy.ensures,
-    )
+  omega arith,
+  c.copy.auto.out ∙ c.loop-j.invariant.1,
+  laws.record-more _ _ _ _ _ c.requires c.loop-j.j (omega arith) c.args.out.now c.loop-j.out _ refl c.loop-j.invariant.2 c.copy.ensures,
+)
 
 pub shape_of-out : goal.shape_of-out
 shape_of-out c = c.loop-j.invariant.1

@@ -20,9 +20,9 @@ overflow_cast-leaves c = omega (arith, laws.leaves-fit _ _ _ _ _ c.requires)
 
 pub copy-requires : goal.copy-requires
 copy-requires c = (
-      laws.leaf_room _ _ _ _ _ c.requires c.put_records.new.out (c.put_records.auto.out ∙ c.put_header.auto.out),
-      laws.leaf-held _ _ _ _ _ c.requires,
-    )
+  laws.leaf_room _ _ _ _ _ c.requires c.put_records.new.out (c.put_records.auto.out ∙ c.put_header.auto.out),
+  laws.leaf-held _ _ _ _ _ c.requires,
+)
 
 pub shape_of-out : goal.shape_of-out
 shape_of-out c = c.copy.auto.out ∙ c.put_records.auto.out ∙ c.put_header.auto.out

@@ -19,12 +19,12 @@ loop-i-smaller c = omega arith
 
 pub loop-i-preserved : goal.loop-i-preserved
 loop-i-preserved c = (
-      omega arith,
-      (
-        simp length-set c.loop-i.invariant.1.0,
-        rw c.loop-i.invariant.1.1 (fill_more c.loop-i.i 0 c.args.buffer.now (omega arith)),
-      ),
-    )
+  omega arith,
+  (
+    simp length-set c.loop-i.invariant.1.0,
+    rw c.loop-i.invariant.1.1 (fill_more c.loop-i.i 0 c.args.buffer.now (omega arith)),
+  ),
+)
 
 pub shape_of-buffer : goal.shape_of-buffer
 shape_of-buffer c = c.loop-i.invariant.1.0

@@ -29,9 +29,9 @@ loop-j-smaller c = omega arith
 
 pub loop-j-preserved : goal.loop-j-preserved
 loop-j-preserved c = (
-      omega arith,
-      (simp length-set c.loop-j.invariant.1.0, bytes-more c.args.out.now c.loop-j.out _ c.args.text.now c.args.to c.args.from c.loop-j.j c.loop-j.invariant.1.1 refl),
-    )
+  omega arith,
+  (simp length-set c.loop-j.invariant.1.0, bytes-more c.args.out.now c.loop-j.out _ c.args.text.now c.args.to c.args.from c.loop-j.j c.loop-j.invariant.1.1 refl),
+)
 
 pub shape_of-out : goal.shape_of-out
 shape_of-out c = c.loop-j.invariant.1.0

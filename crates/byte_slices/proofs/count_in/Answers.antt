@@ -12,12 +12,12 @@ loop-i-init c = (omega arith, sym (count_none _ _ _), omega arith)
 pub loop-i-preserved : goal.loop-i-preserved
 loop-i-preserved c =
     elim c.if-t-from.branch [
-      then-t-from w ↦ (
+      | then-t-from w ↦ (
         omega arith,
         omega (arith, count-next-same c.args.byte c.args.t.now c.args.from c.loop-i.i (omega arith) w.if-t-from.true),
         omega arith,
       )
-    | else-t-from w ↦ (
+      | else-t-from w ↦ (
         omega arith,
         omega (arith, count-next-other c.args.byte c.args.t.now c.args.from c.loop-i.i (omega arith) w.if-t-from.false),
         omega arith,

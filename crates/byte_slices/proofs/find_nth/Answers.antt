@@ -14,12 +14,11 @@ returns-then-size-i c =
 
 -- One occurrence more is passed.
 pub loop-left-preserved : goal.loop-left-preserved
-loop-left-preserved c =
-    (
-      omega arith,
-      omega arith,
-      omega (arith, c.loop-left.invariant.2, laws.count_past _ _ _ _ (omega arith) _ _ c.loop-left.invariant.0 c.find-k.ensures (omega arith)),
-    )
+loop-left-preserved c = (
+  omega arith,
+  omega arith,
+  omega (arith, c.loop-left.invariant.2, laws.count_past _ _ _ _ (omega arith) _ _ c.loop-left.invariant.0 c.find-k.ensures (omega arith)),
+)
 
 -- The j-th occurrence is the next one.
 pub returns : goal.returns

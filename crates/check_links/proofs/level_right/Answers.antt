@@ -16,12 +16,12 @@ returns-then-v-passed c = tree.room-short _ _ c.requires
 
 pub block_right-requires : goal.block_right-requires
 block_right-requires c = (
-      c.requires,
-      c.loop-i-test.true,
-      c.loop-i.invariant.2,
-      c.width-width.ensures,
-      omega (arith, c.loop-i.invariant.1, c.if-v-passed.false),
-    )
+  c.requires,
+  c.loop-i-test.true,
+  c.loop-i.invariant.2,
+  c.width-width.ensures,
+  omega (arith, c.loop-i.invariant.1, c.if-v-passed.false),
+)
 
 pub returns-then-not-block_right : goal.returns-then-not-block_right
 returns-then-not-block_right c = tree.block-off _ _ c.requires _ _ _ c.loop-i-test.true
@@ -29,12 +29,12 @@ returns-then-not-block_right c = tree.block-off _ _ c.requires _ _ _ c.loop-i-te
 
 pub loop-i-preserved : goal.loop-i-preserved
 loop-i-preserved c = (
-      omega arith,
-      omega (arith, c.loop-i.invariant.1, c.if-v-passed.false),
-      tree.before_more _ _ c.requires
-          _ _ _ c.loop-i-test.true c.loop-i.invariant.2 c.width-width.ensures,
-      scan-more (block_right c.args.t.now c.args.v.number) c.loop-i.i c.loop-i.invariant.3 (held c.block_right.ensures c.if-not-block_right.false-raw),
-    )
+  omega arith,
+  omega (arith, c.loop-i.invariant.1, c.if-v-passed.false),
+  tree.before_more _ _ c.requires
+      _ _ _ c.loop-i-test.true c.loop-i.invariant.2 c.width-width.ensures,
+  scan-more (block_right c.args.t.now c.args.v.number) c.loop-i.i c.loop-i.invariant.3 (held c.block_right.ensures c.if-not-block_right.false-raw),
+)
 
 pub returns : goal.returns
 returns c = tree.level-done _ _ c.requires _ _ c.loop-i.invariant.0 c.loop-i-test.false c.loop-i.invariant.2 c.loop-i.invariant.3

@@ -39,11 +39,11 @@ nonzero_div-full c = reads.arity-pos _ _ c.requires
 
 pub loop-l-preserved : goal.loop-l-preserved
 loop-l-preserved c = (
-      omega arith,
-      scan-more (level_right c.args.t.now) c.loop-l.l c.loop-l.invariant.1
-          (tree.same-level _ _ _ _ c.level_of-in-loop-l.ensures.1 (held c.level_right.ensures c.if-not-level_right.false-raw)),
-      λ more. reads.full-below _ _ c.requires _ _ (c.loop-l.invariant.2 c.loop-l-test.true) more,
-    )
+  omega arith,
+  scan-more (level_right c.args.t.now) c.loop-l.l c.loop-l.invariant.1
+      (tree.same-level _ _ _ _ c.level_of-in-loop-l.ensures.1 (held c.level_right.ensures c.if-not-level_right.false-raw)),
+  λ more. reads.full-below _ _ c.requires _ _ (c.loop-l.invariant.2 c.loop-l-test.true) more,
+)
 
 pub returns : goal.returns
 returns c = tree.levels-done _ _ (tree.count-0 _ _ c.level_of.ensures.0 c.level_of.ensures.1)

@@ -17,10 +17,10 @@ start-start-requires c = rw c.requires.1 at (laws.there _ _ c.requires.0 c.loop-
 
 pub overflow_mul-i : goal.overflow_mul-i
 overflow_mul-i c = omega (
-      arith,
-      mul-le-mul {n₁ = c.loop-i.i}
-          {n₂ = 4294967295} {m₂ = max_text} (omega arith) (laws.full_high _ _ c.requires.0),
-    )
+  arith,
+  mul-le-mul {n₁ = c.loop-i.i}
+      {n₂ = 4294967295} {m₂ = max_text} (omega arith) (laws.full_high _ _ c.requires.0),
+)
 
 pub returns-then-start-i : goal.returns-then-start-i
 returns-then-start-i c = scan-fails (start_as_cut c.args.t.now) c.args.v.count c.loop-i.i c.loop-i-test.true
@@ -28,10 +28,10 @@ returns-then-start-i c = scan-fails (start_as_cut c.args.t.now) c.args.v.count c
 
 pub loop-i-preserved : goal.loop-i-preserved
 loop-i-preserved c = (
-      omega arith,
-      scan-more (start_as_cut c.args.t.now)
-          c.loop-i.i c.loop-i.invariant.1 (tree.start-on _ _ c.requires.0 _ _ c.start-start.ensures c.requires.1 c.if-start-i.false),
-    )
+  omega arith,
+  scan-more (start_as_cut c.args.t.now)
+      c.loop-i.i c.loop-i.invariant.1 (tree.start-on _ _ c.requires.0 _ _ c.start-start.ensures c.requires.1 c.if-start-i.false),
+)
 
 pub returns : goal.returns
 returns c = scan-done (start_as_cut c.args.t.now) c.args.v.count c.loop-i.i c.loop-i.invariant.0 c.loop-i-test.false c.loop-i.invariant.1

@@ -37,11 +37,11 @@ loop-a-smaller c = omega arith
 
 pub loop-a-preserved : goal.loop-a-preserved
 loop-a-preserved c = (
-      omega arith,
-      simp length-set c.loop-a.invariant.1,
-      cell-more c.args.rows c.args.width c.args.text.now c.requires.0 c.args.out.now c.loop-a.out c.loop-a.a c.args.b
-          c.requires.1 (omega arith) c.requires.2 c.loop-a.invariant.2,
-    )
+  omega arith,
+  simp length-set c.loop-a.invariant.1,
+  cell-more c.args.rows c.args.width c.args.text.now c.requires.0 c.args.out.now c.loop-a.out c.loop-a.a c.args.b
+      c.requires.1 (omega arith) c.requires.2 c.loop-a.invariant.2,
+)
 
 pub shape_of-out : goal.shape_of-out
 shape_of-out c = c.loop-a.invariant.1

@@ -21,11 +21,11 @@ loop-b-smaller c = omega arith
 
 pub loop-b-preserved : goal.loop-b-preserved
 loop-b-preserved c = (
-      omega arith,
-      c.put_column.auto.out ∙ c.loop-b.invariant.1,
-      filled_more c.args.rows c.args.width c.args.text.now c.requires.0 c.args.out.now c.loop-b.out _ c.loop-b.b
-          c.requires.1 (omega arith) c.loop-b.invariant.2 c.put_column.ensures,
-    )
+  omega arith,
+  c.put_column.auto.out ∙ c.loop-b.invariant.1,
+  filled_more c.args.rows c.args.width c.args.text.now c.requires.0 c.args.out.now c.loop-b.out _ c.loop-b.b
+      c.requires.1 (omega arith) c.loop-b.invariant.2 c.put_column.ensures,
+)
 
 pub shape_of-out : goal.shape_of-out
 shape_of-out c = c.loop-b.invariant.1

@@ -34,10 +34,10 @@ loop-b-smaller c = omega arith
 
 pub loop-b-preserved : goal.loop-b-preserved
 loop-b-preserved c = (
-      omega arith,
-      laws.read_more
-          _ _ _ _ _ c.args.buffer.now c.requires _ _ c.loop-b.invariant.1 (omega arith) _ c.byte_at-answer.ensures _ _ c.in-Byte.is,
-    )
+  omega arith,
+  laws.read_more
+      _ _ _ _ _ c.args.buffer.now c.requires _ _ c.loop-b.invariant.1 (omega arith) _ c.byte_at-answer.ensures _ _ c.in-Byte.is,
+)
 
 pub shape_of-buffer : goal.shape_of-buffer
 shape_of-buffer c = c.loop-b.invariant.1.same_length

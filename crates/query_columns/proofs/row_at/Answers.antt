@@ -18,9 +18,9 @@ returns-then-buffer-width c = let both = laws.read_short _ _ _ _ _ c.requires (s
 
 pub copy-requires : goal.copy-requires
 copy-requires c = record {
-      header = c.requires;
-      width = sym c.divides.ensures ∙ not-false _ c.if-not-divides.false-raw;
-      rows_are = refl;
-      below = c.if-rows-a.false;
-      fits = c.if-buffer-width.false;
-    }
+  header = c.requires;
+  width = sym c.divides.ensures ∙ not-false _ c.if-not-divides.false-raw;
+  rows_are = refl;
+  below = c.if-rows-a.false;
+  fits = c.if-buffer-width.false;
+}

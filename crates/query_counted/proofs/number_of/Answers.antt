@@ -15,17 +15,17 @@ bounds-t-i c = omega (arith, c.requires.long, c.requires.k_low)
 
 pub returns-then-t-i : goal.returns-then-t-i
 returns-then-t-i c = (
-      laws.ahead-hit _ _ _ _ c.requires (omega arith) c.if-t-i.true
-          ∙ c.loop-i.invariant.1,
-      omega arith,
-    )
+  laws.ahead-hit _ _ _ _ c.requires (omega arith) c.if-t-i.true
+      ∙ c.loop-i.invariant.1,
+  omega arith,
+)
 
 pub loop-i-preserved : goal.loop-i-preserved
 loop-i-preserved c = (
-      omega arith,
-      laws.ahead-miss _ _ _ _ c.requires (omega arith) c.if-t-i.false
-          ∙ c.loop-i.invariant.1,
-    )
+  omega arith,
+  laws.ahead-miss _ _ _ _ c.requires (omega arith) c.if-t-i.false
+      ∙ c.loop-i.invariant.1,
+)
 
 pub returns : goal.returns
 returns c = (laws.ahead-end _ _ _ _ c.requires (omega arith) ∙ c.loop-i.invariant.1, omega arith)

@@ -32,11 +32,11 @@ loop-at-smaller c = omega (arith, c.loop-at-test.true)
 
 pub loop-at-preserved : goal.loop-at-preserved
 loop-at-preserved c = let good = not-false _ c.if-not-read_part.false-raw in (
-      hashed-more c.args.t.now c.loop-at.at c.loop-at.s c.loop-at.invariant.0 16 _ c.read_part.new.part _ refl
-          (omega arith) (c.read_part.ensures.bytes good) c.hash_blocks-s.ensures,
-      from_on c.args.t.now c.loop-at.at 1024 (omega arith) (sym c.read_part.ensures.holds ∙ good) _ refl ∙ c.loop-at.invariant.1,
-      c.read_part.auto.part ∙ c.loop-at.invariant.2,
-    )
+  hashed-more c.args.t.now c.loop-at.at c.loop-at.s c.loop-at.invariant.0 16 _ c.read_part.new.part _ refl
+      (omega arith) (c.read_part.ensures.bytes good) c.hash_blocks-s.ensures,
+  from_on c.args.t.now c.loop-at.at 1024 (omega arith) (sym c.read_part.ensures.holds ∙ good) _ refl ∙ c.loop-at.invariant.1,
+  c.read_part.auto.part ∙ c.loop-at.invariant.2,
+)
 
 pub last_part-requires : goal.last_part-requires
 last_part-requires c = (c.requires.0, c.loop-at.invariant.0, omega (arith, c.loop-at-test.false, c.loop-at.invariant.2))

@@ -28,10 +28,10 @@ loop-i-smaller c = omega arith
 
 pub loop-i-preserved : goal.loop-i-preserved
 loop-i-preserved c = (
-      omega arith,
-      simp length-set c.loop-i.invariant.1,
-      laws.copied_more c.args.few.now c.args.table.now _ _ (omega (arith, c.requires.0)) (omega (arith, c.requires.1)) c.loop-i.invariant.2,
-    )
+  omega arith,
+  simp length-set c.loop-i.invariant.1,
+  laws.copied_more c.args.few.now c.args.table.now _ _ (omega (arith, c.requires.0)) (omega (arith, c.requires.1)) c.loop-i.invariant.2,
+)
 
 pub shape_of-table : goal.shape_of-table
 shape_of-table c = c.loop-i.invariant.1

@@ -8,6 +8,6 @@ find_at-requires c = header-good _ _ c.read_header-read.ensures _ c.in-Good.is
 
 pub returns-in-Refused : goal.returns-in-Refused
 returns-in-Refused c = record {
-      answers = laws.find-unread _ _ _ _ c.read_header-read.ensures _ c.in-Refused.is;
-      numbered = omega (arith, (header_refused _ _ c.read_header-read.ensures _ c.in-Refused.is).2);
-    }
+  answers = laws.find-unread _ _ _ _ c.read_header-read.ensures _ c.in-Refused.is;
+  numbered = omega (arith, (header_refused _ _ c.read_header-read.ensures _ c.in-Refused.is).2);
+}

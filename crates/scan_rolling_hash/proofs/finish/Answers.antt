@@ -12,17 +12,17 @@ loop-i-init c = (c.requires.1, c.requires.0, c.requires.2)
 
 pub push-g-requires : goal.push-g-requires
 push-g-requires c = (
-      c.loop-i.invariant.1,
-      omega (arith, c.base_of-base.ensures, base-below c.args.seed),
-    )
+  c.loop-i.invariant.1,
+  omega (arith, c.base_of-base.ensures, base-below c.args.seed),
+)
 
 pub loop-i-preserved : goal.loop-i-preserved
 loop-i-preserved c = (
-      omega arith,
-      c.push-g.ensures.1,
-      c.push-g.ensures.0 ∙ ap (λ (k : ℕ). (c.loop-i.g + get_or c.args.s.now c.loop-i.i 0) * k % 2147483647) c.base_of-base.ensures
-          ∙ fingerprint-push c.args.seed c.args.s.now c.loop-i.i (c.loop-i.i + 1) c.loop-i.g _ (omega arith) refl refl c.loop-i.invariant.2,
-    )
+  omega arith,
+  c.push-g.ensures.1,
+  c.push-g.ensures.0 ∙ ap (λ (k : ℕ). (c.loop-i.g + get_or c.args.s.now c.loop-i.i 0) * k % 2147483647) c.base_of-base.ensures
+      ∙ fingerprint-push c.args.seed c.args.s.now c.loop-i.i (c.loop-i.i + 1) c.loop-i.g _ (omega arith) refl refl c.loop-i.invariant.2,
+)
 
 pub reduce-requires : goal.reduce-requires
 reduce-requires c = omega (arith, c.loop-i.invariant.1)

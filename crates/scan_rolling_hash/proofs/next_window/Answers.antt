@@ -9,10 +9,10 @@ bounds-text-here c = omega (arith, laws.before-end _ _ _ _ _ c.requires.0 c.requ
 
 pub roll-requires : goal.roll-requires
 roll-requires c = (
-      omega (arith, c.base_of.ensures, base-below c.args.seed),
-      laws.fingerprint-low _ _ _ _ _ c.requires.0 c.requires.1,
-      laws.leaving-low _ _ _ _ _ c.requires.0 c.requires.1,
-    )
+  omega (arith, c.base_of.ensures, base-below c.args.seed),
+  laws.fingerprint-low _ _ _ _ _ c.requires.0 c.requires.1,
+  laws.leaving-low _ _ _ _ _ c.requires.0 c.requires.1,
+)
 
 pub overflow_add-result : goal.overflow_add-result
 overflow_add-result c = omega (arith, c.requires.0.looked_is, c.requires.0.few, laws.places-few _ _ _ _ _ c.requires.0 c.requires.1)

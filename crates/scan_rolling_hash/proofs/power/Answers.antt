@@ -11,19 +11,19 @@ loop-i-init c = (omega arith, sym (ap (λ (y : ℕ). y % 2147483647) (pow-zero (
 
 pub push_power-w-requires : goal.push_power-w-requires
 push_power-w-requires c = (
-      omega (arith, c.base_of-base.ensures, base-below c.args.seed),
-      omega (arith, c.loop-i.invariant.1, mod-lt (base_of c.args.seed ^ c.loop-i.i) {m = 2147483647} (omega arith)),
-    )
+  omega (arith, c.base_of-base.ensures, base-below c.args.seed),
+  omega (arith, c.loop-i.invariant.1, mod-lt (base_of c.args.seed ^ c.loop-i.i) {m = 2147483647} (omega arith)),
+)
 
 pub loop-i-smaller : goal.loop-i-smaller
 loop-i-smaller c = omega arith
 
 pub loop-i-preserved : goal.loop-i-preserved
 loop-i-preserved c = (
-      omega arith,
-      c.push_power-w.ensures ∙ ap (λ (k : ℕ). c.loop-i.w * k % 2147483647) c.base_of-base.ensures
-          ∙ power-next c.args.seed c.loop-i.w c.loop-i.i c.loop-i.invariant.1,
-    )
+  omega arith,
+  c.push_power-w.ensures ∙ ap (λ (k : ℕ). c.loop-i.w * k % 2147483647) c.base_of-base.ensures
+      ∙ power-next c.args.seed c.loop-i.w c.loop-i.i c.loop-i.invariant.1,
+)
 
 pub returns : goal.returns
 returns c = let e : c.loop-i.i ≡ c.args.n = omega arith in rw e at c.loop-i.invariant.1

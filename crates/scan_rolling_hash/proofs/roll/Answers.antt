@@ -10,14 +10,14 @@ overflow_mul-leaves c = omega (arith, leaving-fits _ _ c.ranges.leaves.fits c.re
 
 pub overflow_add-h-2 : goal.overflow_add-h-2
 overflow_add-h-2 c = omega (
-      arith,
-      roll-fits _ _ _ c.requires.1 c.ranges.enters.fits c.requires.0,
-      leaving-fits _ _ c.ranges.leaves.fits c.requires.2,
-    )
+  arith,
+  roll-fits _ _ _ c.requires.1 c.ranges.enters.fits c.requires.0,
+  leaving-fits _ _ c.ranges.leaves.fits c.requires.2,
+)
 
 pub reduce-requires : goal.reduce-requires
 reduce-requires c = omega (
-      arith,
-      roll-fits _ _ _ c.requires.1 c.ranges.enters.fits c.requires.0,
-      leaving-fits _ _ c.ranges.leaves.fits c.requires.2,
-    )
+  arith,
+  roll-fits _ _ _ c.requires.1 c.ranges.enters.fits c.requires.0,
+  leaving-fits _ _ c.ranges.leaves.fits c.requires.2,
+)

@@ -31,8 +31,8 @@ returns-then-fits-2 c = let z = laws.first_more
 
 pub returns : goal.returns
 returns c = (
-      omega arith,
-      omega arith,
-      laws.first-none
-          _ _ _ _ c.loop-k.invariant c.loop-k-test.false (sym c.fits-2.ensures ∙ c.if-fits-2.false),
-    )
+  omega arith,
+  omega arith,
+  laws.first-none
+      _ _ _ _ c.loop-k.invariant c.loop-k-test.false (sym c.fits-2.ensures ∙ c.if-fits-2.false),
+)

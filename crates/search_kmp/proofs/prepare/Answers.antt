@@ -29,11 +29,11 @@ loop-i-smaller c = omega arith
 
 pub loop-i-preserved : goal.loop-i-preserved
 loop-i-preserved c = (
-      omega arith,
-      simp length-set c.loop-i.invariant.1,
-      simp length-set (simp length-set at c.loop-i.invariant.2),
-      laws.filling-more _ _ _ _ c.loop-i.invariant.3 (omega (arith, c.loop-i.invariant.1)) _ _ refl c.advance-k.ensures.2,
-    )
+  omega arith,
+  simp length-set c.loop-i.invariant.1,
+  simp length-set (simp length-set at c.loop-i.invariant.2),
+  laws.filling-more _ _ _ _ c.loop-i.invariant.3 (omega (arith, c.loop-i.invariant.1)) _ _ refl c.advance-k.ensures.2,
+)
 
 pub shape_of-borders : goal.shape_of-borders
 shape_of-borders c = simp length-set at c.loop-i.invariant.2

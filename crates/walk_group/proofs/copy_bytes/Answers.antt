@@ -29,9 +29,9 @@ loop-k-smaller c = omega (arith, c.loop-k-test.true)
 
 pub loop-k-preserved : goal.loop-k-preserved
 loop-k-preserved c = (
-      omega (arith, c.loop-k-test.true),
-      laws.bytes-more _ _ _ _ _ _ _ c.loop-k.invariant.1 _ c.leaf_byte-found.ensures _ c.in-At.is,
-    )
+  omega (arith, c.loop-k-test.true),
+  laws.bytes-more _ _ _ _ _ _ _ c.loop-k.invariant.1 _ c.leaf_byte-found.ensures _ c.in-At.is,
+)
 
 pub shape_of-buffer : goal.shape_of-buffer
 shape_of-buffer c = c.loop-k.invariant.1.same_length

@@ -9,17 +9,16 @@ use Rattle.walk_group.proofs.copy_places.Goals as goal
 
 pub top_positions-requires : goal.top_positions-requires
 top_positions-requires c = (
-      b-pos _ _ _ _ (on-top _ _ c.requires.0),
-      c.requires.1,
-      c.requires.1,
-      λ k less. omega (arith, c.requires.2 k less, c.requires.0.length_is, c.requires.0.facts.bounds.text_high),
-    )
+  b-pos _ _ _ _ (on-top _ _ c.requires.0),
+  c.requires.1,
+  c.requires.1,
+  λ k less. omega (arith, c.requires.2 k less, c.requires.0.length_is, c.requires.0.facts.bounds.text_high),
+)
 
 pub walk_all-requires : goal.walk_all-requires
 walk_all-requires c =
     let blocks : List ℕ = c.top_positions.new.blocks in
-    let places : List ℕ = c.top_positions.new.places in
-    (
+    let places : List ℕ = c.top_positions.new.places in (
       c.requires.0,
       omega (arith, c.requires.1, c.top_positions.auto.blocks),
       omega (arith, c.requires.1, c.top_positions.auto.places),
@@ -40,8 +39,7 @@ copy_bytes-requires c =
     let blocks : List ℕ = c.top_positions.new.blocks in
     let places : List ℕ = c.top_positions.new.places in
     let blocks_last : List ℕ = c.walk_all.new.blocks in
-    let places-last : List ℕ = c.walk_all.new.places in
-    (
+    let places-last : List ℕ = c.walk_all.new.places in (
       c.requires.0,
       omega (arith, c.requires.1, c.top_positions.auto.blocks, c.walk_all.auto.blocks),
       omega (arith, c.requires.1, c.top_positions.auto.places, c.walk_all.auto.places),

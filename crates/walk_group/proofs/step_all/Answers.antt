@@ -35,9 +35,9 @@ loop-k-smaller c = omega arith
 
 pub loop-k-preserved : goal.loop-k-preserved
 loop-k-preserved c = (
-      omega arith,
-      laws.steps-more _ _ _ _ _ _ _ c.loop-k.invariant.1 _ c.step-next.ensures _ _ c.in-At.is (omega (arith, c.requires.2)) (omega (arith, c.requires.3)),
-    )
+  omega arith,
+  laws.steps-more _ _ _ _ _ _ _ c.loop-k.invariant.1 _ c.step-next.ensures _ _ c.in-At.is (omega (arith, c.requires.2)) (omega (arith, c.requires.3)),
+)
 
 pub shape_of-blocks : goal.shape_of-blocks
 shape_of-blocks c = c.loop-k.invariant.1.same_blocks

@@ -23,9 +23,9 @@ loop-k-smaller c = omega arith
 
 pub loop-k-preserved : goal.loop-k-preserved
 loop-k-preserved c = (
-      omega arith,
-      laws.top-more _ _ _ _ _ _ _ _ c.loop-k.invariant.1 (omega (arith, c.requires.1, c.loop-k-test.true)) (omega (arith, c.requires.2, c.loop-k-test.true)),
-    )
+  omega arith,
+  laws.top-more _ _ _ _ _ _ _ _ c.loop-k.invariant.1 (omega (arith, c.requires.1, c.loop-k-test.true)) (omega (arith, c.requires.2, c.loop-k-test.true)),
+)
 
 pub shape_of-blocks : goal.shape_of-blocks
 shape_of-blocks c = c.loop-k.invariant.1.same_blocks

@@ -18,12 +18,12 @@ nonzero_div-below c = omega (arith, c.requires.0.arity_is, c.requires.0.facts.bo
 
 pub step_all-requires : goal.step_all-requires
 step_all-requires c = (
-      c.loop-level.invariant.0,
-      rw c.requires.0.arity_is (level-below _ _ _ _ c.loop-level.invariant.0 (λ e. omega (arith, c.requires.0.levels_is, c.loop-level-test.true))),
-      omega (arith, c.requires.1, c.loop-level.invariant.1.same_blocks),
-      omega (arith, c.requires.2, c.loop-level.invariant.1.same_places),
-      laws.levels-here _ _ _ _ _ _ _ c.loop-level.invariant.1,
-    )
+  c.loop-level.invariant.0,
+  rw c.requires.0.arity_is (level-below _ _ _ _ c.loop-level.invariant.0 (λ e. omega (arith, c.requires.0.levels_is, c.loop-level-test.true))),
+  omega (arith, c.requires.1, c.loop-level.invariant.1.same_blocks),
+  omega (arith, c.requires.2, c.loop-level.invariant.1.same_places),
+  laws.levels-here _ _ _ _ _ _ _ c.loop-level.invariant.1,
+)
 
 pub shape_of-blocks-then-not-step_all : goal.shape_of-blocks-then-not-step_all
 shape_of-blocks-then-not-step_all c = c.step_all.auto.blocks ∙ c.loop-level.invariant.1.same_blocks
@@ -47,8 +47,7 @@ loop-level-smaller c = omega (arith, c.loop-level.invariant.0.level_in, c.requir
 pub loop-level-preserved : goal.loop-level-preserved
 loop-level-preserved c =
     let blocks : List ℕ = c.step_all.new.blocks in
-    let places : List ℕ = c.step_all.new.places in
-    (
+    let places : List ℕ = c.step_all.new.places in (
       rw c.requires.0.arity_is (level-below _ _ _ _ c.loop-level.invariant.0 (λ e. omega (arith, c.requires.0.levels_is, c.loop-level-test.true))),
       laws.levels-more _ _ _ _ _ _ _ c.loop-level.invariant.1 blocks places c.step_all.result c.step_all.ensures
           (not-false _ c.if-not-step_all.false-raw) c.step_all.auto.blocks c.step_all.auto.places,

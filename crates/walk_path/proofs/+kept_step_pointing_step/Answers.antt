@@ -91,13 +91,13 @@ pointing_step-returns-in_default t c = sym laws.broken-word ∙ laws.landed-off 
 
 pub pointing_step-kept_step-requires : goal.pointing_step-kept_step-requires
 pointing_step-kept_step-requires t c = (
-      omega (arith, c.decreases),
-      (
-        laws.landed-kept _ _ _ _ _ _ _ c.requires.0 c.requires.1 _ c.to_kept-there.ensures _ _ _ c.in-At.is,
-        c.requires.1,
-        c.quotient-below.ensures ∙ ap (λ (y : ℕ). c.args.b / y) (shapes _ _ c.shape_of-shape.ensures).arity_is,
-      ),
-    )
+  omega (arith, c.decreases),
+  (
+    laws.landed-kept _ _ _ _ _ _ _ c.requires.0 c.requires.1 _ c.to_kept-there.ensures _ _ _ c.in-At.is,
+    c.requires.1,
+    c.quotient-below.ensures ∙ ap (λ (y : ℕ). c.args.b / y) (shapes _ _ c.shape_of-shape.ensures).arity_is,
+  ),
+)
 
 pub pointing_step-returns : goal.pointing_step-returns
 pointing_step-returns t c = laws.landed-by _ _ _ _ _ _ _ c.requires.0 c.requires.1 _ c.to_kept-there.ensures _ _ _ c.in-At.is _ c.kept_step.ensures

@@ -25,9 +25,9 @@ returns-then-shape-eq1 c = let x = shapes _ _ c.shape_of-shape.ensures in
 
 pub pointing_step-requires : goal.pointing_step-requires
 pointing_step-requires c = let x = shapes _ _ c.shape_of-shape.ensures in (
-      laws.top-may _ _ _ _ c.requires.0 _ c.top_position-position.ensures c.requires.1,
-      omega (arith, c.if-shape-eq1.false, x.levels_is, c.requires.0.facts.bounds.levels_low),
-    )
+  laws.top-may _ _ _ _ c.requires.0 _ c.top_position-position.ensures c.requires.1,
+  omega (arith, c.if-shape-eq1.false, x.levels_is, c.requires.0.facts.bounds.levels_low),
+)
 
 pub returns : goal.returns
 returns c = laws.top-by _ _ _ _ c.requires.0 _ c.top_position-position.ensures _ _ c.pointing_step.ensures

@@ -13,12 +13,12 @@ overflow_add-sum c = omega (arith, laws.sum-small _ _ _ _ _ _ c.requires _ c.gap
 
 pub overflow_mul-over : goal.overflow_mul-over
 overflow_mul-over c = record {
-      fits = omega (
-        arith,
-        c.past-over.ensures.2,
-        laws.sum-small _ _ _ _ _ _ c.requires _ c.gap-gap.ensures,
-      );
-    }
+  fits = omega (
+    arith,
+    c.past-over.ensures.2,
+    laws.sum-small _ _ _ _ _ _ c.requires _ c.gap-gap.ensures,
+  );
+}
 
 pub returns : goal.returns
 returns c = laws.target-by _ _ _ _ _ _

@@ -12,10 +12,10 @@ pair_in-right-requires c = (laws.going_on _ _ _ c.requires.0.level_is _ _ _ _ _ 
 
 pub block_in-block-requires : goal.block_in-block-requires
 block_in-block-requires c = (
-      laws.going_next _ _ _ c.requires.0.level_is
-          _ _ _ _ _ c.loop-i.invariant (omega (arith, c.loop-i-test.true)) _ c.pair_in-right.ensures _ c.keeps-kept.ensures,
-      c.requires.1,
-    )
+  laws.going_next _ _ _ c.requires.0.level_is
+      _ _ _ _ _ c.loop-i.invariant (omega (arith, c.loop-i-test.true)) _ c.pair_in-right.ensures _ c.keeps-kept.ensures,
+  c.requires.1,
+)
 
 pub put_block-link-requires : goal.put_block-link-requires
 put_block-link-requires c = laws.going-writing _ _ _ c.requires.0.level_is
@@ -23,10 +23,10 @@ put_block-link-requires c = laws.going-writing _ _ _ c.requires.0.level_is
 
 pub overflow_add-link : goal.overflow_add-link
 overflow_add-link c = omega (
-      arith,
-      laws.link-few _ _ _ c.requires.0.level_is _ _ _ _ _ c.loop-i.invariant (omega (arith, c.loop-i-test.true)) _ c.pair_in-right.ensures _ c.keeps-kept.ensures
-          _ _ c.put_block-link.ensures.value c.put_block-link.ensures.writes_only_tree c.put_block-link.ensures.agrees_on,
-    )
+  arith,
+  laws.link-few _ _ _ c.requires.0.level_is _ _ _ _ _ c.loop-i.invariant (omega (arith, c.loop-i-test.true)) _ c.pair_in-right.ensures _ c.keeps-kept.ensures
+      _ _ c.put_block-link.ensures.value c.put_block-link.ensures.writes_only_tree c.put_block-link.ensures.agrees_on,
+)
 
 pub overflow_add-i : goal.overflow_add-i
 overflow_add-i c = omega (arith, c.loop-i-test.true, (record-few _ _ _ c.requires.0.level_is).count_few)

@@ -18,12 +18,12 @@ start-start-requires c = let f = record-few _ _ _ c.requires.0.level_is in
 pub start-next-requires : goal.start-next-requires
 unfolding item_place_in
 start-next-requires c = let f = record-few _ _ _ c.requires.0.level_is in (
-      f.counted_few,
-      f.table_few,
-      omega (arith, c.requires.0.block_in, f.count_few),
-      f.leaf_few,
-      start_fits _ _ _ _ _ c.requires.0 _ (omega (arith, c.requires.0.block_in, c.if-i-level.false)),
-    )
+  f.counted_few,
+  f.table_few,
+  omega (arith, c.requires.0.block_in, f.count_few),
+  f.leaf_few,
+  start_fits _ _ _ _ _ c.requires.0 _ (omega (arith, c.requires.0.block_in, c.if-i-level.false)),
+)
 
 pub overflow_add-start : goal.overflow_add-start
 unfolding item_place_in

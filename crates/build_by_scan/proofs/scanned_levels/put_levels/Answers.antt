@@ -16,12 +16,11 @@ overflow_add-level c =
     omega (arith, c.loop-level.invariant.reached.ready.level_is.number_in, (bounds _ _ c.loop-level.invariant.reached.ready.level_is.taken).levels_high)
 
 pub put_level-put-requires : goal.put_level-put-requires
-put_level-put-requires c =
-    (
-      laws.ready-here _ _ _ _ _ _ c.loop-level.invariant.reached,
-      laws.upper-here _ _ _ _ _ _ c.loop-level.invariant.reached c.loop-level-test.true,
-      levels.room-here _ _ _ _ _ _ _ _ _ c.loop-level.invariant c.requires.2,
-    )
+put_level-put-requires c = (
+  laws.ready-here _ _ _ _ _ _ c.loop-level.invariant.reached,
+  laws.upper-here _ _ _ _ _ _ c.loop-level.invariant.reached c.loop-level-test.true,
+  levels.room-here _ _ _ _ _ _ _ _ _ c.loop-level.invariant c.requires.2,
+)
 
 pub overflow_add-windows : goal.overflow_add-windows
 overflow_add-windows c =

@@ -14,12 +14,12 @@ returns-in_default c = record { writes_only_tree = c.begin-step.ensures.writes_o
 
 pub put_levels-requires : goal.put_levels-requires
 put_levels-requires c = let r = laws.step-reached _ _ _ _ _ c.begin-step.ensures.writes_only_tree _ _ c.begin-step.ensures.step_is _ c.in-To.is in (
-      laws.ready-here _ _ _ _ _ _ r,
-      laws.step-number _ _ _ _ _ c.begin-step.ensures.writes_only_tree
-          _ _ c.begin-step.ensures.step_is _ c.in-To.is,
-      levels.room_of
-          _ _ _ _ _ _ r _ c.requires.1,
-    )
+  laws.ready-here _ _ _ _ _ _ r,
+  laws.step-number _ _ _ _ _ c.begin-step.ensures.writes_only_tree
+      _ _ c.begin-step.ensures.step_is _ c.in-To.is,
+  levels.room_of
+      _ _ _ _ _ _ r _ c.requires.1,
+)
 
 pub shape_of-out : goal.shape_of-out
 shape_of-out c = (laws.only-tree-here _ _ _ _ _ _ (laws.step-reached _ _ _ _ _ c.begin-step.ensures.writes_only_tree _ _ c.begin-step.ensures.step_is _ c.in-To.is)

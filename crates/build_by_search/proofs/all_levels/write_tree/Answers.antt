@@ -19,7 +19,10 @@ shape_of-out c = (laws.only-tree-here _ _ _ _ _ _ (laws.step-reached _ _ _ _ _ c
     _ c.put_levels.ensures.writes_only_tree).same_length
 
 pub returns : goal.returns
-returns c = record { writes_only_tree = laws.only-tree-here _ _ _ _ _ _
-          (laws.step-reached _ _ _ _ _ c.begin-step.ensures.writes_only_tree _ _ c.begin-step.ensures.step_is _ c.in-To.is)
-          _ c.put_levels.ensures.writes_only_tree; tree_complete = laws.finished-here _ _ _ _ _ _ (laws.step-reached _ _ _ _ _ c.begin-step.ensures.writes_only_tree
-          _ _ c.begin-step.ensures.step_is _ c.in-To.is) _ _ c.put_levels.ensures.tree_complete }
+returns c = record {
+  writes_only_tree = laws.only-tree-here _ _ _ _ _ _
+      (laws.step-reached _ _ _ _ _ c.begin-step.ensures.writes_only_tree _ _ c.begin-step.ensures.step_is _ c.in-To.is)
+      _ c.put_levels.ensures.writes_only_tree;
+  tree_complete = laws.finished-here _ _ _ _ _ _ (laws.step-reached _ _ _ _ _ c.begin-step.ensures.writes_only_tree
+      _ _ c.begin-step.ensures.step_is _ c.in-To.is) _ _ c.put_levels.ensures.tree_complete;
+}

@@ -22,19 +22,19 @@ put_block-link-requires c = laws.going-writing
 
 pub overflow_add-link : goal.overflow_add-link
 overflow_add-link c = omega (
-      arith,
-      laws.link-few _ _ _ c.requires.level_is _ _ _ _ _ c.loop-i.invariant
-          (omega (arith, c.loop-i.invariant.within, c.loop-i-test.true)) _ c.pair_after-right.ensures _ c.keeps-kept.ensures
-          _ _ c.put_block-link.ensures.value c.put_block-link.ensures.writes_only_tree c.put_block-link.ensures.agrees_on,
-    )
+  arith,
+  laws.link-few _ _ _ c.requires.level_is _ _ _ _ _ c.loop-i.invariant
+      (omega (arith, c.loop-i.invariant.within, c.loop-i-test.true)) _ c.pair_after-right.ensures _ c.keeps-kept.ensures
+      _ _ c.put_block-link.ensures.value c.put_block-link.ensures.writes_only_tree c.put_block-link.ensures.agrees_on,
+)
 
 pub overflow_add-i : goal.overflow_add-i
 overflow_add-i c = omega (
-      arith,
-      c.loop-i.invariant.within,
-      c.loop-i-test.true,
-      (record-few _ _ _ c.requires.level_is).count_few,
-    )
+  arith,
+  c.loop-i.invariant.within,
+  c.loop-i-test.true,
+  (record-few _ _ _ c.requires.level_is).count_few,
+)
 
 pub loop-i-smaller : goal.loop-i-smaller
 loop-i-smaller c = omega (arith, c.loop-i.invariant.within, c.loop-i-test.true)

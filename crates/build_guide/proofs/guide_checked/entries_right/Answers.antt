@@ -28,11 +28,11 @@ read-requires c = omega (arith, c.requires.count_value.1, c.loop-e-test.true)
 
 pub returns-then-read-block : goal.returns-then-read-block
 returns-then-read-block c = let low = (c.loop-e.invariant.1 c.loop-e-test.true).1 in record {
-      yes = λ e. false-not e;
-      no = λ e same. laws.entry-wrong _ _ c.requires.header_of.1 _ _ (laws.entry-there _ _ c.loop-e.e c.requires.header_of.1 c.requires.header_of.2 (omega (arith, c.requires.count_value.0, c.loop-e-test.true)) _ c.requires.header_of.3)
-          (laws.entry_found _ _ c.loop-e.e c.requires.header_of.1 c.requires.header_of.2 (omega (arith, c.requires.count_value.0, c.loop-e-test.true)) _ _ low c.block_from-along.ensures.0 _ c.requires.header_of.3)
-          (λ q. c.if-read-block.true (c.read.ensures ∙ q)) same;
-    }
+  yes = λ e. false-not e;
+  no = λ e same. laws.entry-wrong _ _ c.requires.header_of.1 _ _ (laws.entry-there _ _ c.loop-e.e c.requires.header_of.1 c.requires.header_of.2 (omega (arith, c.requires.count_value.0, c.loop-e-test.true)) _ c.requires.header_of.3)
+      (laws.entry_found _ _ c.loop-e.e c.requires.header_of.1 c.requires.header_of.2 (omega (arith, c.requires.count_value.0, c.loop-e-test.true)) _ _ low c.block_from-along.ensures.0 _ c.requires.header_of.3)
+      (λ q. c.if-read-block.true (c.read.ensures ∙ q)) same;
+}
 
 pub overflow_add-e-in-loop-e : goal.overflow_add-e-in-loop-e
 overflow_add-e-in-loop-e c = omega (arith, c.loop-e-test.true)
@@ -42,11 +42,11 @@ loop-e-smaller c = omega (arith, c.loop-e-test.true)
 
 pub loop-e-preserved : goal.loop-e-preserved
 loop-e-preserved c = let low = (c.loop-e.invariant.1 c.loop-e-test.true).1 in (
-      omega (arith, c.loop-e-test.true),
-      (λ _. laws.entry_next _ _ c.loop-e.e c.requires.header_of.1 c.requires.header_of.2 (omega (arith, c.requires.count_value.0, c.loop-e-test.true)) _ _ low c.block_from-along.ensures.0),
-      laws.next-right _ _ _ _ _ c.loop-e.invariant.2 (sym c.read.ensures ∙ c.if-read-block.false)
-          (laws.entry_found _ _ c.loop-e.e c.requires.header_of.1 c.requires.header_of.2 (omega (arith, c.requires.count_value.0, c.loop-e-test.true)) _ _ low c.block_from-along.ensures.0 _ c.requires.header_of.3),
-    )
+  omega (arith, c.loop-e-test.true),
+  (λ _. laws.entry_next _ _ c.loop-e.e c.requires.header_of.1 c.requires.header_of.2 (omega (arith, c.requires.count_value.0, c.loop-e-test.true)) _ _ low c.block_from-along.ensures.0),
+  laws.next-right _ _ _ _ _ c.loop-e.invariant.2 (sym c.read.ensures ∙ c.if-read-block.false)
+      (laws.entry_found _ _ c.loop-e.e c.requires.header_of.1 c.requires.header_of.2 (omega (arith, c.requires.count_value.0, c.loop-e-test.true)) _ _ low c.block_from-along.ensures.0 _ c.requires.header_of.3),
+)
 
 pub returns : goal.returns
 returns c = record { yes = λ e i a b. c.loop-e.invariant.2 i a (omega (arith, c.loop-e-test.false)); no = λ e same. true-not e }

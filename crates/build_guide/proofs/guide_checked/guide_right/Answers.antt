@@ -4,9 +4,9 @@ use Rattle.build_guide.proofs.guide_checked.guide_right.Goals as goal
 
 pub right_by-requires : goal.right_by-requires
 right_by-requires c = (
-      header-good _ _ c.read_header-read.ensures _ c.in-Good.is,
-      c.requires,
-    )
+  header-good _ _ c.read_header-read.ensures _ c.in-Good.is,
+  c.requires,
+)
 
 pub returns-in-Refused : goal.returns-in-Refused
 returns-in-Refused c = let h = header_refused _ _ c.read_header-read.ensures _ c.in-Refused.is in

@@ -55,8 +55,7 @@ loop-c-smaller c =
 
 pub loop-c-preserved : goal.loop-c-preserved
 loop-c-preserved c =
-    let more : c.loop-c.c < c.args.h.settings.counted → c.loop-c.c < at.counted_count c.args.t.now = λ low. omega (arith, c.requires.0.counted_is) in
-    (
+    let more : c.loop-c.c < c.args.h.settings.counted → c.loop-c.c < at.counted_count c.args.t.now = λ low. omega (arith, c.requires.0.counted_is) in (
       omega (arith, more c.loop-c-test.true),
       list.one_more _ _ _ _ c.loop-c.invariant.1 c.entries_of-count.ensures.0,
       laws.right-more _ _ _ _ _ c.loop-c.invariant.2 c.entries_right.ensures (not-false _ c.if-not-entries_right.false-raw),

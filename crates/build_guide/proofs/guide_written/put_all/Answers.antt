@@ -12,10 +12,13 @@ pub entries_of-count-requires : goal.entries_of-count-requires
 entries_of-count-requires c = (c.requires.0, omega (arith, c.requires.0.counted_is, c.loop-c-test.true))
 
 pub put_entries-requires : goal.put_entries-requires
-put_entries-requires c = let m : c.loop-c.c < at.counted_count c.args.t.now = omega (arith, c.requires.0.counted_is, c.loop-c-test.true) in record { header_of = (c.requires.0, c.requires.1, m, c.loop-c.invariant.1); count_value = (
-        c.entries_of-count.ensures.0,
-        omega (arith, list.part-ends _ _ _ _ m c.loop-c.invariant.1 c.entries_of-count.ensures.0, c.requires.2, c.loop-c.invariant.2.same_length),
-      ) }
+put_entries-requires c = let m : c.loop-c.c < at.counted_count c.args.t.now = omega (arith, c.requires.0.counted_is, c.loop-c-test.true) in record {
+  header_of = (c.requires.0, c.requires.1, m, c.loop-c.invariant.1);
+  count_value = (
+    c.entries_of-count.ensures.0,
+    omega (arith, list.part-ends _ _ _ _ m c.loop-c.invariant.1 c.entries_of-count.ensures.0, c.requires.2, c.loop-c.invariant.2.same_length),
+  );
+}
 
 pub overflow_add-place : goal.overflow_add-place
 overflow_add-place c = let m : c.loop-c.c < at.counted_count c.args.t.now = omega (arith, c.requires.0.counted_is, c.loop-c-test.true) in
@@ -29,10 +32,10 @@ loop-c-smaller c = omega (arith, c.requires.0.counted_is, c.loop-c-test.true)
 
 pub loop-c-preserved : goal.loop-c-preserved
 loop-c-preserved c = (
-      omega (arith, c.requires.0.counted_is, c.loop-c-test.true),
-      list.one_more _ _ _ _ c.loop-c.invariant.1 c.entries_of-count.ensures.0,
-      laws.puts-on _ _ _ _ _ _ _ c.loop-c.invariant.2 c.put_entries.ensures,
-    )
+  omega (arith, c.requires.0.counted_is, c.loop-c-test.true),
+  list.one_more _ _ _ _ c.loop-c.invariant.1 c.entries_of-count.ensures.0,
+  laws.puts-on _ _ _ _ _ _ _ c.loop-c.invariant.2 c.put_entries.ensures,
+)
 
 pub shape_of-table : goal.shape_of-table
 shape_of-table c = c.loop-c.invariant.2.same_length

@@ -19,8 +19,11 @@ pub put_all-requires : goal.put_all-requires
 put_all-requires c = (c.requires.0, c.requires.1, omega (arith, list.all_words _ _ _ c.requires.0.counted_is c.entries_before-all.ensures.0, c.if-table-all.false))
 
 pub returns : goal.returns
-returns c = let e = list.all_words _ _ _ c.requires.0.counted_is c.entries_before-all.ensures.0 in record { result_value = (
-        ap (λ (n : ℕ). record { number = 0; value = n; entered = 0 }) e
-            ∙ (laws.made_all _ _ c.requires.1 (omega (arith, e, c.if-table-all.false))).0,
-        tt,
-      ); table_after = c.put_all.ensures }
+returns c = let e = list.all_words _ _ _ c.requires.0.counted_is c.entries_before-all.ensures.0 in record {
+  result_value = (
+    ap (λ (n : ℕ). record { number = 0; value = n; entered = 0 }) e
+        ∙ (laws.made_all _ _ c.requires.1 (omega (arith, e, c.if-table-all.false))).0,
+    tt,
+  );
+  table_after = c.put_all.ensures;
+}

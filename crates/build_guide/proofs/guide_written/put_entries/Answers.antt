@@ -34,12 +34,12 @@ loop-e-smaller c = omega (arith, c.loop-e-test.true)
 
 pub loop-e-preserved : goal.loop-e-preserved
 loop-e-preserved c = let low = (c.loop-e.invariant.1 c.loop-e-test.true).1 in (
-      omega (arith, c.loop-e-test.true),
-      (λ _. laws.entry_next _ _ c.loop-e.e c.requires.header_of.1 c.requires.header_of.2 (omega (arith, c.requires.count_value.0, c.loop-e-test.true)) _ _ low c.block_from-along.ensures.0),
-      laws.puts-more _ _ _ _ _ _ _ c.loop-e.invariant.2 (laws.entry_found _ _ c.loop-e.e c.requires.header_of.1 c.requires.header_of.2 (omega (arith, c.requires.count_value.0, c.loop-e-test.true)) _ _ low c.block_from-along.ensures.0 _ c.requires.header_of.3)
-          (laws.entry-there _ _ c.loop-e.e c.requires.header_of.1 c.requires.header_of.2 (omega (arith, c.requires.count_value.0, c.loop-e-test.true)) _ c.requires.header_of.3)
-          (omega (arith, c.requires.count_value.1, c.loop-e-test.true, c.loop-e.invariant.2.same_length)) c.write.ensures,
-    )
+  omega (arith, c.loop-e-test.true),
+  (λ _. laws.entry_next _ _ c.loop-e.e c.requires.header_of.1 c.requires.header_of.2 (omega (arith, c.requires.count_value.0, c.loop-e-test.true)) _ _ low c.block_from-along.ensures.0),
+  laws.puts-more _ _ _ _ _ _ _ c.loop-e.invariant.2 (laws.entry_found _ _ c.loop-e.e c.requires.header_of.1 c.requires.header_of.2 (omega (arith, c.requires.count_value.0, c.loop-e-test.true)) _ _ low c.block_from-along.ensures.0 _ c.requires.header_of.3)
+      (laws.entry-there _ _ c.loop-e.e c.requires.header_of.1 c.requires.header_of.2 (omega (arith, c.requires.count_value.0, c.loop-e-test.true)) _ c.requires.header_of.3)
+      (omega (arith, c.requires.count_value.1, c.loop-e-test.true, c.loop-e.invariant.2.same_length)) c.write.ensures,
+)
 
 pub shape_of-table : goal.shape_of-table
 shape_of-table c = c.loop-e.invariant.2.same_length

@@ -28,9 +28,9 @@ loop-x-smaller c = omega arith
 
 pub loop-x-preserved : goal.loop-x-preserved
 loop-x-preserved c = (
-      omega arith,
-      (simp length-set c.loop-x.invariant.1.0, places-more c.args.out.now _ (places c.args.counted.now) c.loop-x.x _ c.loop-x.invariant.1.1 c.counted_byte.ensures),
-    )
+  omega arith,
+  (simp length-set c.loop-x.invariant.1.0, places-more c.args.out.now _ (places c.args.counted.now) c.loop-x.x _ c.loop-x.invariant.1.1 c.counted_byte.ensures),
+)
 
 pub shape_of-out : goal.shape_of-out
 shape_of-out c = c.loop-x.invariant.1.0

@@ -26,13 +26,13 @@ loop-n-smaller c = omega arith
 
 pub loop-n-preserved : goal.loop-n-preserved
 loop-n-preserved c = (
-      omega arith,
-      (
-        c.put_pair.auto.out
-            ∙ c.loop-n.invariant.1.0,
-        unused-more c.args.out.now _ _ c.args.levels c.loop-n.n c.loop-n.invariant.1.1 c.put_pair.ensures,
-      ),
-    )
+  omega arith,
+  (
+    c.put_pair.auto.out
+        ∙ c.loop-n.invariant.1.0,
+    unused-more c.args.out.now _ _ c.args.levels c.loop-n.n c.loop-n.invariant.1.1 c.put_pair.ensures,
+  ),
+)
 
 pub shape_of-out : goal.shape_of-out
 shape_of-out c = c.loop-n.invariant.1.0

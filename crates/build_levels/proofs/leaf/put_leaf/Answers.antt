@@ -8,7 +8,11 @@ pub copy-requires : goal.copy-requires
 copy-requires c = (laws.leaf-fits _ _ _ _ _ _ c.requires.0 c.requires.1 _ c.substring_of-own.ensures, c.substring_of-own.ensures.fits)
 
 pub returns : goal.returns
-returns c = record { value = laws.len-width _ _ _ _ _ _ c.requires.0
-          c.requires.1 _ c.substring_of-own.ensures; writes_only_tree = laws.leaf-only-tree _ _ _ _ _ _ c.requires.0 c.requires.1 _
-            c.substring_of-own.ensures _ c.copy.ensures; agrees_on = laws.leaf-within _ _ _ _ _ _
-            c.requires.0 c.requires.1 _ c.substring_of-own.ensures _ c.copy.ensures }
+returns c = record {
+  value = laws.len-width _ _ _ _ _ _ c.requires.0
+      c.requires.1 _ c.substring_of-own.ensures;
+  writes_only_tree = laws.leaf-only-tree _ _ _ _ _ _ c.requires.0 c.requires.1 _
+      c.substring_of-own.ensures _ c.copy.ensures;
+  agrees_on = laws.leaf-within _ _ _ _ _ _
+      c.requires.0 c.requires.1 _ c.substring_of-own.ensures _ c.copy.ensures;
+}

@@ -11,15 +11,18 @@ place-requires c = let f = laws.few-first _ _ _ c.requires _ c.first_level-first
     (f.counted_few, f.table_few, f.count_few, f.leaf_few)
 
 pub returns-then-out-place : goal.returns-then-out-place
-returns-then-out-place c = record { writes_only_tree = only-tree-refl _ _; step_is = laws.no-first
-          _ _ _ c.requires _ c.first_level-first.ensures c.args.out.now _ c.place.ensures.0 c.if-out-place.true }
+returns-then-out-place c = record {
+  writes_only_tree = only-tree-refl _ _;
+  step_is = laws.no-first
+      _ _ _ c.requires _ c.first_level-first.ensures c.args.out.now _ c.place.ensures.0 c.if-out-place.true;
+}
 
 pub put_head-requires : goal.put_head-requires
 put_head-requires c = (
-      c.requires,
-      laws.long-first _ _ _ c.requires
-          _ c.first_level-first.ensures c.args.out.now _ c.place.ensures.0 c.if-out-place.false,
-    )
+  c.requires,
+  laws.long-first _ _ _ c.requires
+      _ c.first_level-first.ensures c.args.out.now _ c.place.ensures.0 c.if-out-place.false,
+)
 
 pub record_size-requires : goal.record_size-requires
 record_size-requires c = let l = bounds _ _ c.requires in
@@ -36,9 +39,12 @@ shape_of-out c = (laws.first-only-tree _ _ _ c.requires _ c.first_level-first.en
     c.put_head.ensures.agrees_on _ c.record_size.ensures.0 _ c.put_starts.ensures).same_length
 
 pub returns : goal.returns
-returns c = record { writes_only_tree = laws.first-only-tree _ _ _
-          c.requires _ c.first_level-first.ensures c.args.out.now _ c.place.ensures.0
-          c.if-out-place.false _ c.put_head.ensures.writes_only_tree c.put_head.ensures.agrees_on _ c.record_size.ensures.0
-          _ c.put_starts.ensures; step_is = laws.first_step _ _ _ c.requires _ c.first_level-first.ensures
-          c.args.out.now _ c.place.ensures.0 c.if-out-place.false _ c.put_head.ensures.writes_only_tree
-          c.put_head.ensures.agrees_on _ c.record_size.ensures.0 _ c.put_starts.ensures }
+returns c = record {
+  writes_only_tree = laws.first-only-tree _ _ _
+      c.requires _ c.first_level-first.ensures c.args.out.now _ c.place.ensures.0
+      c.if-out-place.false _ c.put_head.ensures.writes_only_tree c.put_head.ensures.agrees_on _ c.record_size.ensures.0
+      _ c.put_starts.ensures;
+  step_is = laws.first_step _ _ _ c.requires _ c.first_level-first.ensures
+      c.args.out.now _ c.place.ensures.0 c.if-out-place.false _ c.put_head.ensures.writes_only_tree
+      c.put_head.ensures.agrees_on _ c.record_size.ensures.0 _ c.put_starts.ensures;
+}

@@ -13,11 +13,11 @@ place-at-requires c = let f = record-few _ _ _ c.requires.level_written.level_is
 
 pub overflow_cast-at : goal.overflow_cast-at
 overflow_cast-at c = omega (
-      arith,
-      laws.table-small _ _ _ _ _ _ c.requires.level_written
-          c.put_pair.ensures,
-      c.place-at.ensures.0,
-    )
+  arith,
+  laws.table-small _ _ _ _ _ _ c.requires.level_written
+      c.put_pair.ensures,
+  c.place-at.ensures.0,
+)
 
 pub overflow_add-end : goal.overflow_add-end
 overflow_add-end c = omega (arith, laws.end-small _ _ _ _ _ _ c.requires.level_written c.put_pair.ensures c.requires.number_value _ c.place-at.ensures.0)
@@ -29,8 +29,11 @@ pub shape_of-out-then-out-end : goal.shape_of-out-then-out-end
 shape_of-out-then-out-end c = (laws.pair-only-tree _ _ _ _ _ _ c.requires.level_written c.put_pair.ensures).same_length
 
 pub returns-then-out-end : goal.returns-then-out-end
-returns-then-out-end c = record { writes_only_tree = laws.pair-only-tree _ _ _ _ _ _ c.requires.level_written c.put_pair.ensures; tree_complete = laws.not-fits
-          _ _ _ _ _ _ c.requires.level_written c.put_pair.ensures c.requires.number_value _ c.place-at.ensures.0 c.if-out-end.true }
+returns-then-out-end c = record {
+  writes_only_tree = laws.pair-only-tree _ _ _ _ _ _ c.requires.level_written c.put_pair.ensures;
+  tree_complete = laws.not-fits
+      _ _ _ _ _ _ c.requires.level_written c.put_pair.ensures c.requires.number_value _ c.place-at.ensures.0 c.if-out-end.true;
+}
 
 pub put_end-requires : goal.put_end-requires
 put_end-requires c = (laws.room-two _ _ _ _ _ _ c.requires.level_written c.put_pair.ensures, (bounds _ _ c.requires.level_written.level_is.taken).levels_high)
@@ -45,8 +48,11 @@ shape_of-out c = (laws.finish-only-tree _ _ _ _ _ _ c.requires.level_written c.p
     _ c.put_leaves.ensures.writes_only_tree c.put_leaves.ensures.agrees_on).same_length
 
 pub returns : goal.returns
-returns c = record { writes_only_tree = laws.finish-only-tree _ _ _ _ _ _ c.requires.level_written c.put_pair.ensures c.requires.number_value _ c.place-at.ensures.0
-          c.if-out-end.false _ c.put_end.ensures _ c.put_leaves.ensures.writes_only_tree
-          c.put_leaves.ensures.agrees_on; tree_complete = laws.finished _ _ _ _ _ _ c.requires.level_written c.put_pair.ensures
-          c.requires.number_value _ c.place-at.ensures.0 c.if-out-end.false _ c.put_end.ensures
-          _ c.put_leaves.ensures.writes_only_tree c.put_leaves.ensures.agrees_on }
+returns c = record {
+  writes_only_tree = laws.finish-only-tree _ _ _ _ _ _ c.requires.level_written c.put_pair.ensures c.requires.number_value _ c.place-at.ensures.0
+      c.if-out-end.false _ c.put_end.ensures _ c.put_leaves.ensures.writes_only_tree
+      c.put_leaves.ensures.agrees_on;
+  tree_complete = laws.finished _ _ _ _ _ _ c.requires.level_written c.put_pair.ensures
+      c.requires.number_value _ c.place-at.ensures.0 c.if-out-end.false _ c.put_end.ensures
+      _ c.put_leaves.ensures.writes_only_tree c.put_leaves.ensures.agrees_on;
+}

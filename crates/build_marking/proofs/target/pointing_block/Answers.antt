@@ -11,12 +11,12 @@ holder-target-requires c = record { sorted = laws.sorted _ _ _ _ _ c.requires.bl
 
 pub start-from-requires : goal.start-from-requires
 start-from-requires c = let f = record-few _ _ _ c.requires.block_next.level_is in (
-      f.counted_few,
-      f.table_few,
-      omega (arith, c.holder-target.ensures.within, f.count_few),
-      f.leaf_few,
-      laws.target_fits _ _ _ _ _ c.requires.block_next c.requires.i_value _ c.requires.place_value _ c.holder-target.ensures,
-    )
+  f.counted_few,
+  f.table_few,
+  omega (arith, c.holder-target.ensures.within, f.count_few),
+  f.leaf_few,
+  laws.target_fits _ _ _ _ _ c.requires.block_next c.requires.i_value _ c.requires.place_value _ c.holder-target.ensures,
+)
 
 pub parent-requires : goal.parent-requires
 parent-requires c = c.requires.block_next.level_is.above_low

@@ -8,9 +8,9 @@ use Rattle.build_records.proofs.below.put_children.Goals as goal
 
 pub loop-i-init : goal.loop-i-init
 loop-i-init c = (
-      omega arith,
-      (only-tree-refl (tree_of (record_settings_of c.args.level.settings c.args.counted.now) c.args.text.now) c.args.out.now, c.requires),
-    )
+  omega arith,
+  (only-tree-refl (tree_of (record_settings_of c.args.level.settings c.args.counted.now) c.args.text.now) c.args.out.now, c.requires),
+)
 
 pub put_children_of-requires : goal.put_children_of-requires
 put_children_of-requires c = (c.loop-i.invariant.1.1, c.loop-i-test.true)
@@ -23,13 +23,13 @@ loop-i-smaller c = omega (arith, c.loop-i-test.true)
 
 pub loop-i-preserved : goal.loop-i-preserved
 loop-i-preserved c = let S = record_settings_of c.args.level.settings c.args.counted.now in (
-      omega (arith, c.loop-i-test.true),
-      (
-        only-tree-trans (tree_of S c.args.text.now) _ _ _ c.loop-i.invariant.1.0 c.put_children_of.ensures.writes_only_tree,
-        below_more
-            S c.args.text.now _ _ c.args.level c.args.next _ c.loop-i.invariant.1.1 c.put_children_of.ensures.writes_only_tree c.put_children_of.ensures.started,
-      ),
-    )
+  omega (arith, c.loop-i-test.true),
+  (
+    only-tree-trans (tree_of S c.args.text.now) _ _ _ c.loop-i.invariant.1.0 c.put_children_of.ensures.writes_only_tree,
+    below_more
+        S c.args.text.now _ _ c.args.level c.args.next _ c.loop-i.invariant.1.1 c.put_children_of.ensures.writes_only_tree c.put_children_of.ensures.started,
+  ),
+)
 
 pub shape_of-out : goal.shape_of-out
 shape_of-out c = c.loop-i.invariant.1.0.same_length

@@ -12,8 +12,11 @@ pub read-requires : goal.read-requires
 read-requires c = omega (arith, laws.record-fits _ _ _ _ _ _ c.requires.0 c.requires.1 _ c.place-at.ensures.0)
 
 pub returns-then-read-ne0 : goal.returns-then-read-ne0
-returns-then-read-ne0 c = record { writes_only_tree = only-tree-refl _ _; started = laws.no-children
-          _ _ _ _ _ _ c.requires.0 c.requires.1 _ c.place-at.ensures.0 _ c.read.ensures c.if-read-ne0.true }
+returns-then-read-ne0 c = record {
+  writes_only_tree = only-tree-refl _ _;
+  started = laws.no-children
+      _ _ _ _ _ _ c.requires.0 c.requires.1 _ c.place-at.ensures.0 _ c.read.ensures c.if-read-ne0.true;
+}
 
 pub overflow_add-at-2 : goal.overflow_add-at-2
 overflow_add-at-2 c = omega (arith, c.place-at.ensures.1)
@@ -30,12 +33,12 @@ pieces-children-requires c = laws.pieces-asks _ _ _ _ _ _ c.requires.0 c.require
 
 pub place-requires : goal.place-requires
 place-requires c = let f = record-few _ _ _ c.requires.0.next_is in (
-      f.counted_few,
-      f.table_few,
-      laws.link-few _ _ _ _ _ _ c.requires.0 c.requires.1 _ c.place-at.ensures.0
-          _ c.read.ensures c.if-read-ne0.false _ c.read-2.ensures,
-      f.leaf_few,
-    )
+  f.counted_few,
+  f.table_few,
+  laws.link-few _ _ _ _ _ _ c.requires.0 c.requires.1 _ c.place-at.ensures.0
+      _ c.read.ensures c.if-read-ne0.false _ c.read-2.ensures,
+  f.leaf_few,
+)
 
 pub record_size-requires : goal.record_size-requires
 record_size-requires c = let f = record-few _ _ _ c.requires.0.level_is in (f.counted_few, f.leaf_few)

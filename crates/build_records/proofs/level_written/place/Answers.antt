@@ -12,6 +12,6 @@ overflow_add-result c = omega (arith, c.requires.1, records-end c.args.block.0 _
 
 pub returns : goal.returns
 returns c = (
-      ap (λ (x : ℕ). c.args.level.table + c.args.block.0 * x) c.record_size.ensures.0,
-      omega (arith, c.requires.1, records-end c.args.block.0 _ c.requires.2 c.record_size.ensures.2),
-    )
+  ap (λ (x : ℕ). c.args.level.table + c.args.block.0 * x) c.record_size.ensures.0,
+  omega (arith, c.requires.1, records-end c.args.block.0 _ c.requires.2 c.record_size.ensures.2),
+)

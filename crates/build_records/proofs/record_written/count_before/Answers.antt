@@ -21,10 +21,10 @@ read-requires-2 c = omega (arith, (c.requires c.if-block.false).1)
 
 pub overflow_add-result : goal.overflow_add-result
 overflow_add-result c = omega (
-      arith,
-      (c.requires c.if-block.false).2,
-      words-added c.args.out.now (c.args.at - c.args.size) _ _ c.read.ensures c.read-2.ensures,
-    )
+  arith,
+  (c.requires c.if-block.false).2,
+  words-added c.args.out.now (c.args.at - c.args.size) _ _ c.read.ensures c.read-2.ensures,
+)
 
 pub returns : goal.returns
 returns c = rw (ne_eqb c.args.block.start.0 c.args.block.parent.0 c.if-block.false)

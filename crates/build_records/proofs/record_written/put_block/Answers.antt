@@ -17,6 +17,7 @@ pieces-requires c = laws.pieces-ask _ _ _ _ _ _ c.requires c.if-level.false
 pub returns : goal.returns
 returns c = record {
   value = laws.children-below _ _ _ _ _ _
-          c.requires c.if-level.false c.if-block-ne0.false _ c.pieces.ensures;
-  writes_only_tree = c.put_record.ensures.writes_only_tree; agrees_on = c.put_record.ensures.agrees_on;
+      c.requires c.if-level.false c.if-block-ne0.false _ c.pieces.ensures;
+  writes_only_tree = c.put_record.ensures.writes_only_tree;
+  agrees_on = c.put_record.ensures.agrees_on;
 }

@@ -40,8 +40,11 @@ put_count-requires c = let S = record_settings_of c.args.level.settings c.args.c
     )
 
 pub returns : goal.returns
-returns c = let S = record_settings_of c.args.level.settings c.args.counted.now in record { writes_only_tree = laws.counted-only-tree S c.args.text.now
-          c.args.out.now c.args.level c.args.of.block.0 c.args.block c.requires.0 _ c.args.of.byte _ c.place.ensures.0 c.record_size-size.ensures.0
-          c.requires.1 _ _ c.count_before-b.ensures c.put_count.ensures; agrees_on = laws.counted-within S c.args.text.now
-          c.args.out.now c.args.level c.args.of.block.0 c.args.block c.requires.0 _ c.args.of.byte _ c.place.ensures.0 c.record_size-size.ensures.0
-          c.requires.1 _ _ c.count_before-b.ensures c.put_count.ensures }
+returns c = let S = record_settings_of c.args.level.settings c.args.counted.now in record {
+  writes_only_tree = laws.counted-only-tree S c.args.text.now
+      c.args.out.now c.args.level c.args.of.block.0 c.args.block c.requires.0 _ c.args.of.byte _ c.place.ensures.0 c.record_size-size.ensures.0
+      c.requires.1 _ _ c.count_before-b.ensures c.put_count.ensures;
+  agrees_on = laws.counted-within S c.args.text.now
+      c.args.out.now c.args.level c.args.of.block.0 c.args.block c.requires.0 _ c.args.of.byte _ c.place.ensures.0 c.record_size-size.ensures.0
+      c.requires.1 _ _ c.count_before-b.ensures c.put_count.ensures;
+}

@@ -18,11 +18,11 @@ overflow_add-at-2 c = let f = record-few (record_settings_of c.args.level.settin
 
 pub overflow_add-last : goal.overflow_add-last
 overflow_add-last c = omega (
-      arith,
-      inside-text
-          _ _ _ _ _ _ c.requires,
-      (record-few (record_settings_of c.args.level.settings c.args.counted.now) c.args.text.now c.args.level c.requires.level_is).text_few,
-    )
+  arith,
+  inside-text
+      _ _ _ _ _ _ c.requires,
+  (record-few (record_settings_of c.args.level.settings c.args.counted.now) c.args.text.now c.args.level c.requires.level_is).text_few,
+)
 
 pub put_edge-requires : goal.put_edge-requires
 put_edge-requires c = let S = record_settings_of c.args.level.settings c.args.counted.now in laws.first-asks
@@ -37,10 +37,13 @@ put_edge-requires-2 c = let S = record_settings_of c.args.level.settings c.args.
     c.args.i.0 c.args.block c.requires _ c.place.ensures.0 _ c.min-short.ensures _ c.put_edge.ensures
 
 pub returns : goal.returns
-returns c = let S = record_settings_of c.args.level.settings c.args.counted.now in record { writes_only_tree = laws.edges-only-tree S c.args.text.now c.args.out.now c.args.level
-          c.args.i.0 c.args.block c.requires _ c.place.ensures.0
-          _ c.min-short.ensures
-          _ c.put_edge.ensures _ c.put_edge-2.ensures; agrees_on = laws.edges-within S c.args.text.now c.args.out.now c.args.level
-          c.args.i.0 c.args.block c.requires _ c.place.ensures.0
-          _ c.min-short.ensures
-          _ c.put_edge.ensures _ c.put_edge-2.ensures }
+returns c = let S = record_settings_of c.args.level.settings c.args.counted.now in record {
+  writes_only_tree = laws.edges-only-tree S c.args.text.now c.args.out.now c.args.level
+      c.args.i.0 c.args.block c.requires _ c.place.ensures.0
+      _ c.min-short.ensures
+      _ c.put_edge.ensures _ c.put_edge-2.ensures;
+  agrees_on = laws.edges-within S c.args.text.now c.args.out.now c.args.level
+      c.args.i.0 c.args.block c.requires _ c.place.ensures.0
+      _ c.min-short.ensures
+      _ c.put_edge.ensures _ c.put_edge-2.ensures;
+}

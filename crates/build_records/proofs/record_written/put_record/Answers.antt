@@ -32,10 +32,13 @@ put_edges-requires c = let S = record_settings_of c.args.level.settings c.args.c
 
 pub returns : goal.returns
 returns c = let S = record_settings_of c.args.level.settings c.args.counted.now in let f = laws.fields-only-tree
-    S c.args.text.now c.args.out.now c.args.level c.args.i.0 c.args.block c.requires _ _ c.place-at.ensures.0 c.put_three.ensures in record { writes_only_tree = only-tree-trans (tree_of S c.args.text.now) _ _ _ f (only-tree-trans (tree_of S c.args.text.now)
-          _ _ _ c.put_counts.ensures.writes_only_tree c.put_edges.ensures.writes_only_tree); agrees_on = laws.record-done S c.args.text.now c.args.out.now c.args.level c.args.i.0
+    S c.args.text.now c.args.out.now c.args.level c.args.i.0 c.args.block c.requires _ _ c.place-at.ensures.0 c.put_three.ensures in record {
+      writes_only_tree = only-tree-trans (tree_of S c.args.text.now) _ _ _ f (only-tree-trans (tree_of S c.args.text.now)
+          _ _ _ c.put_counts.ensures.writes_only_tree c.put_edges.ensures.writes_only_tree);
+      agrees_on = laws.record-done S c.args.text.now c.args.out.now c.args.level c.args.i.0
           c.args.block c.requires _ _ c.place-at.ensures.0
           c.put_three.ensures
           _ _ c.put_counts.ensures.writes_only_tree
           c.put_counts.ensures.agrees_on
-          c.put_edges.ensures.writes_only_tree c.put_edges.ensures.agrees_on }
+          c.put_edges.ensures.writes_only_tree c.put_edges.ensures.agrees_on;
+    }

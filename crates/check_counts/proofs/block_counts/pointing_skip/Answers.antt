@@ -14,10 +14,10 @@ link-link-requires c = facts.plain-there _ _ _ _ _ c.requires.1 2 (omega arith)
 
 pub up_to-requires : goal.up_to-requires
 up_to-requires c = (
-      c.requires.0,
-      laws.points-above _ _ _ _ _ c.requires.1 c.requires.2 c.requires.3,
-      laws.gap-there _ _ _ _ _ c.requires.1 c.requires.2 c.requires.3 _ c.gap-gap.ensures c.if-gap-eq0.false _ c.link-link.ensures,
-    )
+  c.requires.0,
+  laws.points-above _ _ _ _ _ c.requires.1 c.requires.2 c.requires.3,
+  laws.gap-there _ _ _ _ _ c.requires.1 c.requires.2 c.requires.3 _ c.gap-gap.ensures c.if-gap-eq0.false _ c.link-link.ensures,
+)
 
 pub returns : goal.returns
 returns c = laws.gap_is _ _ _ _ _ c.requires.1 c.requires.2 c.requires.3 _ c.gap-gap.ensures c.if-gap-eq0.false _ c.link-link.ensures _ c.up_to.ensures

@@ -17,17 +17,17 @@ loop-i-init c = (omega arith, λ x l. absurd (let z : ⊥ = omega arith in z))
 
 pub block_right-requires : goal.block_right-requires
 block_right-requires c = (
-      c.requires.0,
-      c.requires.1,
-      laws.child-length-is _ _ c.requires.2 _ _ c.requires.0,
-      record {
-        tree = facts.sound _ _ c.requires.2;
-        level_in = c.requires.3;
-        block_in = omega (arith, c.level_count-n.ensures);
-        number_in = c.requires.4;
-      },
-      c.requires.5,
-    )
+  c.requires.0,
+  c.requires.1,
+  laws.child-length-is _ _ c.requires.2 _ _ c.requires.0,
+  record {
+    tree = facts.sound _ _ c.requires.2;
+    level_in = c.requires.3;
+    block_in = omega (arith, c.level_count-n.ensures);
+    number_in = c.requires.4;
+  },
+  c.requires.5,
+)
 
 pub returns-then-not-block_right : goal.returns-then-not-block_right
 returns-then-not-block_right c = laws.blocks-fail _ _ _ _

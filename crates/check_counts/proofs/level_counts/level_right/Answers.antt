@@ -13,13 +13,13 @@ loop-c-init c = (omega arith, λ x l. absurd (let z : ⊥ = omega arith in z))
 
 pub byte_right-requires : goal.byte_right-requires
 byte_right-requires c = (
-      c.requires.0,
-      c.up_length-up.ensures,
-      c.requires.1,
-      c.requires.2,
-      laws.counted-low _ _ c.requires.1 _ (omega arith),
-      c.requires.3,
-    )
+  c.requires.0,
+  c.up_length-up.ensures,
+  c.requires.1,
+  c.requires.2,
+  laws.counted-low _ _ c.requires.1 _ (omega arith),
+  c.requires.3,
+)
 
 pub returns-then-not-byte_right : goal.returns-then-not-byte_right
 returns-then-not-byte_right c = laws.bytes-fail _ _ c.requires.1

@@ -31,8 +31,7 @@ overflow_add-down-2 t c = omega (arith, c.requires.2.block.table.level_in, c.req
 
 pub in_last-requires : goal.in_last-requires
 in_last-requires t c =
-    let x : Shapes c.args.t.now.now c.shape_of-shape.result = shapes _ _ c.shape_of-shape.ensures in
-    (
+    let x : Shapes c.args.t.now.now c.shape_of-shape.result = shapes _ _ c.shape_of-shape.ensures in (
       c.if-down-shape.true ∙ x.levels_is,
       laws.child-there _ _ _ _ _ _ _ c.requires.0 c.requires.2 c.requires.1 _ c.child_of-child.ensures,
     )
@@ -53,8 +52,7 @@ pub up_to-rest-requires : goal.up_to-rest-requires
 up_to-rest-requires t c =
     let x : Shapes c.args.t.now.now c.shape_of-shape.result = shapes _ _ c.shape_of-shape.ensures in
     let below : c.quotient-below.result ≡ at.full_length c.args.t.now.now (c.args.on.level + 1) = c.quotient-below.ensures ∙ laws.below_is _ _ _ _ _ _ _ c.requires.0 c.requires.2 c.requires.1 _ x.arity_is in
-    let up : c.args.on.level + 1 + 1 < levels c.args.t.now.now = facts.not_last _ _ c.requires.2.block.table.tree _ c.requires.1 (λ last. c.if-down-shape.false (last ∙ sym x.levels_is)) in
-    (
+    let up : c.args.on.level + 1 + 1 < levels c.args.t.now.now = facts.not_last _ _ c.requires.2.block.table.tree _ c.requires.1 (λ last. c.if-down-shape.false (last ∙ sym x.levels_is)) in (
       omega (arith, c.decreases, c.requires.1),
       (
         below,
@@ -65,11 +63,11 @@ up_to-rest-requires t c =
 
 pub overflow_add-result : goal.overflow_add-result
 overflow_add-result t c = omega (
-      arith,
-      c.step-holder.ensures.1,
-      laws.rest-small _ _ _ _ _ _ _ c.requires.0 c.requires.2 c.requires.1 _ c.child_of-child.ensures _ (c.step-holder.ensures.0)
-          _ (c.up_to-rest.ensures),
-    )
+  arith,
+  c.step-holder.ensures.1,
+  laws.rest-small _ _ _ _ _ _ _ c.requires.0 c.requires.2 c.requires.1 _ c.child_of-child.ensures _ (c.step-holder.ensures.0)
+      _ (c.up_to-rest.ensures),
+)
 
 pub overflow_sub-result : goal.overflow_sub-result
 overflow_sub-result t c = laws.minus-low _ _ _ _ _ _ _ c.requires.0 c.requires.2 c.requires.1 _ c.child_of-child.ensures _ (c.step-holder.ensures.0)

@@ -15,14 +15,14 @@ bounds-t-c c = omega (arith, c.requires.0.tree.facts.long, c.requires.0.tree.fac
 
 pub leaf_count-requires : goal.leaf_count-requires
 leaf_count-requires c = (
-      laws.leaves-fit _ _ _ _ _ _ _ c.requires.0 c.requires.1 c.requires.2
-          c.link-link.ensures _ (shapes _ _ c.shape_of-shape.ensures).offset_is,
-      laws.leaves-few _ _ _ _ _ _ _ c.requires.0 c.requires.1 c.requires.2 c.link-link.ensures,
-    )
+  laws.leaves-fit _ _ _ _ _ _ _ c.requires.0 c.requires.1 c.requires.2
+      c.link-link.ensures _ (shapes _ _ c.shape_of-shape.ensures).offset_is,
+  laws.leaves-few _ _ _ _ _ _ _ c.requires.0 c.requires.1 c.requires.2 c.link-link.ensures,
+)
 
 pub returns : goal.returns
 returns c = (
-      laws.leaves_are _ _ _ _ _ _ _ c.requires.0 c.requires.1 c.requires.2 c.link-link.ensures
-          _ (shapes _ _ c.shape_of-shape.ensures).offset_is _ c.leaf_count.ensures.0,
-      c.leaf_count.ensures.1,
-    )
+  laws.leaves_are _ _ _ _ _ _ _ c.requires.0 c.requires.1 c.requires.2 c.link-link.ensures
+      _ (shapes _ _ c.shape_of-shape.ensures).offset_is _ c.leaf_count.ensures.0,
+  c.leaf_count.ensures.1,
+)

@@ -8,6 +8,6 @@ before-before-requires c = facts.before-there _ _ _ _ _ c.requires.1.table
 
 pub returns : goal.returns
 returns c = (
-      laws.step_is _ _ _ _ _ _ c.before-before.ensures _ c.prefix_target-holder.ensures.0,
-      omega (arith, c.before-before.type_inv, c.prefix_target-holder.ensures.1),
-    )
+  laws.step_is _ _ _ _ _ _ c.before-before.ensures _ c.prefix_target-holder.ensures.0,
+  omega (arith, c.before-before.type_inv, c.prefix_target-holder.ensures.1),
+)

@@ -24,10 +24,10 @@ overflow_sub-last_child c = laws.arity-some _ _ _ _ _ c.requires.0 c.requires.1
 
 pub overflow_add-last_child : goal.overflow_add-last_child
 overflow_add-last_child c = omega (
-      arith,
-      laws.last_fits _ _ _ _ _ c.requires.0 c.requires.1
-          (λ k. (c.shared_slice_known-1.given k).fits) _ c.link-link.ensures,
-    )
+  arith,
+  laws.last_fits _ _ _ _ _ c.requires.0 c.requires.1
+      (λ k. (c.shared_slice_known-1.given k).fits) _ c.link-link.ensures,
+)
 
 pub edges-last-requires : goal.edges-last-requires
 edges-last-requires c = laws.under-asked _ _ _ _ _ c.requires.0 c.requires.1

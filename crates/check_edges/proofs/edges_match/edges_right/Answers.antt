@@ -24,9 +24,9 @@ loop-l-smaller c = omega (arith, c.loop-l-test.true)
 
 pub loop-l-preserved : goal.loop-l-preserved
 loop-l-preserved c = (
-      omega (arith, c.loop-l-test.true),
-      below_more _ _ c.loop-l.invariant.1 (held c.level_right.ensures c.if-not-level_right.false-raw),
-    )
+  omega (arith, c.loop-l-test.true),
+  below_more _ _ c.loop-l.invariant.1 (held c.level_right.ensures c.if-not-level_right.false-raw),
+)
 
 pub returns : goal.returns
 returns c = laws.all_hold _ _ c.requires c.if-h-ne-EDGED.false _ c.loop-l.invariant.1 c.loop-l-test.false

@@ -10,10 +10,10 @@ edges-at-requires c = laws.edges-asked _ _ _ _ _ c.requires
 
 pub gather-first-requires : goal.gather-first-requires
 gather-first-requires c = (
-      laws.walk-asks _ _ _ _ _ c.requires _ _ _ c.block_length-length.ensures.0 c.min-own.ensures c.edges-at.ensures.0
-          0 (laws.front-in _ _ _ _ _ c.requires _ _ _ c.block_length-length.ensures.0 c.min-own.ensures c.edges-at.ensures.0),
-      c.requires.two,
-    )
+  laws.walk-asks _ _ _ _ _ c.requires _ _ _ c.block_length-length.ensures.0 c.min-own.ensures c.edges-at.ensures.0
+      0 (laws.front-in _ _ _ _ _ c.requires _ _ _ c.block_length-length.ensures.0 c.min-own.ensures c.edges-at.ensures.0),
+  c.requires.two,
+)
 
 pub edge_right-requires : goal.edge_right-requires
 edge_right-requires c = laws.first-asks _ _ _ _ _ c.requires
@@ -28,10 +28,10 @@ returns-then-not-edge_right c = laws.first-fails-block
 
 pub gather-last-requires : goal.gather-last-requires
 gather-last-requires c = (
-      laws.walk-asks _ _ _ _ _ c.requires _ _ _ c.block_length-length.ensures.0 c.min-own.ensures c.edges-at.ensures.0
-          _ (laws.back_in _ _ _ _ _ c.requires _ _ _ c.block_length-length.ensures.0 c.min-own.ensures c.edges-at.ensures.0),
-      c.requires.two,
-    )
+  laws.walk-asks _ _ _ _ _ c.requires _ _ _ c.block_length-length.ensures.0 c.min-own.ensures c.edges-at.ensures.0
+      _ (laws.back_in _ _ _ _ _ c.requires _ _ _ c.block_length-length.ensures.0 c.min-own.ensures c.edges-at.ensures.0),
+  c.requires.two,
+)
 
 pub edge_right-requires-2 : goal.edge_right-requires-2
 edge_right-requires-2 c = laws.last-asks _ _ _ _ _ c.requires

@@ -13,10 +13,10 @@ returns-then-not-medium_equal c = laws.part-differs _ _ _ _ _ _ _ _ refl refl c.
 
 pub loop-i-preserved : goal.loop-i-preserved
 loop-i-preserved c = (
-      omega arith,
-      sym (laws.rest-decides _ _ _ _ _ _ _ _ refl refl (omega (arith, c.requires.0)) (omega (arith, c.requires.1)) _ (omega arith) refl c.loop-i.invariant.1)
-          ∙ held c.medium_equal-in-loop-i.ensures c.if-not-medium_equal.false-raw,
-    )
+  omega arith,
+  sym (laws.rest-decides _ _ _ _ _ _ _ _ refl refl (omega (arith, c.requires.0)) (omega (arith, c.requires.1)) _ (omega arith) refl c.loop-i.invariant.1)
+      ∙ held c.medium_equal-in-loop-i.ensures c.if-not-medium_equal.false-raw,
+)
 
 pub returns : goal.returns
 returns c = c.medium_equal-2.ensures

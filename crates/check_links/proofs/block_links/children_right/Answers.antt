@@ -16,17 +16,17 @@ start-child-requires c = laws.child-there _ _ c.requires.0 c.requires.1 _ (omega
 
 pub overflow_mul-j : goal.overflow_mul-j
 overflow_mul-j c = omega (
-      arith,
-      mul-le-mul {n₁ = c.loop-j.j} {n₂ = 4294967295}
-          {m₂ = max_text} (omega arith) (laws.part-high _ _ c.requires.0),
-    )
+  arith,
+  mul-le-mul {n₁ = c.loop-j.j} {n₂ = 4294967295}
+      {m₂ = max_text} (omega arith) (laws.part-high _ _ c.requires.0),
+)
 
 pub overflow_add-start : goal.overflow_add-start
 overflow_add-start c = omega (
-      arith,
-      mul-le-mul {n₁ = c.loop-j.j} {n₂ = 4294967295}
-          {m₂ = max_text} (omega arith) (laws.part-high _ _ c.requires.0),
-    )
+  arith,
+  mul-le-mul {n₁ = c.loop-j.j} {n₂ = 4294967295}
+      {m₂ = max_text} (omega arith) (laws.part-high _ _ c.requires.0),
+)
 
 pub returns-then-child-start : goal.returns-then-child-start
 returns-then-child-start c = scan-fails (child_as_cut c.args.t.now c.args.v.number c.args.first.0 c.args.start.0) c.args.width c.loop-j.j
@@ -34,14 +34,14 @@ returns-then-child-start c = scan-fails (child_as_cut c.args.t.now c.args.v.numb
 
 pub loop-j-preserved : goal.loop-j-preserved
 loop-j-preserved c = (
-      omega arith,
-      scan-more (child_as_cut
-          c.args.t.now c.args.v.number c.args.first.0 c.args.start.0) c.loop-j.j
-          c.loop-j.invariant.1
-          (laws.child-on _ _ c.requires.0
-          _ _ _ _ c.requires.1
-          c.start-child.ensures c.if-child-start.false),
-    )
+  omega arith,
+  scan-more (child_as_cut
+      c.args.t.now c.args.v.number c.args.first.0 c.args.start.0) c.loop-j.j
+      c.loop-j.invariant.1
+      (laws.child-on _ _ c.requires.0
+      _ _ _ _ c.requires.1
+      c.start-child.ensures c.if-child-start.false),
+)
 
 pub returns : goal.returns
 returns c = scan-done (child_as_cut c.args.t.now c.args.v.number c.args.first.0 c.args.start.0)

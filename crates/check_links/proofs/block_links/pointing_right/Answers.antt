@@ -33,11 +33,11 @@ returns-then-not-target_right c = laws.pointing-target _ _ c.requires.0
 
 pub overflow_add-gap : goal.overflow_add-gap
 overflow_add-gap c = omega (
-      arith,
-      c.length_from-length.ensures.1,
-      laws.full_high _ _ c.requires.0,
-      c.if-v-gap.false,
-    )
+  arith,
+  c.length_from-length.ensures.1,
+  laws.full_high _ _ c.requires.0,
+  c.if-v-gap.false,
+)
 
 pub returns-then-gap-length : goal.returns-then-gap-length
 returns-then-gap-length c = laws.pointing-within _ _ c.requires.0 _ _ c.kind-kind.ensures
@@ -48,10 +48,10 @@ returns-then-gap-length c = laws.pointing-within _ _ c.requires.0 _ _ c.kind-kin
 
 pub next_right-requires : goal.next_right-requires
 next_right-requires c = (
-      c.requires.0,
-      laws.target_in
-          _ _ c.requires.0 _ _ _ _ (held c.target_right.ensures c.if-not-target_right.false-raw),
-    )
+  c.requires.0,
+  laws.target_in
+      _ _ c.requires.0 _ _ _ _ (held c.target_right.ensures c.if-not-target_right.false-raw),
+)
 
 pub returns : goal.returns
 returns c = laws.pointing-next _ _ c.requires.0 _ _ c.kind-kind.ensures

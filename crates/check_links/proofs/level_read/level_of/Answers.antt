@@ -13,17 +13,17 @@ pieces-requires c = let part = laws.part-fits _ c.requires.0.facts _ _ c.part_le
 
 pub returns : goal.returns
 returns c = (
-      record {
-        header_read = c.requires.0.facts;
-        level_in = omega (arith, c.requires.1, laws.levels_is _ _ c.requires.0);
-        size_is = laws.size_is _ _ c.requires.0;
-        length_is = laws.length_is _ _ c.requires.0;
-        last_is = laws.last_is _ _ c.requires.0;
-        count_is = c.level_count.ensures;
-        full_is = c.requires.2;
-        part_is = c.part_length-part.ensures;
-        most_is = c.pieces.ensures;
-        room_is = c.room_below.ensures;
-      },
-      refl,
-    )
+  record {
+    header_read = c.requires.0.facts;
+    level_in = omega (arith, c.requires.1, laws.levels_is _ _ c.requires.0);
+    size_is = laws.size_is _ _ c.requires.0;
+    length_is = laws.length_is _ _ c.requires.0;
+    last_is = laws.last_is _ _ c.requires.0;
+    count_is = c.level_count.ensures;
+    full_is = c.requires.2;
+    part_is = c.part_length-part.ensures;
+    most_is = c.pieces.ensures;
+    room_is = c.room_below.ensures;
+  },
+  refl,
+)

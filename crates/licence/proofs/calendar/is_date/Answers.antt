@@ -23,12 +23,12 @@ returns-then-d-gt12 c = simp (le-leb 2000 _ c.if-d-lt2000.false, le-leb _ 2099 c
 pub returns-then-d-lt1-2 : goal.returns-then-d-lt1-2
 unfolding is_date
 returns-then-d-lt1-2 c = simp (
-      le-leb 2000 _ c.if-d-lt2000.false,
-      le-leb _ 2099 c.if-d-gt2099.false,
-      le-leb 1 _ c.if-d-lt1.false,
-      le-leb _ 12 c.if-d-gt12.false,
-      lt-leb 1 _ c.if-d-lt1-2.true,
-    )
+  le-leb 2000 _ c.if-d-lt2000.false,
+  le-leb _ 2099 c.if-d-gt2099.false,
+  le-leb 1 _ c.if-d-lt1.false,
+  le-leb _ 12 c.if-d-gt12.false,
+  lt-leb 1 _ c.if-d-lt1-2.true,
+)
 
 pub month_length-requires : goal.month_length-requires
 unfolding is_date

@@ -8,6 +8,6 @@ overflow_add-result-4 c = omega (arith, month-short c.args.d.year c.args.d.month
 
 pub returns : goal.returns
 returns c = (
-      number_is c.args.d c.requires _ c.before_month.ensures.0,
-      omega (arith, month-short c.args.d.year c.args.d.month c.requires.month_low c.requires.month_high),
-    )
+  number_is c.args.d c.requires _ c.before_month.ensures.0,
+  omega (arith, month-short c.args.d.year c.args.d.month c.requires.month_low c.requires.month_high),
+)

@@ -23,6 +23,6 @@ overflow_add-result c = omega (arith, c.digit.ensures, c.digit-2.ensures, digit-
 pub returns : goal.returns
 unfolding pair_at
 returns c = (
-      omega (arith, c.digit.ensures, c.digit-2.ensures),
-      omega (arith, c.digit.ensures, c.digit-2.ensures, digit-high _ c.requires.1, digit-high _ c.requires.2),
-    )
+  omega (arith, c.digit.ensures, c.digit-2.ensures),
+  omega (arith, c.digit.ensures, c.digit-2.ensures, digit-high _ c.requires.1, digit-high _ c.requires.2),
+)

@@ -84,8 +84,7 @@ loop-done-smaller t c =
 pub loop-done-preserved : goal.loop-done-preserved
 loop-done-preserved t c =
     let next : NextAt c.args.t.now.now c.args.rules.pointers c.args.on.level c.args.from.block.0
-    (c.args.from.place.0 + c.loop-done.done) (c.args.part.size - c.loop-done.done) c.in-At.next c.in-At.n = segments.next-at _ _ _ _ _ _ _ c.next_segment-found.ensures _ _ c.in-At.is in
-    (
+    (c.args.from.place.0 + c.loop-done.done) (c.args.part.size - c.loop-done.done) c.in-At.next c.in-At.n = segments.next-at _ _ _ _ _ _ _ c.next_segment-found.ensures _ _ c.in-At.is in (
       omega (arith, next.at_most, c.loop-done-test.true),
       c.copy_segment-refused.auto.buffer ∙ c.loop-done.invariant.1,
       segments.go-more _ _ _ _ _ _ _ _ _ c.loop-done.invariant.2 _ _ _ next _ _ c.copy_segment-refused.ensures c.if-refused-ne0.false,

@@ -83,8 +83,7 @@ loop-i-preserved c =
     _ c.copy_range-first.ensures.buffer_after in
     c.loop-i.invariant.2 _ c.requires.2 first.1 in
     let more : (1 ≤ c.in-Bytes-copied.n) × (c.loop-i.i + c.in-Bytes-copied.n ≤ c.args.len) = let z = laws.copy-on _ _ _ _ c.requires.0 c.requires.1 _ c.requires.2 _ _ copied _ _ c.copy_run-copied.ensures _ _ c.in-Bytes-copied.is in
-    (z.0, z.1) in
-    (
+    (z.0, z.1) in (
       more.1,
       c.copy_run-copied.auto.buffer ∙ c.loop-i.invariant.1,
       λ d r k. (laws.copy-on _ _ _ _ c.requires.0 c.requires.1 d r _ _ (c.loop-i.invariant.2 d r k) _ _ c.copy_run-copied.ensures _ _ c.in-Bytes-copied.is).2,

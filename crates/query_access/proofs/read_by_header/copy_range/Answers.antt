@@ -31,11 +31,11 @@ loop-k-smaller c = omega arith
 
 pub loop-k-preserved : goal.loop-k-preserved
 loop-k-preserved c = (
-      omega arith,
-      simp length-set c.loop-k.invariant.1,
-      laws.byte-written c.args.buffer.now c.loop-k.buffer c.args.t.now c.args.to _ c.loop-k.k c.loop-k.invariant.2
-          _ _ _ _ c.byte_on-answer.ensures c.in-Byte.is,
-    )
+  omega arith,
+  simp length-set c.loop-k.invariant.1,
+  laws.byte-written c.args.buffer.now c.loop-k.buffer c.args.t.now c.args.to _ c.loop-k.k c.loop-k.invariant.2
+      _ _ _ _ c.byte_on-answer.ensures c.in-Byte.is,
+)
 
 pub shape_of-buffer : goal.shape_of-buffer
 shape_of-buffer c = c.loop-k.invariant.1

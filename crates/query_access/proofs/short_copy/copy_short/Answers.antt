@@ -13,10 +13,10 @@ loop-j-init c = (omega arith, refl, refl)
 
 pub loop-j-preserved : goal.loop-j-preserved
 loop-j-preserved c = (
-      omega arith,
-      omega (arith, c.copy_pair.auto.out),
-      next-copied c.args.out.now c.loop-j.out _ c.args.text.now c.args.to c.args.from c.loop-j.j 8 c.loop-j.invariant.2 c.copy_pair.ensures,
-    )
+  omega arith,
+  omega (arith, c.copy_pair.auto.out),
+  next-copied c.args.out.now c.loop-j.out _ c.args.text.now c.args.to c.args.from c.loop-j.j 8 c.loop-j.invariant.2 c.copy_pair.ensures,
+)
 
 pub returns : goal.returns
 returns c = last-copied c.args.out.now c.loop-j.out _ c.args.text.now c.args.to c.args.from c.loop-j.j 8 c.args.n c.requires.0 c.loop-j.invariant.0 (omega arith) (omega arith)

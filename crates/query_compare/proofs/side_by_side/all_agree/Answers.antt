@@ -29,14 +29,13 @@ loop-i-smaller c = omega arith
 
 -- One byte more.
 pub loop-i-preserved : goal.loop-i-preserved
-loop-i-preserved c =
-    (
-      omega arith,
-      λ e. elim c.if-one-from.branch [
-        then-one-from w ↦ bool_clash _ e w.same-is
-      | else-one-from w ↦ laws.agree-more c.args.one.now c.args.from c.args.other.now c.args.at _ (c.loop-i.invariant.1 (sym w.same-is ∙ e)) w.if-one-from.false
-      ],
-    )
+loop-i-preserved c = (
+  omega arith,
+  λ e. elim c.if-one-from.branch [
+    | then-one-from w ↦ bool_clash _ e w.same-is
+    | else-one-from w ↦ laws.agree-more c.args.one.now c.args.from c.args.other.now c.args.at _ (c.loop-i.invariant.1 (sym w.same-is ∙ e)) w.if-one-from.false
+  ],
+)
 
 pub returns : goal.returns
 returns c = let n : c.loop-i.i ≡ c.args.n = omega (arith, c.loop-i.invariant.0) in

@@ -18,10 +18,10 @@ overflow_add-place c = omega (arith, c.entries_before.ensures.1)
 
 pub returns-then-guide-place : goal.returns-then-guide-place
 returns-then-guide-place c = (
-      laws.entry-missing _ _ _ _ _
-          c.requires.1 c.requires.3 c.requires.4 _ (ap (λ (k : ℕ). k + last_entry c.args.j) c.entries_before.ensures.0) c.if-guide-place.true,
-      omega arith,
-    )
+  laws.entry-missing _ _ _ _ _
+      c.requires.1 c.requires.3 c.requires.4 _ (ap (λ (k : ℕ). k + last_entry c.args.j) c.entries_before.ensures.0) c.if-guide-place.true,
+  omega arith,
+)
 
 pub overflow_mul-place : goal.overflow_mul-place
 overflow_mul-place c = omega (arith, c.if-guide-place.false)
@@ -31,32 +31,32 @@ read-entry-requires c = omega (arith, c.if-guide-place.false)
 
 pub returns-then-level_count-entry : goal.returns-then-level_count-entry
 returns-then-level_count-entry c = (
-      laws.entry-astray _ _ _ _ _
-          c.requires.1 c.requires.3 c.requires.4 _ (ap (λ (k : ℕ). k + last_entry c.args.j) c.entries_before.ensures.0)
-          (omega (arith, c.level_count.ensures, c.read-entry.ensures, c.if-level_count-entry.true)),
-      omega arith,
-    )
+  laws.entry-astray _ _ _ _ _
+      c.requires.1 c.requires.3 c.requires.4 _ (ap (λ (k : ℕ). k + last_entry c.args.j) c.entries_before.ensures.0)
+      (omega (arith, c.level_count.ensures, c.read-entry.ensures, c.if-level_count-entry.true)),
+  omega arith,
+)
 
 pub block_from-along-requires : goal.block_from-along-requires
 block_from-along-requires c = (c.requires.0, c.requires.1, omega (arith, c.level_count.ensures, c.if-level_count-entry.false))
 
 pub word_in-word-requires : goal.word_in-word-requires
 word_in-word-requires c = (
-      on-top _ _ c.requires.0,
-      c.requires.1,
-      c.requires.3,
-      c.requires.4,
-      laws.stops c.args.t.now.now c.args.guide.now c.args.wanted.byte
-          _ _ c.requires.1 c.requires.3 c.requires.4 _ (ap (λ (k : ℕ). k + last_entry c.args.j)
-          c.entries_before.ensures.0)
-          _ _ _ c.read-entry.ensures c.block_from-along.ensures.0 c.block_from-along.ensures.1,
-    )
+  on-top _ _ c.requires.0,
+  c.requires.1,
+  c.requires.3,
+  c.requires.4,
+  laws.stops c.args.t.now.now c.args.guide.now c.args.wanted.byte
+      _ _ c.requires.1 c.requires.3 c.requires.4 _ (ap (λ (k : ℕ). k + last_entry c.args.j)
+      c.entries_before.ensures.0)
+      _ _ _ c.read-entry.ensures c.block_from-along.ensures.0 c.block_from-along.ensures.1,
+)
 
 pub returns : goal.returns
 returns c = let z = sought-by _ _ _ _ _ _ _ _ c.requires.0.length_is c.requires.2 c.text_place.ensures.0 c.word_in-word.ensures in (
-      rw c.with_steps.ensures (laws.sought-by c.args.t.now.now c.args.guide.now c.args.wanted.byte _ _ c.requires.1
-          c.requires.3 c.requires.4 _ (ap (λ (k : ℕ). k + last_entry c.args.j) c.entries_before.ensures.0)
-          _ _ _ c.read-entry.ensures
-          c.block_from-along.ensures.0 c.block_from-along.ensures.1 c.text_place.result c.text_place.ensures.1 z),
-      rw c.with_steps.ensures (laws.numbered-same c.text_place.result c.block_from-along.result.steps c.text_place.ensures.1),
-    )
+  rw c.with_steps.ensures (laws.sought-by c.args.t.now.now c.args.guide.now c.args.wanted.byte _ _ c.requires.1
+      c.requires.3 c.requires.4 _ (ap (λ (k : ℕ). k + last_entry c.args.j) c.entries_before.ensures.0)
+      _ _ _ c.read-entry.ensures
+      c.block_from-along.ensures.0 c.block_from-along.ensures.1 c.text_place.result c.text_place.ensures.1 z),
+  rw c.with_steps.ensures (laws.numbered-same c.text_place.result c.block_from-along.result.steps c.text_place.ensures.1),
+)

@@ -29,12 +29,12 @@ overflow_add-mark c = omega (arith, (c.begin-start.ensures.begins_at _ _ c.in-At
 pub from-requires : goal.from-requires
 unfolding settled_by
 from-requires c = let at = c.begin-start.ensures.begins_at _ _ c.in-At.is in (
-      c.requires,
-      sym c.are_ranges.ensures ∙ not-false _ c.if-not-are_ranges.false-raw,
-      omega (arith, at.place-in, c.requires.length_is),
-      omega arith,
-      omega (arith, at.mark_low, c.requires.length_is),
-    )
+  c.requires,
+  sym c.are_ranges.ensures ∙ not-false _ c.if-not-are_ranges.false-raw,
+  omega (arith, at.place-in, c.requires.length_is),
+  omega arith,
+  omega (arith, at.mark_low, c.requires.length_is),
+)
 
 pub limit-requires : goal.limit-requires
 unfolding settled_by

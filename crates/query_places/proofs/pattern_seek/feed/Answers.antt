@@ -48,15 +48,14 @@ loop-i-smaller c =
     omega (arith, c.read_matching-at.ensures.least, c.loop-i.invariant.1)
 
 pub loop-i-preserved : goal.loop-i-preserved
-loop-i-preserved c =
-    (
-      omega (arith, c.if-size-i.false),
-      omega (arith, c.step-at.ensures.place_is, c.read_matching-at.ensures.least, c.loop-i.invariant.1),
-      c.step-at.auto.table ∙ c.loop-i.invariant.2,
-      c.step-at.ensures.even,
-      λ before z. laws.seeking-byte _ _ _ _ _ _ (c.read_matching-at.ensures.on _ before _ (c.loop-i.invariant.4 before z)) c.args.run.before _ _ _ _ _ _
-          c.requires.reads_on.0 c.if-size-i.false (omega (arith, c.read_matching-at.ensures.least, c.loop-i.invariant.1)) refl c.step-at.ensures,
-    )
+loop-i-preserved c = (
+  omega (arith, c.if-size-i.false),
+  omega (arith, c.step-at.ensures.place_is, c.read_matching-at.ensures.least, c.loop-i.invariant.1),
+  c.step-at.auto.table ∙ c.loop-i.invariant.2,
+  c.step-at.ensures.even,
+  λ before z. laws.seeking-byte _ _ _ _ _ _ (c.read_matching-at.ensures.on _ before _ (c.loop-i.invariant.4 before z)) c.args.run.before _ _ _ _ _ _
+      c.requires.reads_on.0 c.if-size-i.false (omega (arith, c.read_matching-at.ensures.least, c.loop-i.invariant.1)) refl c.step-at.ensures,
+)
 
 pub shape_of-table : goal.shape_of-table
 shape_of-table c = c.loop-i.invariant.2

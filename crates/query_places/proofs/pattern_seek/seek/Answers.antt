@@ -21,12 +21,15 @@ returns-in_default c =
 pub feed-m-requires : goal.feed-m-requires
 feed-m-requires c =
     let part : ReadsOn c.args.t.now c.loop-m.m.place.0 c.in-At.part.from c.in-At.part.length
-    × (1 ≤ c.in-At.part.length) × (c.in-At.part.length ≤ 65536) = range-reads _ _ 65536 _ c.range_at-range.ensures _ c.in-At.is in record { reads_on = (
+    × (1 ≤ c.in-At.part.length) × (c.in-At.part.length ≤ 65536) = range-reads _ _ 65536 _ c.range_at-range.ensures _ c.in-At.is in record {
+      reads_on = (
         part.0,
         omega (arith, part.0.in_text, laws.places-text-small _ _ c.requires.header_of.0),
         laws.seeking-even _ _ _ _ _ _ c.loop-m.invariant.0 c.requires.header_of.1,
         omega (arith, laws.seeking-length _ _ _ _ _ _ c.loop-m.invariant.0, c.requires.header_of.2),
-      ); in_bounds = (c.requires.header_of.1, c.requires.pattern_len_bound.0, c.requires.pattern_len_bound.1, c.requires.pattern_len_bound.2) }
+      );
+      in_bounds = (c.requires.header_of.1, c.requires.pattern_len_bound.0, c.requires.pattern_len_bound.1, c.requires.pattern_len_bound.2);
+    }
 
 pub loop-m-smaller : goal.loop-m-smaller
 loop-m-smaller c =

@@ -18,13 +18,13 @@ overflow_add-mark c = omega (arith, (c.begin-start.ensures.begins_at _ _ c.in-At
 
 pub from-requires : goal.from-requires
 from-requires c = let at = c.begin-start.ensures.begins_at _ _ c.in-At.is in (
-      c.requires,
-      c.if-prefix-lt1.false,
-      c.if-prefix-gt-MAX_PATTERN.false,
-      omega (arith, at.place-in, c.requires.length_is),
-      omega arith,
-      omega (arith, at.mark_low, c.requires.length_is),
-    )
+  c.requires,
+  c.if-prefix-lt1.false,
+  c.if-prefix-gt-MAX_PATTERN.false,
+  omega (arith, at.place-in, c.requires.length_is),
+  omega arith,
+  omega (arith, at.mark_low, c.requires.length_is),
+)
 
 pub returns-in-At : goal.returns-in-At
 returns-in-At c = let at = c.begin-start.ensures.begins_at _ _ c.in-At.is in

@@ -8,22 +8,22 @@ returns-then-h-i c = record { answers = laws.count_past _ _ c.requires _ _ c.if-
 
 pub returns-then-h-number : goal.returns-then-h-number
 returns-then-h-number c = record {
-      answers = laws.count_none _ _
-          c.requires _ _ c.if-h-i.false _ c.number_of-number.ensures.0 c.if-h-number.true;
-      numbered = omega arith;
-    }
+  answers = laws.count_none _ _
+      c.requires _ _ c.if-h-i.false _ c.number_of-number.ensures.0 c.if-h-number.true;
+  numbered = omega arith;
+}
 
 pub returns-then-i-eq0 : goal.returns-then-i-eq0
 returns-then-i-eq0 c = record {
-      answers = laws.count-nothing _ _ c.requires
-          _ _ c.if-h-i.false _ c.number_of-number.ensures.0 c.if-h-number.false c.if-i-eq0.true;
-      numbered = tt;
-    }
+  answers = laws.count-nothing _ _ c.requires
+      _ _ c.if-h-i.false _ c.number_of-number.ensures.0 c.if-h-number.false c.if-i-eq0.true;
+  numbered = tt;
+}
 
 pub returns : goal.returns
 returns c = record {
-      answers = laws.count-walked
-          _ _ c.requires _ _ c.if-h-i.false _ c.number_of-number.ensures.0 c.if-h-number.false
-          c.if-i-eq0.false _ (c.settle.ensures.0 ∙ c.walk.ensures);
-      numbered = c.settle.ensures.1;
-    }
+  answers = laws.count-walked
+      _ _ c.requires _ _ c.if-h-i.false _ c.number_of-number.ensures.0 c.if-h-number.false
+      c.if-i-eq0.false _ (c.settle.ensures.0 ∙ c.walk.ensures);
+  numbered = c.settle.ensures.1;
+}

@@ -57,8 +57,7 @@ pub kept_step-pointing_step-requires : goal.kept_step-pointing_step-requires
 kept_step-pointing_step-requires t c =
     let x : Shapes c.args.t.now.now c.shape_of-shape.result = shapes _ _ c.shape_of-shape.ensures in
     let above : c.args.level + 1 ≡ levels c.args.t.now.now → ⊥ = λ last. c.if-under-shape.false (last ∙ sym x.levels_is) in
-    let below : (q : ℕ) → q ≡ c.args.b / c.shape_of-shape.result.arity → q ≡ c.args.b / (at.settings c.args.t.now.now).arity = λ q q-is. q-is ∙ ap (λ (y : ℕ). c.args.b / y) x.arity_is in
-    (
+    let below : (q : ℕ) → q ≡ c.args.b / c.shape_of-shape.result.arity → q ≡ c.args.b / (at.settings c.args.t.now.now).arity = λ q q-is. q-is ∙ ap (λ (y : ℕ). c.args.b / y) x.arity_is in (
       omega (arith, c.decreases, c.requires.0.on.level_in, x.levels_is, c.if-under-shape.false),
       (laws.to-child _ _ _ _ _ _ _ c.requires.0
           above _ (below _ c.quotient-below.ensures)
@@ -82,9 +81,9 @@ pointing_step-returns-in_default t c = laws.landed_none _ _ _ _ _ _ _ _ _ _ c.to
 
 pub pointing_step-kept_step-requires : goal.pointing_step-kept_step-requires
 pointing_step-kept_step-requires t c = let z = laws.landed-on _ _ _ _ _ _ _ _ _ _ c.to_kept-there.ensures _ _ _ c.in-At.is in (
-      omega (arith, c.decreases),
-      (z.0, z.1),
-    )
+  omega (arith, c.decreases),
+  (z.0, z.1),
+)
 
 pub pointing_step-returns : goal.pointing_step-returns
 pointing_step-returns t c = c.kept_step.ensures ∙ (laws.landed-on _ _ _ _ _ _ _ _ _ _ c.to_kept-there.ensures _ _ _ c.in-At.is).2

@@ -11,11 +11,11 @@ returns-in_default c = laws.by-no-target _ _ _ _ _ _ _ c.requires.0 _ c.classify
 
 pub across-requires : goal.across-requires
 across-requires c = (
-      laws.target-across _ _ _ _ _ _ c.args.sum c.requires.0 _ c.classify_block-here.ensures _ _ c.in-Points.is
-          _ c.resolve_target-there.ensures _ _ c.in-At.is,
-      walk.may-enter _ _ _ _ _ _ _ c.requires.0,
-      c.requires.1,
-    )
+  laws.target-across _ _ _ _ _ _ c.args.sum c.requires.0 _ c.classify_block-here.ensures _ _ c.in-Points.is
+      _ c.resolve_target-there.ensures _ _ c.in-At.is,
+  walk.may-enter _ _ _ _ _ _ _ c.requires.0,
+  c.requires.1,
+)
 
 pub returns-in-Kept : goal.returns-in-Kept
 returns-in-Kept c = laws.by_itself _ _ _ _ _ _ _ c.requires.0 _ c.classify_block-here.ensures _ _ _ _ c.in-Kept.is c.requires.1

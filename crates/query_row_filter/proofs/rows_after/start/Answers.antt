@@ -17,10 +17,10 @@ returns-in_default c = let a = start-asked _ _ _ c.requires.0 c.requires.1 c.if-
 
 pub overflow_add-result : goal.overflow_add-result
 overflow_add-result c = omega (
-      arith,
-      place-in-text _ _ 10 _ (settled-sound _ _ _) _ c.find_newline-found.ensures.answers _ _ c.in-At.is,
-      c.requires.0.facts.bounds.text_high,
-    )
+  arith,
+  place-in-text _ _ 10 _ (settled-sound _ _ _) _ c.find_newline-found.ensures.answers _ _ c.in-At.is,
+  c.requires.0.facts.bounds.text_high,
+)
 
 pub returns : goal.returns
 returns c = let a = start-asked _ _ _ c.requires.0 c.requires.1 c.if-mark-eq0.false c.requires.2 in

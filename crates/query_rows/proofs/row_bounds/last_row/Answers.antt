@@ -32,27 +32,27 @@ returns-in_default-found c = laws.last-no-start _ _ c.requires.0 _ c.requires.1
 
 pub overflow_add-result : goal.overflow_add-result
 overflow_add-result c = omega (
-      arith,
-      laws.last-past _ _ c.requires.0 _ c.requires.1
-          _ (laws.settled-sound _ _ _) _ c.byte_at-answer.ensures _ _ c.in-Byte.is
-          c.if-value-eq10.false c.if-q-eq1.false _ c.find_newline-found.ensures.answers _ _ c.in-At.is,
-    )
+  arith,
+  laws.last-past _ _ c.requires.0 _ c.requires.1
+      _ (laws.settled-sound _ _ _) _ c.byte_at-answer.ensures _ _ c.in-Byte.is
+      c.if-value-eq10.false c.if-q-eq1.false _ c.find_newline-found.ensures.answers _ _ c.in-At.is,
+)
 
 pub overflow_add-result-2 : goal.overflow_add-result-2
 overflow_add-result-2 c = omega (
-      arith,
-      laws.last-past _ _ c.requires.0 _ c.requires.1
-          _ (laws.settled-sound _ _ _) _ c.byte_at-answer.ensures _ _ c.in-Byte.is
-          c.if-value-eq10.false c.if-q-eq1.false _ c.find_newline-found.ensures.answers _ _ c.in-At.is,
-    )
+  arith,
+  laws.last-past _ _ c.requires.0 _ c.requires.1
+      _ (laws.settled-sound _ _ _) _ c.byte_at-answer.ensures _ _ c.in-Byte.is
+      c.if-value-eq10.false c.if-q-eq1.false _ c.find_newline-found.ensures.answers _ _ c.in-At.is,
+)
 
 pub overflow_sub-result : goal.overflow_sub-result
 overflow_sub-result c = omega (
-      arith,
-      laws.last-past _ _ c.requires.0 _ c.requires.1
-          _ (laws.settled-sound _ _ _) _ c.byte_at-answer.ensures _ _ c.in-Byte.is
-          c.if-value-eq10.false c.if-q-eq1.false _ c.find_newline-found.ensures.answers _ _ c.in-At.is,
-    )
+  arith,
+  laws.last-past _ _ c.requires.0 _ c.requires.1
+      _ (laws.settled-sound _ _ _) _ c.byte_at-answer.ensures _ _ c.in-Byte.is
+      c.if-value-eq10.false c.if-q-eq1.false _ c.find_newline-found.ensures.answers _ _ c.in-At.is,
+)
 
 pub returns : goal.returns
 returns c = laws.last-from _ _ c.requires.0 _ c.requires.1

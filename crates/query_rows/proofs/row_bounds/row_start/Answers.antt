@@ -20,10 +20,10 @@ returns-in_default c = laws.start-refused _ _ _ _ c.requires.0 _ c.requires.1 c.
 
 pub overflow_add-result : goal.overflow_add-result
 overflow_add-result c = omega (
-      arith,
-      laws.before-below _ _ _ _ c.requires.0 _ c.requires.1 c.requires.2 _ refl (λ z. omega (arith, c.requires.3)) c.requires.4 c.if-q-eq1.false (laws.settled-sound _ _ _)
-          _ c.find_newline-found.ensures.answers _ _ c.in-At.is,
-    )
+  arith,
+  laws.before-below _ _ _ _ c.requires.0 _ c.requires.1 c.requires.2 _ refl (λ z. omega (arith, c.requires.3)) c.requires.4 c.if-q-eq1.false (laws.settled-sound _ _ _)
+      _ c.find_newline-found.ensures.answers _ _ c.in-At.is,
+)
 
 -- Past the newline that was found.
 pub returns : goal.returns

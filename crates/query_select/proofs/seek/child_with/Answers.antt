@@ -17,11 +17,11 @@ block_length-bytes-requires c = record { on = c.requires.0.on; block_in = kept_i
 
 pub children-count-requires : goal.children-count-requires
 children-count-requires c = (
-      omega (arith, c.block_length-bytes.ensures.1, b-small _ _ _ _ c.requires.0.on),
-      b-pos _ _ _ _ c.requires.1,
-      b-small _ _ _ _ c.requires.1,
-      counts.full-below _ _ _ _ _ _ c.requires.0.on c.requires.1 (shapes _ _ c.shape_of-shape.ensures).arity_is,
-    )
+  omega (arith, c.block_length-bytes.ensures.1, b-small _ _ _ _ c.requires.0.on),
+  b-pos _ _ _ _ c.requires.1,
+  b-small _ _ _ _ c.requires.1,
+  counts.full-below _ _ _ _ _ _ c.requires.0.on c.requires.1 (shapes _ _ c.shape_of-shape.ensures).arity_is,
+)
 
 pub overflow_add-on : goal.overflow_add-on
 overflow_add-on c = omega (arith, c.requires.1.level_in, c.requires.1.facts.bounds.levels_high)

@@ -22,9 +22,9 @@ target_with-next-requires c = (c.requires.0, c.requires.1.number_in, c.requires.
 
 pub enter-requires : goal.enter-requires
 enter-requires c = (
-      omega (arith, c.requires.1.near, c.requires.1.on.level_in, c.requires.1.on.facts.bounds.levels_high),
-      laws.gap_small _ _ _ _ _ _ _ c.requires.0 c.requires.1 _ c.gap-gap.ensures,
-    )
+  omega (arith, c.requires.1.near, c.requires.1.on.level_in, c.requires.1.on.facts.bounds.levels_high),
+  laws.gap_small _ _ _ _ _ _ _ c.requires.0 c.requires.1 _ c.gap-gap.ensures,
+)
 
 pub returns-in-Kept : goal.returns-in-Kept
 returns-in-Kept c = laws.pointer-to _ _ _ _ _ _ _ c.requires.0 c.requires.1 _ c.target_with-next.ensures _ _ _ _ _

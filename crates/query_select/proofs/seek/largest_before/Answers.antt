@@ -28,8 +28,8 @@ before-d-requires c = laws.select-field-there _ _ _ _ _ _ c.requires.0.facts c.r
 
 pub returns : goal.returns
 returns c = (
-      omega (arith, c.before-a.ensures, c.max-2.ensures, c.max.ensures, c.max-3.ensures),
-      omega (arith, c.before-b.ensures, c.max-2.ensures, c.max.ensures, c.max-3.ensures),
-      omega (arith, c.before-c.ensures, c.max-2.ensures, c.max.ensures, c.max-3.ensures),
-      omega (arith, c.before-d.ensures, c.max-2.ensures, c.max.ensures, c.max-3.ensures),
-    )
+  omega (arith, c.before-a.ensures, c.max-2.ensures, c.max.ensures, c.max-3.ensures),
+  omega (arith, c.before-b.ensures, c.max-2.ensures, c.max.ensures, c.max-3.ensures),
+  omega (arith, c.before-c.ensures, c.max-2.ensures, c.max.ensures, c.max-3.ensures),
+  omega (arith, c.before-d.ensures, c.max-2.ensures, c.max.ensures, c.max-3.ensures),
+)

@@ -26,10 +26,10 @@ bounds-t-field c = omega (arith, c.requires.1.number_in, c.requires.1.on.facts.b
 
 pub find_nth-place-requires : goal.find_nth-place-requires
 find_nth-place-requires c = let x = shapes _ _ c.shape_of-shape.ensures in (
-      laws.leaf_room _ _ 0 _ _ _ 0 0 _ _ _ _ c.requires.0 c.requires.2 c.link-link.ensures c.block_length-len.ensures
-          x.offset_is x.count_is c.if-shape-link.false,
-      c.requires.1.low,
-    )
+  laws.leaf_room _ _ 0 _ _ _ 0 0 _ _ _ _ c.requires.0 c.requires.2 c.link-link.ensures c.block_length-len.ensures
+      x.offset_is x.count_is c.if-shape-link.false,
+  c.requires.1.low,
+)
 
 pub enter-requires : goal.enter-requires
 enter-requires c = (omega (arith, c.requires.1.near, c.requires.1.on.level_in, c.requires.1.on.facts.bounds.levels_high), omega arith)

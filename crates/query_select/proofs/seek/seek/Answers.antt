@@ -11,7 +11,7 @@ word_in-requires c = (on-top _ _ c.requires.0, c.requires.1, c.requires.3, c.req
 
 pub returns : goal.returns
 returns c = (
-      laws.from_first _ _ _ _ c.requires.1 c.requires.3 c.first_block-block.ensures _ _
-          (laws.sought-by _ _ _ _ _ _ _ _ c.requires.0.length_is c.requires.2 c.text_place.ensures.0 c.word_in.ensures),
-      c.text_place.ensures.1,
-    )
+  laws.from_first _ _ _ _ c.requires.1 c.requires.3 c.first_block-block.ensures _ _
+      (laws.sought-by _ _ _ _ _ _ _ _ c.requires.0.length_is c.requires.2 c.text_place.ensures.0 c.word_in.ensures),
+  c.text_place.ensures.1,
+)

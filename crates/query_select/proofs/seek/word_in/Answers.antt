@@ -14,9 +14,9 @@ overflow_mul-way c = record { fits = omega (arith, laws.way-small _ _ _ _ _ c.re
 
 pub pointing_step-requires : goal.pointing_step-requires
 pointing_step-requires c = let near = laws.way-small _ _ _ _ _ c.requires.0 c.requires.1 c.requires.2 c.requires.3 c.requires.4 _ (omega arith) refl in (
-      laws.block-there _ _ _ _ _ c.requires.0 c.requires.1 c.requires.2 c.requires.3 c.requires.4,
-      laws.seeking _ _ _ _ _ c.requires.0 c.requires.1 c.requires.2 c.requires.3 c.requires.4 _ c.rest_in-rest.ensures c.if-rest-eq0.false _ (omega arith) near,
-    )
+  laws.block-there _ _ _ _ _ c.requires.0 c.requires.1 c.requires.2 c.requires.3 c.requires.4,
+  laws.seeking _ _ _ _ _ c.requires.0 c.requires.1 c.requires.2 c.requires.3 c.requires.4 _ c.rest_in-rest.ensures c.if-rest-eq0.false _ (omega arith) near,
+)
 
 pub returns : goal.returns
 returns c = laws.sought _ _ _ _ _ c.requires.0 c.requires.1 c.requires.2 c.requires.3 c.requires.4 _ c.rest_in-rest.ensures c.if-rest-eq0.false _ _ refl c.pointing_step.ensures

@@ -25,13 +25,13 @@ loop-i-smaller c = omega (arith, c.loop-i-test.true)
 
 pub loop-i-preserved : goal.loop-i-preserved
 loop-i-preserved c = (
-      omega (arith, c.loop-i-test.true),
-      (
-        simp length-set c.loop-i.invariant.1.0,
-        laws.one_more c.args.words.now
-            c.loop-i.words _ _ (omega (arith, c.requires, c.loop-i-test.true)) c.loop-i.invariant.1.0 c.loop-i.invariant.1.1,
-      ),
-    )
+  omega (arith, c.loop-i-test.true),
+  (
+    simp length-set c.loop-i.invariant.1.0,
+    laws.one_more c.args.words.now
+        c.loop-i.words _ _ (omega (arith, c.requires, c.loop-i-test.true)) c.loop-i.invariant.1.0 c.loop-i.invariant.1.1,
+  ),
+)
 
 pub shape_of-words : goal.shape_of-words
 shape_of-words c = c.loop-i.invariant.1.0

@@ -32,11 +32,14 @@ block_fingerprint-next-requires c =
     (c.requires.0.placed, omega (arith, laws.next-block _ _ _ c.requires.1 c.requires.0.placed _ _ _ _ _ c.loop-i.invariant c.loop-i-test.true))
 
 pub enter_both-n-requires : goal.enter_both-n-requires
-enter_both-n-requires c = record { entered_items = (c.loop-i.invariant.items_entered, c.requires.1, laws.next-block _ _ _ c.requires.1 c.requires.0.placed _ _ _ _ _ c.loop-i.invariant c.loop-i-test.true); own_value = (
-        c.loop-i.invariant.fingerprint_is,
-        laws.next-fingerprint _ _ _ c.requires.1 c.requires.0.placed _ _ _ _ _ c.loop-i.invariant c.loop-i-test.true _ c.block_fingerprint-next.ensures,
-        c.power-top.ensures,
-      ) }
+enter_both-n-requires c = record {
+  entered_items = (c.loop-i.invariant.items_entered, c.requires.1, laws.next-block _ _ _ c.requires.1 c.requires.0.placed _ _ _ _ _ c.loop-i.invariant c.loop-i-test.true);
+  own_value = (
+    c.loop-i.invariant.fingerprint_is,
+    laws.next-fingerprint _ _ _ c.requires.1 c.requires.0.placed _ _ _ _ _ c.loop-i.invariant c.loop-i-test.true _ c.block_fingerprint-next.ensures,
+    c.power-top.ensures,
+  );
+}
 
 pub with_length-requires : goal.with_length-requires
 with_length-requires c = c.requires.0.placed.size_few
@@ -77,8 +80,7 @@ shape_of-words c =
     c.enter.ensures.same_length ∙ c.loop-i.invariant.same_length ∙ c.clear.ensures.same_length
 
 pub returns : goal.returns
-returns c =
-    (
-      laws.all-entered _ _ _ c.requires.1 c.requires.0.placed _ _ _ _ _ c.loop-i.invariant c.loop-i-test.false _ c.enter.ensures,
-      laws.all-lengths _ _ _ c.requires.1 c.requires.0.placed _ _ _ _ _ c.loop-i.invariant c.loop-i-test.false _ _ c.bytes_of.ensures.length_is c.with_length-2.ensures,
-    )
+returns c = (
+  laws.all-entered _ _ _ c.requires.1 c.requires.0.placed _ _ _ _ _ c.loop-i.invariant c.loop-i-test.false _ c.enter.ensures,
+  laws.all-lengths _ _ _ c.requires.1 c.requires.0.placed _ _ _ _ _ c.loop-i.invariant c.loop-i-test.false _ _ c.bytes_of.ensures.length_is c.with_length-2.ensures,
+)

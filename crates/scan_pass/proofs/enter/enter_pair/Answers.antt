@@ -58,7 +58,10 @@ shape_of-words c = c.enter.ensures.same_length
 
 pub returns : goal.returns
 returns c = let p = laws.is-pair _ _ _ c.requires.turn.1 c.requires.turn.0.laid.placed _ c.requires.turn.2
-    _ _ c.bytes_of-own.ensures.start_is c.bytes_of-second.ensures.start_is c.if-second-own.false in record { item_processed = laws.processed-entered _ _ _ _ _ _ (inr p) c.enter.ensures; pair_answer = record {
+    _ _ c.bytes_of-own.ensures.start_is c.bytes_of-second.ensures.start_is c.if-second-own.false in record {
+      item_processed = laws.processed-entered _ _ _ _ _ _ (inr p) c.enter.ensures;
+      pair_answer = record {
         present = λ _. c.bytes_of-own.ensures.length_is;
         absent = λ un. absurd (un (inr p));
-      } }
+      };
+    }

@@ -14,21 +14,19 @@ first-b-requires c =
     (laws.asked-after _ _ _ _ _ c.first-a.ensures.stepped.searched (laws.first-asked _ _ _ _ _ c.requires.0 c.requires.2 c.requires.1), c.requires.1.pair_in)
 
 pub first-last-requires : goal.first-last-requires
-first-last-requires c =
-    (
-      laws.asked-after _ _ _ _ _ c.first-b.ensures.stepped.searched
-          (laws.asked-after _ _ _ _ _ c.first-a.ensures.stepped.searched (laws.first-asked _ _ _ _ _ c.requires.0 c.requires.2 c.requires.1)),
-      c.requires.1.last_in,
-    )
+first-last-requires c = (
+  laws.asked-after _ _ _ _ _ c.first-b.ensures.stepped.searched
+      (laws.asked-after _ _ _ _ _ c.first-a.ensures.stepped.searched (laws.first-asked _ _ _ _ _ c.requires.0 c.requires.2 c.requires.1)),
+  c.requires.1.last_in,
+)
 
 pub first-ending-requires : goal.first-ending-requires
-first-ending-requires c =
-    (
-      laws.asked-after _ _ _ _ _ c.first-last.ensures.stepped.searched
-          (laws.asked-after _ _ _ _ _ c.first-b.ensures.stepped.searched
-          (laws.asked-after _ _ _ _ _ c.first-a.ensures.stepped.searched (laws.first-asked _ _ _ _ _ c.requires.0 c.requires.2 c.requires.1))),
-      c.requires.1.ending_in,
-    )
+first-ending-requires c = (
+  laws.asked-after _ _ _ _ _ c.first-last.ensures.stepped.searched
+      (laws.asked-after _ _ _ _ _ c.first-b.ensures.stepped.searched
+      (laws.asked-after _ _ _ _ _ c.first-a.ensures.stepped.searched (laws.first-asked _ _ _ _ _ c.requires.0 c.requires.2 c.requires.1))),
+  c.requires.1.ending_in,
+)
 
 pub loop-p-init : goal.loop-p-init
 loop-p-init c =
@@ -52,13 +50,12 @@ step-b-requires c =
     (laws.asked-after _ _ _ _ _ c.step-a.ensures.stepped.searched c.loop-p.invariant.0.asked, laws.of-len _ _ _ _ _ c.loop-p.invariant.0.b_is, c.loop-p-test.true, refl)
 
 pub step_cut-cut-requires : goal.step_cut-cut-requires
-step_cut-cut-requires c =
-    (
-      laws.asked-after _ _ _ _ _ c.step-b.ensures.stepped.searched (laws.asked-after _ _ _ _ _ c.step-a.ensures.stepped.searched c.loop-p.invariant.0.asked),
-      laws.cut-of-len _ _ _ _ _ _ c.loop-p.invariant.1,
-      c.loop-p-test.true,
-      refl,
-    )
+step_cut-cut-requires c = (
+  laws.asked-after _ _ _ _ _ c.step-b.ensures.stepped.searched (laws.asked-after _ _ _ _ _ c.step-a.ensures.stepped.searched c.loop-p.invariant.0.asked),
+  laws.cut-of-len _ _ _ _ _ _ c.loop-p.invariant.1,
+  c.loop-p-test.true,
+  refl,
+)
 
 pub overflow_add-p : goal.overflow_add-p
 overflow_add-p c =
@@ -71,8 +68,7 @@ loop-p-smaller c =
 pub loop-p-preserved : goal.loop-p-preserved
 loop-p-preserved c =
     let opened : CutWindowsAt c.args.it.seed c.args.text.now c.args.l.last c.args.l.ending 0 c.cut_windows-cut.result = laws.cut_opened _ _ _ _ _ _ _ _ c.cut_windows-cut.ensures.0 c.cut_windows-cut.ensures.1 c.cut_windows-cut.ensures.2 c.cut_windows-cut.ensures.3 c.first-last.ensures.window_at c.first-ending.ensures.window_at in
-    let o = opened in
-    (
+    let o = opened in (
       laws.passing-next _ _ _ _ _ c.requires.0 c.requires.2 c.requires.1 _ _ _ _
           c.first-a.ensures.stepped c.first-b.ensures.stepped c.first-last.ensures.stepped c.first-ending.ensures.stepped _ _ _ _
           c.first-a.ensures.window_at.len_is c.first-b.ensures.window_at.len_is o.last_is.len_is o.ending_is.len_is
@@ -109,9 +105,12 @@ shape_of-words c =
 pub returns : goal.returns
 returns c =
     let opened : CutWindowsAt c.args.it.seed c.args.text.now c.args.l.last c.args.l.ending 0 c.cut_windows-cut.result = laws.cut_opened _ _ _ _ _ _ _ _ c.cut_windows-cut.ensures.0 c.cut_windows-cut.ensures.1 c.cut_windows-cut.ensures.2 c.cut_windows-cut.ensures.3 c.first-last.ensures.window_at c.first-ending.ensures.window_at in
-    let o = opened in record { passed = laws.passing-over _ _ _ _ _ c.requires.0 c.requires.2 c.requires.1 _ _ _ _
+    let o = opened in record {
+      passed = laws.passing-over _ _ _ _ _ c.requires.0 c.requires.2 c.requires.1 _ _ _ _
           c.first-a.ensures.stepped c.first-b.ensures.stepped c.first-last.ensures.stepped c.first-ending.ensures.stepped _ _ _ _
           c.first-a.ensures.window_at.len_is c.first-b.ensures.window_at.len_is o.last_is.len_is o.ending_is.len_is
-          _ _ _ _ _ _ c.loop-p.invariant.0 c.loop-p-test.false; value = laws.looked-sum c.args.it.seed c.args.text.now _ _ _ _ _ _ _ _ _ _ _ _ _
+          _ _ _ _ _ _ c.loop-p.invariant.0 c.loop-p-test.false;
+      value = laws.looked-sum c.args.it.seed c.args.text.now _ _ _ _ _ _ _ _ _ _ _ _ _
           c.first-a.ensures.window_at.len_is c.first-b.ensures.window_at.len_is o.last_is.len_is o.ending_is.len_is
-          c.loop-p.invariant.0.a_is c.loop-p.invariant.0.b_is c.loop-p.invariant.0.c_is c.loop-p.invariant.0.d_is c.loop-p-test.false }
+          c.loop-p.invariant.0.a_is c.loop-p.invariant.0.b_is c.loop-p.invariant.0.c_is c.loop-p.invariant.0.d_is c.loop-p-test.false;
+    }

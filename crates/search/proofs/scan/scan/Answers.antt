@@ -20,14 +20,14 @@ roll-h-requires c = (c.requires.1, rw c.loop-p.invariant.1 (finger-below _ _ _ (
 
 pub loop-p-preserved : goal.loop-p-preserved
 loop-p-preserved c = (
-      omega arith,
-      c.roll-h.ensures
-          ∙ finger-roll
-          c.args.by.base c.args.by.modulus c.args.text.now c.loop-p.p c.args.n _ _ _ _ (omega arith)
-          (below _ _ _ (omega arith) c.power-top.ensures) (c.shared_slice_known-in-loop-p-1.given c.loop-p.p).fits
-          c.loop-p.invariant.1 c.power-top.ensures refl refl,
-      ahead-miss _ _ _ _ c.loop-p.invariant.2 _ c.occurs_at.ensures c.if-occurs_at.false (omega arith),
-    )
+  omega arith,
+  c.roll-h.ensures
+      ∙ finger-roll
+      c.args.by.base c.args.by.modulus c.args.text.now c.loop-p.p c.args.n _ _ _ _ (omega arith)
+      (below _ _ _ (omega arith) c.power-top.ensures) (c.shared_slice_known-in-loop-p-1.given c.loop-p.p).fits
+      c.loop-p.invariant.1 c.power-top.ensures refl refl,
+  ahead-miss _ _ _ _ c.loop-p.invariant.2 _ c.occurs_at.ensures c.if-occurs_at.false (omega arith),
+)
 
 pub returns : goal.returns
 returns c = ahead-end _ _ _ _ c.loop-p.invariant.2 (omega arith)

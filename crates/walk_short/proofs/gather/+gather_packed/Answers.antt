@@ -29,10 +29,10 @@ overflow_add-down t c = omega (arith, c.requires.on.level_in, c.requires.on.fact
 
 pub last-requires : goal.last-requires
 last-requires t c = (
-      c.requires.on,
-      (let z : c.args.entered ≤ 2 * max_levels = omega (arith, laws.entered-few _ _ _ _ 0 _ _ _ c.requires) in z),
-      omega (arith, c.requires.short, c.requires.on.facts.bounds.leaf_high),
-    )
+  c.requires.on,
+  (let z : c.args.entered ≤ 2 * max_levels = omega (arith, laws.entered-few _ _ _ _ 0 _ _ _ c.requires) in z),
+  omega (arith, c.requires.short, c.requires.on.facts.bounds.leaf_high),
+)
 
 pub returns-then-down-shape : goal.returns-then-down-shape
 returns-then-down-shape t c = laws.last-by _ _ _ _ _ _ _ _ c.requires c.if-b-place.false
@@ -44,8 +44,7 @@ quotient-c-requires t c = omega (arith, (shapes _ _ c.shape_of-shape.ensures).ar
 pub settle-step-requires : goal.settle-step-requires
 settle-step-requires t c =
     let x : Shapes c.args.t.now.now c.shape_of-shape.result = shapes _ _ c.shape_of-shape.ensures in
-    let more : c.args.level + 1 ≡ levels c.args.t.now.now → ⊥ = λ last. c.if-down-shape.false (last ∙ sym x.levels_is) in
-    (
+    let more : c.args.level + 1 ≡ levels c.args.t.now.now → ⊥ = λ last. c.if-down-shape.false (last ∙ sym x.levels_is) in (
       c.requires.on,
       c.requires.place-in,
       c.if-b-place.false,
@@ -66,8 +65,7 @@ overflow_add-entered t c =
 pub gather_packed-requires : goal.gather_packed-requires
 gather_packed-requires t c =
     let x : Shapes c.args.t.now.now c.shape_of-shape.result = shapes _ _ c.shape_of-shape.ensures in
-    let more : c.args.level + 1 ≡ levels c.args.t.now.now → ⊥ = λ last. c.if-down-shape.false (last ∙ sym x.levels_is) in
-    (
+    let more : c.args.level + 1 ≡ levels c.args.t.now.now → ⊥ = λ last. c.if-down-shape.false (last ∙ sym x.levels_is) in (
       omega (arith, c.decreases, c.requires.on.level_in, c.if-down-shape.false, x.levels_is),
       (laws.down-asks _ _ _ _ _ _ _ _ c.requires c.if-b-place.false more _
           (c.settle-step.ensures)

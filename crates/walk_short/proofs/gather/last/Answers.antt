@@ -5,13 +5,13 @@ use Rattle.walk_short.proofs.gather.last.Goals as goal
 
 pub leaf_part-requires : goal.leaf_part-requires
 leaf_part-requires c = (
-      c.requires.0.facts,
-      c.requires.0.size_is,
-      c.requires.0.level_in,
-      laws.last-kept _ _ _ _ 0 0 _ c.classify_next-next.ensures _ _ c.in-Kept.is,
-      c.requires.1,
-      c.requires.2,
-    )
+  c.requires.0.facts,
+  c.requires.0.size_is,
+  c.requires.0.level_in,
+  laws.last-kept _ _ _ _ 0 0 _ c.classify_next-next.ensures _ _ c.in-Kept.is,
+  c.requires.1,
+  c.requires.2,
+)
 
 pub returns-in-Kept : goal.returns-in-Kept
 returns-in-Kept c = laws.last-by _ _ _ _ _ _ _ c.classify_next-next.ensures _ _ c.in-Kept.is _

@@ -24,15 +24,15 @@ target-next-requires c = c.requires.0
 
 pub into-requires : goal.into-requires
 into-requires c = (
-      c.requires.0.on.facts,
-      c.requires.0.on.size_is,
-      c.requires.0.on.level_in,
-      laws.target_in _ _ _ _ _ _ _ _ c.requires.0
-          c.requires.1 c.requires.2 _ _ c.link-link.ensures c.gap-gap.ensures (laws.gap_low _ _ _ _ _ _ c.requires.0 _ c.gap-gap.ensures)
-          (laws.not-split _ _ _ _ c.splits.ensures c.if-splits.false)
-          _ c.target-next.ensures _ _ c.in-Kept.is,
-      rw c.requires.2 (laws.child-pos _ _ _ _ c.requires.0.on),
-    )
+  c.requires.0.on.facts,
+  c.requires.0.on.size_is,
+  c.requires.0.on.level_in,
+  laws.target_in _ _ _ _ _ _ _ _ c.requires.0
+      c.requires.1 c.requires.2 _ _ c.link-link.ensures c.gap-gap.ensures (laws.gap_low _ _ _ _ _ _ c.requires.0 _ c.gap-gap.ensures)
+      (laws.not-split _ _ _ _ c.splits.ensures c.if-splits.false)
+      _ c.target-next.ensures _ _ c.in-Kept.is,
+  rw c.requires.2 (laws.child-pos _ _ _ _ c.requires.0.on),
+)
 
 pub returns-in-Kept : goal.returns-in-Kept
 returns-in-Kept c = laws.pointed-in _ _ _ _ _ _ _ _ c.requires.0 c.requires.1

@@ -3,13 +3,13 @@ use Rattle.walk_short.proofs.gather.settle.Goals as goal
 
 pub into-requires : goal.into-requires
 into-requires c = (
-      c.requires.0.facts,
-      c.requires.0.size_is,
-      c.requires.0.level_in,
-      laws.kept_there _ _ _ _ _
-          0 c.requires.3 _ c.classify_next-next.ensures _ _ c.in-Kept.is,
-      rw c.requires.3 (laws.child-pos _ _ _ _ c.requires.0),
-    )
+  c.requires.0.facts,
+  c.requires.0.size_is,
+  c.requires.0.level_in,
+  laws.kept_there _ _ _ _ _
+      0 c.requires.3 _ c.classify_next-next.ensures _ _ c.in-Kept.is,
+  rw c.requires.3 (laws.child-pos _ _ _ _ c.requires.0),
+)
 
 pub pointed-requires : goal.pointed-requires
 pointed-requires c = let z = laws.points-place _ _ _ _ _ 0 c.requires.3 _ c.classify_next-next.ensures _ _ c.in-Points.is in
