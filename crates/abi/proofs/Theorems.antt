@@ -1,6 +1,5 @@
--- Demand 1 for the exported calls, a line for each: the call terminates and accesses only the memory that it was given (`TotallyCorrect`), and it has no
--- precondition
--- (`NoPrecondition`).
+-- Demand 1 for the calls of the C interface, a line for each: the call terminates and accesses only the memory that it was given (`TotallyCorrect`), and it
+-- has no precondition (`NoPrecondition`). The symbols of the C library, which call them, have the same in `abi_c`.
 -- docs/FORMAT.md: "What is proved".
 use mathlib.Core.List.{List, [], ◌∷◌}
 use mathlib.Core.Path.{refl}

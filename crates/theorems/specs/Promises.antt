@@ -288,7 +288,8 @@ module _ (t : Borrowed) (S : Settings) (T : List ℕ) where
     -- Every other question is refused with its number.
     pub refuses : Refuses
 
--- P holds for every call: those of the library, those exported to C, list, and those on the days of a licence.
+-- P holds for every call: those of the library, those of the C interface, list, and those on the days of a licence. Each symbol of the C library calls the
+-- one of the C interface that has its name; what is said of all of these is said of the symbols in `Theorems` of `abi_c`.
 abbrev pub OfEveryCall : (Function → Type 2) → Type 2
 OfEveryCall P = Every P functions × Each P exported × Each P listing × Each P licence
 

@@ -1,5 +1,5 @@
 -- The functions of the library's public calls. Each has its code on the machine, with the name by which it is called, its signature, and its contract (`clauses`),
--- as its crate states them. The calls exported to C, list and the calls on a licence's days are listed in `Theorems` of `abi`, `list_lines` and `licence`.
+-- as its crate states them. The calls of the C interface, list and the calls on a licence's days are listed in `Theorems` of `abi`, `list_lines` and `licence`.
 use Rattle.std.specs.Prelude.{List, [], ◌∷◌}
 use Rattle.theory_adequacy.specs.TotalCorrectness.{Function}
 use Rattle.search.specs.contracts.Fingerprint.new as new_of
