@@ -3,6 +3,7 @@
 import os
 import shutil
 import subprocess
+import tempfile
 from pathlib import Path
 
 ROOT = Path(__file__).resolve().parents[2]
@@ -60,15 +61,16 @@ def clang():
 
 def compiled_to_wasm(program, out):
     """A test program that imports the library's calls and memory: its own memory starts at 1 MiB, above the library's."""
-    linker = out.parent / "wasm-ld"
-    if not linker.exists():
-        linker.symlink_to(clang())
     objects = []
     for name in (program, "os_wasm"):
         objects.append(out.parent / ("%s-%s.o" % (program, name)))
         words = ["--target=wasm32", "-ffreestanding", "-fno-delete-null-pointer-checks", *WARNINGS, "-I", TESTS / "wasm", "-I", ROOT / "include"]
         run([clang(), *words, "-c", TESTS / (name + ".c"), "-o", objects[-1]])
-    run([linker, "--no-entry", "--import-memory", "--allow-undefined", "--global-base=1048576", "-z", "stack-size=65536", *objects, "-o", out])
+    # one binary, which is a linker under this name; rt works in no repository that has links, so it stands outside
+    with tempfile.TemporaryDirectory() as folder:
+        linker = Path(folder) / "wasm-ld"
+        linker.symlink_to(clang())
+        run([linker, "--no-entry", "--import-memory", "--allow-undefined", "--global-base=1048576", "-z", "stack-size=65536", *objects, "-o", out])
     return out
 
 
