@@ -46,6 +46,8 @@ DIFFER = (
     r"(?:the two (?:types|sides) differ only|computed as far as they go, the two types first differ) where one has `([^`]*)`\s*\((?:expected|left)\)"
     r".*?and the other has `([^`]*)`\s*\((?:found|right)\)"
 )
+# two sides of an equation, computed as a whole
+SIDES = r"computed as far as they go, the two sides are `([^`]*)`\s*\(left\) and `([^`]*)`\s*\(right\)"
 # how an error names two types, and what it calls them
 MISMATCHES = [
     (r"expected type `([^`]*)`\s*,?\s*but this has type `([^`]*)`", ("expected", "found")),
@@ -153,7 +155,7 @@ def false_fact(error, contract):
     names = relations(error, contract)
     if names and names[0] != names[1] and set(names) <= RELATIONS:
         return names == ["<", "≤"]
-    terms = [pair for pair in re.findall(DIFFER, error, re.S) if not any(RELATIONS & set(relation(term).split()) for term in pair)]
+    terms = [pair for pair in re.findall(DIFFER, error, re.S) + re.findall(SIDES, error, re.S) if not any(RELATIONS & set(relation(term).split()) for term in pair)]
     if terms:
         return all(one.replace(".before", "").strip() != other.replace(".before", "").strip() for one, other in terms)
     return bool(names) and names[0] == names[1] and known(names[0])
@@ -269,6 +271,8 @@ def record(edits):
 
 # First errors in the prover's words, shortened, that show a false fact
 FACT_SAMPLES = [
+    "`too-long`: computed as a goal is, one side reads `length c.args.prefix.now - 1`\n  (left)\n  computed as far as they go, the two sides are `length c.args.prefix.now - 1`\n"
+    "  (left) and `length c.args.prefix.now` (right)\n  `get 13 (..)`\n  ≟ `length (..)`\n  does not hold (this comparison had to wait)",
     "`write`: `search`: no proof of `◌≡◌ (set c.args.t.now ..)`\n  was found. `grind`: the goal does not follow. The hypotheses hold, and the goal fails at `c.args.at` = `0`",
     "`field-requires`: `search`: no proof of `FieldIn c.args.t.now 3`\n  was found. It stopped 5 lemmas deep, with lemmas still to try. `grind` stopped at its own limit. In its own words: `omega`: the goal does not "
     "follow from what it read. All of that holds, and the goal fails, at `c.args.size` = 0",
@@ -299,6 +303,7 @@ FACT_SAMPLES = [
 ]
 # First errors that a right program would get too, or that show nothing
 FORM_SAMPLES = [
+    "`copy`: computed as far as they go, the two sides are `c.before.loop.i` (left) and `c.before.before.loop.i` (right)\n  `get 1 (..)`\n  ≟ `get 2 (..)`\n  does not hold",
     "`field-requires`: `search`: no proof of `FieldIn c.args.t.now 3`\n  was found. It stopped 5 lemmas deep, with lemmas still to try (`depth n` at the end of the call sets that bound)",
     "`field-requires`: `grind` stopped at its own limit of instances of lemmas, so the goal may hold. By the facts that it had used, the goal fails at `x` = `0`",
     "`more`: `Rattle.a.specs.RunCopied s.args.0.now …`\n  ≟ `Rattle.a.specs.SpanCopied s.args.0.now …`\n  does not hold (it had to wait)",
