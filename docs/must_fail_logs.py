@@ -12,7 +12,7 @@ its beginning (the numbers of lines aside) shows that the record is of the edit 
 
 - numbers at which a goal fails, or hypotheses that are not absurd (`omega`); values at which the hypotheses hold and the goal fails (`grind`), or a goal for
   which every way was tried (`search`); two ends that are not equal after all rewrites (`rw`); what is not proved of a function, where no file answers the goal;
-- two types that differ only in a term, other than in the step of the code at which the term is read;
+- two types that differ only in a term, or two terms that were compared whole, other than in the step of the code at which the term is read;
 - an expected type and a found one that are the same relation of other terms, or `<` expected where `≤` is given. For the contract of a
   function (`Reads.Post`, `Reads.Learnt`) the relation is the computed one, or that of its `ensures`.
 
@@ -46,8 +46,8 @@ DIFFER = (
     r"(?:the two (?:types|sides) differ only|computed as far as they go, the two types first differ) where one has `([^`]*)`\s*\((?:expected|left)\)"
     r".*?and the other has `([^`]*)`\s*\((?:found|right)\)"
 )
-# two sides of an equation, computed as a whole
-SIDES = r"computed as far as they go, the two sides are `([^`]*)`\s*\(left\) and `([^`]*)`\s*\(right\)"
+# two terms that were compared whole, after the `_` that stands for one of them was given its value
+TERMS = r"computed as far as they go, the two sides are `([^`]*)`\s*\(left\) and `([^`]*)`\s*\(right\)"
 # how an error names two types, and what it calls them
 MISMATCHES = [
     (r"expected type `([^`]*)`\s*,?\s*but this has type `([^`]*)`", ("expected", "found")),
@@ -155,7 +155,7 @@ def false_fact(error, contract):
     names = relations(error, contract)
     if names and names[0] != names[1] and set(names) <= RELATIONS:
         return names == ["<", "≤"]
-    terms = [pair for pair in re.findall(DIFFER, error, re.S) + re.findall(SIDES, error, re.S) if not any(RELATIONS & set(relation(term).split()) for term in pair)]
+    terms = [pair for pair in re.findall(DIFFER, error, re.S) + re.findall(TERMS, error, re.S) if not any(RELATIONS & set(relation(term).split()) for term in pair)]
     if terms:
         return all(one.replace(".before", "").strip() != other.replace(".before", "").strip() for one, other in terms)
     return bool(names) and names[0] == names[1] and known(names[0])
@@ -271,13 +271,12 @@ def record(edits):
 
 # First errors in the prover's words, shortened, that show a false fact
 FACT_SAMPLES = [
-    "`too-long`: computed as a goal is, one side reads `length c.args.prefix.now - 1`\n  (left)\n  computed as far as they go, the two sides are `length c.args.prefix.now - 1`\n"
-    "  (left) and `length c.args.prefix.now` (right)\n  `get 13 (..)`\n  ≟ `length (..)`\n  does not hold (this comparison had to wait)",
     "`write`: `search`: no proof of `◌≡◌ (set c.args.t.now ..)`\n  was found. `grind`: the goal does not follow. The hypotheses hold, and the goal fails at `c.args.at` = `0`",
     "`field-requires`: `search`: no proof of `FieldIn c.args.t.now 3`\n  was found. It stopped 5 lemmas deep, with lemmas still to try. `grind` stopped at its own limit. In its own words: `omega`: the goal does not "
     "follow from what it read. All of that holds, and the goal fails, at `c.args.size` = 0",
     "`empty`: expected type `total no-bytes-tree 0 ≡ 0`, but this has type `total no-bytes-tree 0 ≡ total no-bytes-tree 0`\n"
     "  computed as far as they go, the two types are `Path ℕ 1 0` (expected) and `Path ℕ 1 1` (found)",
+    "`long`: computed as far as they go, the two sides are `length c.before.args.prefix.now - 1`\n  (left) and `length c.before.args.prefix.now` (right)",
     "`mask`: as printed, the two types differ only where one has `8` (expected), right after `… c.args.t.now (c.args.at +`\n  and the other has `7` (found)",
     "it is not proved that what the function ensures holds when it returns (`returns`); the facts known there allow values at which this goal is false",
     "`of-length-spec`: `omega`: the goal does not follow from what it read. All of that holds, and the goal fails, at `(c.before.args.n)`\n  = 1, ..",
@@ -303,7 +302,7 @@ FACT_SAMPLES = [
 ]
 # First errors that a right program would get too, or that show nothing
 FORM_SAMPLES = [
-    "`copy`: computed as far as they go, the two sides are `c.before.loop.i` (left) and `c.before.before.loop.i` (right)\n  `get 1 (..)`\n  ≟ `get 2 (..)`\n  does not hold",
+    "`long`: computed as far as they go, the two sides are `length c.before.args.prefix.now`\n  (left) and `length c.before.before.args.prefix.now` (right)",
     "`field-requires`: `search`: no proof of `FieldIn c.args.t.now 3`\n  was found. It stopped 5 lemmas deep, with lemmas still to try (`depth n` at the end of the call sets that bound)",
     "`field-requires`: `grind` stopped at its own limit of instances of lemmas, so the goal may hold. By the facts that it had used, the goal fails at `x` = `0`",
     "`more`: `Rattle.a.specs.RunCopied s.args.0.now …`\n  ≟ `Rattle.a.specs.SpanCopied s.args.0.now …`\n  does not hold (it had to wait)",
