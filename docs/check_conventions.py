@@ -3,7 +3,7 @@
 
     docs/check_conventions.py
 
-No line over 160 characters; a module's name in one crate only; crates.txt has each crate after all that it depends on, and a crate lists those that it names and no
+No line over 160 characters, but for those that docs/long_lines.txt counts in older files; a module's name in one crate only; crates.txt has each crate after all that it depends on, and a crate lists those that it names and no
 other, unless a comment above it says why; each function of the header is exported by abi_c, with the signature and the clauses of abi's. Needs python3 and nothing
 else."""
 
@@ -21,10 +21,13 @@ def sources(folder):
 
 
 def long_lines():
+    """The lines of over 160 characters of a file that has more of them than docs/long_lines.txt allows it."""
+    allowed = dict(line.rsplit(": ", 1) for line in (ROOT / "docs/long_lines.txt").read_text().splitlines())
     for path in sources(CRATES):
-        for number, line in enumerate(path.read_text().splitlines(), 1):
-            if len(line) > 160:
-                yield f"{path.relative_to(ROOT)}:{number}: {len(line)} characters"
+        name = str(path.relative_to(ROOT))
+        found = [(number, len(line)) for number, line in enumerate(path.read_text().splitlines(), 1) if len(line) > 160]
+        if len(found) > int(allowed.get(name, 0)):
+            yield from (f"{name}:{number}: {length} characters" for number, length in found)
 
 
 def names_twice():
