@@ -4,3 +4,4 @@ pub mod SelectedRowNumbers
 pub mod SelectedRowLaws
 pub mod RowAutomaton
 pub mod RowAutomatonLaws
+pub mod RowScans
