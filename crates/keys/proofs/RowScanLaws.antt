@@ -1,7 +1,7 @@
 -- A part of the text scanned byte by byte, or row by row.
 use mathlib.Core.List.{List, ◌∷◌}
 use mathlib.Core.Bool.{Bool, true, false}
-use mathlib.Core.Path.{◌≡◌, refl, sym, ap, ◌∙◌}
+use mathlib.Core.Path.{◌≡◌, refl, ap, ◌∙◌}
 use Prim.Native.Nat.{ℕ, zero, suc, ◌+◌, ◌-◌, ◌/◌, ◌≤◌, ◌<◌}
 use native.Mathlib.Omega.{arith}
 use native.Mathlib.Numerals.{add-one}
@@ -10,29 +10,19 @@ use lib.Seq.{drop-cons}
 use Rattle.text.specs.ListLaws.{bool_clash}
 use Rattle.text.specs.Text.{substring}
 use Rattle.text.specs.TextLaws.{length-substring, get_or-substring}
-use Rattle.text.specs.RowLaws.{trimmed}
 use Rattle.text.proofs.RowTheorems.{trimmed-none, trimmed-mark, trimmed-plain}
 use Rattle.search_byte.specs.FirstByte.{Without}
-use Rattle.row_filter.specs.RowAutomaton.{Automaton, Scan, found, on, RowBetween, run_from, scan_byte, scan_bytes}
-use Rattle.row_filter.specs.RowAutomatonLaws.{byte_step, byte_next, scan-on, scan-found, on-next, found-next}
+use Rattle.row_filter.specs.RowAutomaton.{Automaton, run_from, scan_bytes}
+use Rattle.row_filter.specs.declared.ScanStep.TheVariants as step
+use Rattle.row_filter.specs.RowScans.{IsStep}
+use Rattle.row_filter.specs.RowAutomatonLaws.{byte_step, byte_next, scan-on}
 use Rattle.keys.specs.declared.key_state.KeyState.{KeyState}
 use Rattle.keys.specs.declared.key_state.KeyState.TheVariants.{Code}
-use Rattle.keys.specs.declared.row_scan.RowScanAnswer.{RowScanAnswer}
-use Rattle.keys.specs.declared.row_scan.RowScanAnswer.TheVariants.{Found, On}
-use Rattle.keys.specs.declared.row_scan.Turned.{Turned}
-use Rattle.keys.specs.declared.row_scan.Turned.TheVariants as turned
 use Rattle.keys.specs.Keys.{cut_count}
-use Rattle.keys.specs.KeyStates.{cut_fits, is_done, is_whole, is_none, key_automaton}
-use Rattle.keys.specs.RowScanned.{as_scan, BytesEnd, Misfit, CutsFit, MayMatch, RowPassed, TurnedOn}
+use Rattle.keys.specs.KeyStates.{cut_fits, is_whole, is_none, key_automaton}
+use Rattle.keys.specs.RowScanned.{BytesEnd, Misfit, CutsFit, MayMatch, RowPassed}
 use Rattle.keys.proofs.FormLaws.{none_read}
 use Rattle.keys.proofs.RowKeyStates.{done-whole, too_short, not-fitting}
-
-module _ (r : RowScanAnswer) (n : ℕ) where
-  pub as-found : (y : Scan KeyState) → r ≡ Found n → as_scan r ≡ y → found n ≡ y
-  as-found y e f = rw e at f
-
-  pub as-on : (form : KeyState) (y : Scan KeyState) → r ≡ On form n → as_scan r ≡ y → on form n ≡ y
-  as-on form y e f = rw e at f
 
 -- The end of a row's bytes.
 module _ (part : List ℕ) (from end : ℕ) (within : end ≤ length part) where
@@ -132,29 +122,6 @@ module _ (ranges part : List ℕ) (from : ℕ) where
   }
 
 -- From a place on.
-module _ (ranges part : List ℕ) (form : KeyState) (row i : ℕ) (h : i < length part) where
-  pub turned-past : (past : ℕ) → is_none form ≡ true → RowPassed ranges part i past → i < past
-      → TurnedOn ranges part form row i (turned.On (Code 0) (row + 1) past)
-  turned-past past none p l = (l, p.high, omega arith, omega arith, rw (none_read form none) (p.scans l row))
-
-  module _ (x : RowScanAnswer) (x-is : as_scan x ≡ scan_byte (key_automaton ranges) form row (get_or part i 0)) where
-    pub turned-found : (n : ℕ) → x ≡ Found n → TurnedOn ranges part form row i (turned.Found n)
-    turned-found n e =
-        let f = as-found x n _ e x-is in
-        let b = found-next (key_automaton ranges) form row (get_or part i 0) n f in
-        (b.0, b.1, scan-found (key_automaton ranges) part i h form row n f)
-
-    pub turned_on : (f : KeyState) (n : ℕ) → x ≡ On f n → TurnedOn ranges part form row i (turned.On f n (i + 1))
-    turned_on f n e =
-        let g = as-on x n f _ e x-is in
-        let b = on-next (key_automaton ranges) form row (get_or part i 0) f n g in
-        (omega arith, omega arith, b.0, b.1, scan-on (key_automaton ranges) part i h form row f n g)
-
--- What was returned.
-module _ (ranges part : List ℕ) (form : KeyState) (row i : ℕ) (x : Turned) (x-is : TurnedOn ranges part form row i x) where
-  pub found-there : (n : ℕ) → x ≡ turned.Found n → (row ≤ n) × (n ≤ row + 1) × (found n ≡ scan_bytes (key_automaton ranges) (drop i part) form row)
-  found-there n e = rw e at x-is
-
-  pub goes_on : (f : KeyState) (n p : ℕ) → x ≡ turned.On f n p → (i < p) × (p ≤ length part) × (row ≤ n) × (n ≤ row + 1)
-      × (scan_bytes (key_automaton ranges) (drop p part) f n ≡ scan_bytes (key_automaton ranges) (drop i part) form row)
-  goes_on f n p e = rw e at x-is
+pub step-past : (ranges part : List ℕ) (form : KeyState) (row i past : ℕ) → is_none form ≡ true → RowPassed ranges part i past → i < past
+    → IsStep (key_automaton ranges) part form row i (step.On (Code 0) (row + 1) past)
+step-past ranges part form row i past none p l = (l, p.high, omega arith, omega arith, rw (none_read form none) (p.scans l row))

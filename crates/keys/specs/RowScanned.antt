@@ -2,19 +2,10 @@
 use Rattle.std.specs.Prelude.{List, Bool, false, ◌≡◌, ℕ, ◌+◌, ◌-◌, ◌≤◌, ◌<◌, length, get_or, drop}
 use Rattle.text.specs.Text.{substring}
 use Rattle.text.specs.RowLaws.{trimmed}
-use Rattle.row_filter.specs.RowAutomaton.{Scan, found, on, run_from, scan_bytes}
-use Rattle.keys.specs.declared.key_state.KeyState.{KeyState}
+use Rattle.row_filter.specs.RowAutomaton.{run_from, scan_bytes}
 use Rattle.keys.specs.declared.key_state.KeyState.TheVariants.{Code}
-use Rattle.keys.specs.declared.row_scan.RowScanAnswer.{RowScanAnswer}
-use Rattle.keys.specs.declared.row_scan.RowScanAnswer.TheVariants.{Found, On}
-use Rattle.keys.specs.declared.row_scan.Turned.{Turned}
-use Rattle.keys.specs.declared.row_scan.Turned.TheVariants as turned
 use Rattle.keys.specs.Keys.{cut_count}
 use Rattle.keys.specs.KeyStates.{cut_fits, is_done, key_automaton}
-
-abbrev pub as_scan : RowScanAnswer → Scan KeyState
-as_scan (Found q) = found q
-as_scan (On form q) = on form q
 
 -- The row's bytes before the newline at `end` go up to r.
 pub record BytesEnd (part : List ℕ) (from end r : ℕ) : Type 0 where
@@ -40,11 +31,3 @@ pub record RowPassed (ranges part : List ℕ) (from r : ℕ) : Type 0 where
   pub low : from ≤ r
   pub high : r ≤ length part
   pub scans : from < r → (q : ℕ) → scan_bytes (key_automaton ranges) (drop r part) (Code 0) (q + 1) ≡ scan_bytes (key_automaton ranges) (drop from part) (Code 0) q
-
--- The scan from place i goes on as the one that is returned.
-abbrev pub TurnedOn : List ℕ → List ℕ → KeyState → ℕ → ℕ → Turned → Type 0
-TurnedOn ranges part form row i (turned.Found n) =
-    (row ≤ n) × (n ≤ row + 1) × (found n ≡ scan_bytes (key_automaton ranges) (drop i part) form row)
-TurnedOn ranges part form row i (turned.On f n p) =
-    (i < p) × (p ≤ length part) × (row ≤ n) × (n ≤ row + 1)
-    × (scan_bytes (key_automaton ranges) (drop p part) f n ≡ scan_bytes (key_automaton ranges) (drop i part) form row)

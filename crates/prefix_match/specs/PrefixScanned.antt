@@ -1,15 +1,8 @@
--- The scan of the code as the scan of the definitions.
+-- The bytes that a scan passes over.
 use Rattle.std.specs.Prelude.{List, false, ◌≡◌, ℕ, ◌-◌, ◌<◌}
 use Rattle.search_byte.specs.FirstByte.{Without}
-use Rattle.row_filter.specs.RowAutomaton.{Scan, found, on}
 use Rattle.prefix_match.specs.declared.prefix_state.PrefixState.{PrefixState}
-use Rattle.prefix_match.specs.declared.prefix_scan.PrefixScan.{PrefixScan}
 use Rattle.prefix_match.specs.PrefixStates.{is_open}
-use Rattle.prefix_match.specs.declared.prefix_scan.PrefixScan.TheVariants.{Found, On}
-
-abbrev pub as_prefix_scan : PrefixScan → Scan PrefixState
-as_prefix_scan (Found q) = found q
-as_prefix_scan (On state q) = on state q
 
 -- The bytes from a place up to r are passed over: none unless no byte but 10 changes the state, and none of them is 10.
 pub record Passed (part : List ℕ) (from : ℕ) (state : PrefixState) (r : ℕ) : Type 0 where

@@ -1,31 +1,18 @@
 // Scans bytes of a text for a row that starts with a prefix.
 ghost use Rattle.std.specs.Prelude.{◌≡◌, ◌+◌, ◌≤◌, ◌<◌, length};
-ghost use Rattle.row_filter.specs.RowAutomaton.{scan_byte, scan_bytes, RowBetween};
 ghost use Rattle.prefix_match.specs.PrefixStates.{prefix_automaton};
-ghost use Rattle.prefix_match.specs.PrefixScanned.{as_prefix_scan, Passed};
+ghost use Rattle.prefix_match.specs.PrefixScanned.{Passed};
 
 use crate::prefix_state;
 use crate::prefix_state::PrefixState;
+use row_filter::{RowAutomaton, RowScanner, ScanStep};
 
-// Found: the first row that ends in the scanned bytes and starts with the prefix. On: none; the state and number of the row in which these bytes end.
+// A prefix of at least one byte.
 #[derive(Clone, Copy)]
-pub enum PrefixScan {
-    Found(u32),
-    On(PrefixState, u32),
-}
-
-// Scans one byte.
-fn scan_byte(prefix: &[u8], state: PrefixState, row: u32, byte: u8) -> PrefixScan
-    requires { (1 ≤ length prefix.now) × (length prefix.now < 4294967296) × (row + 1 < 4294967296) }
-    ensures { as_prefix_scan result ≡ scan_byte (prefix_automaton prefix.now) state row byte }
-{
-    if byte == 10 {
-        if prefix_state::at_newline(prefix, state) {
-            return PrefixScan::Found(row);
-        }
-        return PrefixScan::On(PrefixState::Matched(0), row + 1);
-    }
-    PrefixScan::On(prefix_state::step(prefix, state, byte), row)
+pub struct Prefix<'a> {
+    pub bytes: &'a [u8],
+    ghost some: { 1 ≤ length bytes.now },
+    ghost few: { length bytes.now < 4294967296 },
 }
 
 // The next place, from a place on, whose byte may matter: in a state that no byte but 10 changes, that of the next byte 10.
@@ -39,23 +26,38 @@ fn next_place(part: &[u8], from: usize, state: PrefixState) -> usize
     from + search_byte::find(part, from, part.len() - from, 10)
 }
 
-// Scans bytes, from a state in the row with this number.
-pub fn scan(prefix: &[u8], part: &[u8], state: PrefixState, row: u32) -> PrefixScan
-    requires { (1 ≤ length prefix.now) × (length prefix.now < 4294967296) × (row + length part.now < 4294967296) }
-    ensures { (as_prefix_scan result ≡ scan_bytes (prefix_automaton prefix.now) part.now state row)
-        × (RowBetween row (length part.now) (as_prefix_scan result)) }
-{
-    let mut so_far = state;
-    let mut q = row;
-    let mut i = 0;
-    while i < part.len() {
-        let next = scan_byte(prefix, so_far, q, part[i]);
-        let PrefixScan::On(after, number) = next else {
-            return next;
-        };
-        so_far = after;
-        q = number;
-        i = next_place(part, i + 1, after);
+impl<'a> RowAutomaton for Prefix<'a> {
+    type State = PrefixState;
+
+    ghost automaton = { λ s. prefix_automaton s.bytes.now };
+
+    fn start(self) -> PrefixState {
+        PrefixState::Matched(0)
     }
-    PrefixScan::On(so_far, q)
+
+    fn step(self, state: PrefixState, byte: u8) -> PrefixState {
+        prefix_state::step(self.bytes, state, byte)
+    }
+
+    fn at_end(self, state: PrefixState) -> bool {
+        prefix_state::at_end(self.bytes, state)
+    }
+
+    fn at_newline(self, state: PrefixState) -> bool {
+        prefix_state::at_newline(self.bytes, state)
+    }
+
+    fn no_byte(self, state: PrefixState) -> bool {
+        prefix_state::no_byte(state)
+    }
+}
+
+impl<'a> RowScanner for Prefix<'a> {
+    // One byte, and those after it up to the next one that may change the state.
+    fn advance(self, part: &[u8], state: PrefixState, row: u32, i: usize) -> ScanStep<PrefixState> {
+        match row_filter::one_byte(self, part, state, row, i) {
+            ScanStep::Found(q) => ScanStep::Found(q),
+            ScanStep::On(after, q, place) => ScanStep::On(after, q, next_place(part, place, after)),
+        }
+    }
 }

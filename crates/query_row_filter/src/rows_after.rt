@@ -4,7 +4,7 @@ ghost use Rattle.std.specs.Prelude.{◌≡◌, true, ◌+◌, ◌≤◌, ◌<◌
 ghost use Rattle.format.specs.Answers.{is_counted, number_of_byte, total};
 ghost use Rattle.layout.specs.HeaderFields.{HeaderOf};
 ghost use Rattle.query_rows.specs.RowSpans.{settled_by};
-ghost use Rattle.query_row_filter.specs.RowsAfter.{FilterStartIs, BeginIs, PartFrom, answer_of, end_result, limited};
+ghost use Rattle.query_row_filter.specs.RowsAfter.{FilterStartIs, BeginIs, PartFrom, SearchFrom, answer_of, end_result, limited};
 
 use crate::NextRowAnswer;
 use layout::header::Header;
@@ -13,6 +13,7 @@ use query_access::read_by_header;
 use query_access::read_by_header::RunRangeAnswer;
 use query_rows::row_bounds;
 use query_select::FindAnswer;
+use row_filter::{RowScan, RowScanner};
 
 // The most bytes that are read at once: a selected row is often near.
 const MOST: u32 = 1024;
@@ -48,15 +49,51 @@ pub fn begin(t: &[u8], h: Header, guide: &[u8], used: bool, mark: u32) -> RowsSt
 }
 
 // The bytes of the text from a place on that are scanned next, as a range of the tree's bytes.
-pub fn next_part(t: &[u8], h: Header, at: u32) -> RunRangeAnswer
+fn next_part(t: &[u8], h: Header, at: u32) -> RunRangeAnswer
     requires { (HeaderOf t.now h) × (at < h.text_length) }
     ensures { PartFrom t.now at result }
 {
     read_by_header::range_at(t, h, TextPlace(at), MOST)
 }
 
+// Scans the text from the place where row q begins, by ranges of leaf bytes.
+pub fn search<A: RowScanner>(
+    t: &[u8],
+    h: Header,
+    automaton: A,
+    place: TextPlace,
+    q: u32,
+) -> NextRowAnswer
+    requires { (HeaderOf t.now h) × (place.0 ≤ h.text_length) × (1 ≤ q) × (q ≤ h.text_length) }
+    ensures { SearchFrom t.now (A.automaton automaton) place.0 q result }
+{
+    let mut so_far = automaton.start();
+    let mut row = q;
+    let mut at = place.0;
+    // A `while`: the length of the next part is found in the loop, so there is no range to go over.
+    while at < h.text_length {
+        let range = next_part(t, h, at);
+        let RunRangeAnswer::At(part) = range else {
+            return NextRowAnswer::Refused(14);
+        };
+        let begin = part.from;
+        let end = begin + part.length;
+        match row_filter::scan(automaton, &t[begin..end], so_far, row) {
+            RowScan::Found(number) => {
+                return NextRowAnswer::Row(number);
+            }
+            RowScan::On(state, number) => {
+                so_far = state;
+                row = number;
+            }
+        }
+        at += part.length as u32;
+    }
+    end_of_text(automaton.at_end(so_far), automaton.no_byte(so_far), row)
+}
+
 // The answer where the text ends in row q, which is selected or not, and empty or not: a row without a byte does not count.
-pub fn end_of_text(selected: bool, empty: bool, q: u32) -> NextRowAnswer
+fn end_of_text(selected: bool, empty: bool, q: u32) -> NextRowAnswer
     requires { 1 ≤ q }
     ensures { result ≡ answer_of (end_result selected empty q) }
 {

@@ -75,6 +75,23 @@ pub fn scan_byte<A: RowAutomaton>(
     RowScan::On(automaton.start(), row + 1)
 }
 
+// Scans the byte at a place of a part, as a step of the scan.
+pub fn one_byte<A: RowAutomaton>(
+    automaton: A,
+    part: &[u8],
+    state: A::State,
+    row: u32,
+    i: usize,
+) -> ScanStep<A::State>
+    requires { (row + 1 < 4294967296) × (i < length part.now) }
+    ensures { IsStep (A.automaton automaton) part.now state row i result }
+{
+    match scan_byte(automaton, state, row, part[i]) {
+        RowScan::Found(number) => ScanStep::Found(number),
+        RowScan::On(after, number) => ScanStep::On(after, number, i + 1),
+    }
+}
+
 // Scans a part of a text, from a state in the row with this number.
 pub fn scan<A: RowScanner>(
     automaton: A,

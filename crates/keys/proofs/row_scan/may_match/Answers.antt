@@ -8,9 +8,6 @@ bytes_end-last-requires c = (c.requires.0, c.requires.1)
 pub overflow_sub-last : goal.overflow_sub-last
 overflow_sub-last c = omega (arith, c.bytes_end-last.ensures.low)
 
-pub overflow_add-cuts : goal.overflow_add-cuts
-overflow_add-cuts c = omega (arith, c.requires.2)
-
 pub returns-then-last-from : goal.returns-then-last-from
 returns-then-last-from c = laws.may-not-short _ _ _ _ _ c.requires.1 c.bytes_end-last.ensures c.if-last-from.true
 

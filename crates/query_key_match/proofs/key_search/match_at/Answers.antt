@@ -26,11 +26,10 @@ pub overflow_add-mark : goal.overflow_add-mark
 unfolding settled_by
 overflow_add-mark c = omega (arith, (c.begin-start.ensures.begins_at _ _ c.in-At.is).mark_low, c.requires.length_is, c.requires.facts.bounds.text_high)
 
-pub from-requires : goal.from-requires
+pub search-requires : goal.search-requires
 unfolding settled_by
-from-requires c = let at = c.begin-start.ensures.begins_at _ _ c.in-At.is in (
+search-requires c = let at = c.begin-start.ensures.begins_at _ _ c.in-At.is in (
   c.requires,
-  sym c.are_ranges.ensures ∙ not-false _ c.if-not-are_ranges.false-raw,
   omega (arith, at.place-in, c.requires.length_is),
   omega arith,
   omega (arith, at.mark_low, c.requires.length_is),
@@ -45,7 +44,7 @@ unfolding settled_by
 returns-in-At c = let ok = sym c.are_ranges.ensures ∙ not-false _ c.if-not-are_ranges.false-raw in
     let at = c.begin-start.ensures.begins_at _ _ c.in-At.is in
     rw c.limit.ensures (match-good _ _ _ c.requires.passes ok _
-    (answer-found (key_automaton c.args.question.now) (matches c.args.question.now) (reads c.args.question.now ok) _ _ _ _ _ (λ v. v) at _ c.from.ensures))
+    (answer-found (key_automaton c.args.question.now) (matches c.args.question.now) (reads c.args.question.now ok) _ _ _ _ _ (λ v. v) at _ c.search.ensures))
 
 pub returns-in-Answered : goal.returns-in-Answered
 unfolding settled_by

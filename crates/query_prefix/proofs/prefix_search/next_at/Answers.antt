@@ -16,11 +16,9 @@ returns-then-prefix-gt-MAX_PATTERN c = prefix-long _ _ _ _ c.requires.passes c.i
 pub overflow_add-mark : goal.overflow_add-mark
 overflow_add-mark c = omega (arith, (c.begin-start.ensures.begins_at _ _ c.in-At.is).mark_low, c.requires.length_is, c.requires.facts.bounds.text_high)
 
-pub from-requires : goal.from-requires
-from-requires c = let at = c.begin-start.ensures.begins_at _ _ c.in-At.is in (
+pub search-requires : goal.search-requires
+search-requires c = let at = c.begin-start.ensures.begins_at _ _ c.in-At.is in (
   c.requires,
-  c.if-prefix-lt1.false,
-  c.if-prefix-gt-MAX_PATTERN.false,
   omega (arith, at.place-in, c.requires.length_is),
   omega arith,
   omega (arith, at.mark_low, c.requires.length_is),
@@ -30,7 +28,7 @@ pub returns-in-At : goal.returns-in-At
 returns-in-At c = let at = c.begin-start.ensures.begins_at _ _ c.in-At.is in
     rw c.limit.ensures (prefix-good _ _ _ _ c.requires.passes c.if-prefix-lt1.false c.if-prefix-gt-MAX_PATTERN.false _
     (answer-found (prefix_automaton c.args.prefix.now) (starts_with c.args.prefix.now) (recognizes c.args.prefix.now c.if-prefix-lt1.false) _ _ _ _ _ (settled-sound _ _ _) at
-    _ c.from.ensures))
+    _ c.search.ensures))
 
 pub returns-in-Answered : goal.returns-in-Answered
 returns-in-Answered c = prefix-good _ _ _ _ c.requires.passes c.if-prefix-lt1.false c.if-prefix-gt-MAX_PATTERN.false _
