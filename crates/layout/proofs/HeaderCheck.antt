@@ -15,8 +15,9 @@ use Rattle.layout.specs.CheckedSettings.{sizes}
 use Rattle.format.specs.Layout as at
 use Rattle.format.specs.SizeLaws.{within-bounds}
 use Rattle.layout.specs.declared.settings.Settings.{Settings}
-use Rattle.layout.specs.declared.settings.SettingsAnswer.{SettingsAnswer}
-use Rattle.layout.specs.declared.settings.SettingsAnswer.TheVariants.{Fine, Refused}
+use Rattle.std.specs.Prelude.{Result, Ok, Err}
+use Rattle.refusals.specs.declared.Refusal.{Refusal}
+use Rattle.refusals.specs.declared.Refusal.TheVariants.{SettingsOutOfBounds, CountedBytesWrong, HeaderWrong}
 use Rattle.layout.specs.CheckedSettings as given
 use Rattle.layout.specs.Header.{settings_of, settings_answer, is_start_right, follows, tables_meet, rest_right, spare_counted, spare_levels, HasSettings}
 
@@ -76,7 +77,7 @@ pub settings_are : (t : List ℕ) (s : Settings) → HasSettings t s → s ≡ s
 settings_are t s h = λ i. record { leaf = h.leaf_is i; arity = h.arity_is i; levels = h.levels_is i; counted = h.counted_is i }
 
 -- A header whose first conditions fail has no settings.
-pub wrong : (t : List ℕ) → false ≡ is_start_right t → Refused 7 ≡ settings_answer t
+pub wrong : (t : List ℕ) → false ≡ is_start_right t → Err HeaderWrong ≡ settings_answer t
 unfolding settings_answer
 wrong t e = rw (← e)
 
@@ -101,21 +102,21 @@ counted-part t k e h =
     rw (z, ← e) (sym (take-take k max_counted (drop counted_at t) h))
 
 -- The result of the constructor of checked settings.
-fine-sizes : (s : Settings) (a b : Bool) (r : Settings) → Fine s ≡ cond a (cond b (Fine r) (Refused 3)) (Refused 2) → a ≡ true
+fine-sizes : (s : Settings) (a b : Bool) (r : Settings) → Ok s ≡ cond a (cond b (Ok r) (Err CountedBytesWrong)) (Err SettingsOutOfBounds) → a ≡ true
 fine-sizes s true b r e = refl
 fine-sizes s false b r e = absurd (let z : ◌≡◌ {A = ℕ} 0 1 = cc in omega arith)
 
-fine-counted : (s : Settings) (a b : Bool) (r : Settings) → Fine s ≡ cond a (cond b (Fine r) (Refused 3)) (Refused 2) → b ≡ true
+fine-counted : (s : Settings) (a b : Bool) (r : Settings) → Ok s ≡ cond a (cond b (Ok r) (Err CountedBytesWrong)) (Err SettingsOutOfBounds) → b ≡ true
 fine-counted s true true r e = refl
 fine-counted s true false r e = absurd (let z : ◌≡◌ {A = ℕ} 0 1 = cc in omega arith)
 fine-counted s false b r e = absurd (let z : ◌≡◌ {A = ℕ} 0 1 = cc in omega arith)
 
-fine-is : (s : Settings) (a b : Bool) (r : Settings) → Fine s ≡ cond a (cond b (Fine r) (Refused 3)) (Refused 2) → s ≡ r
+fine-is : (s : Settings) (a b : Bool) (r : Settings) → Ok s ≡ cond a (cond b (Ok r) (Err CountedBytesWrong)) (Err SettingsOutOfBounds) → s ≡ r
 fine-is s true true r e = cc
 fine-is s true false r e = cc
 fine-is s false b r e = cc
 
-refused-is : (q : ℕ) (a b : Bool) (r : Settings) → Refused q ≡ cond a (cond b (Fine r) (Refused 3)) (Refused 2) → (a ≡ false) ⊎ (b ≡ false)
+refused-is : (q : Refusal) (a b : Bool) (r : Settings) → Err q ≡ cond a (cond b (Ok r) (Err CountedBytesWrong)) (Err SettingsOutOfBounds) → (a ≡ false) ⊎ (b ≡ false)
 refused-is q true true r e = absurd (let z : ◌≡◌ {A = ℕ} 0 1 = cc in omega arith)
 refused-is q true false r e = inr refl
 refused-is q false b r e = inl refl
@@ -158,13 +159,13 @@ module _ (t : List ℕ) (m r H k : ℕ)
     header-counted : at.counted_ok part ≡ false → false ≡ is_start_right t
     header-counted p = seven-counted t (both-here false p)
 
-    pub header_refused : (q : ℕ) (x : SettingsAnswer) → x ≡ given.checked m r H part → x ≡ Refused q → false ≡ is_start_right t
+    pub header_refused : (q : Refusal) (x : Result Settings Refusal) → x ≡ given.checked m r H part → x ≡ Err q → false ≡ is_start_right t
     unfolding given.checked
     header_refused q x e f = ⊎_elim header-sizes header-counted (refused-is q sizes_fit (at.counted_ok part) there (sym f ∙ e))
 
     module _ (n : ℕ) (n-is : n ≡ word_at t text_length_at)
-        (high : n ≤ max_text) (s : Settings) (x : SettingsAnswer) (x-is : x ≡ given.checked m r H part) (is : x ≡ Fine s) where
-      fine : Fine s ≡ cond sizes_fit (cond (at.counted_ok part) (Fine there) (Refused 3)) (Refused 2)
+        (high : n ≤ max_text) (s : Settings) (x : Result Settings Refusal) (x-is : x ≡ given.checked m r H part) (is : x ≡ Ok s) where
+      fine : Ok s ≡ cond sizes_fit (cond (at.counted_ok part) (Ok there) (Err CountedBytesWrong)) (Err SettingsOutOfBounds)
       unfolding given.checked
       fine = sym is ∙ x-is
 
@@ -188,6 +189,6 @@ module _ (t : List ℕ) (m r H k : ℕ)
             bounds = rw (← n-is) (within-bounds n (length part) (sizes m r H) high fit (rw size few));
           })
 
-      pub settings-fine : header_length ≤ length t → Fine s ≡ settings_answer t
+      pub settings-fine : header_length ≤ length t → Ok s ≡ settings_answer t
       unfolding settings_answer
       settings-fine long = rw (start_right, settings_are t s (has-settings long))

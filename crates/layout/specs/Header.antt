@@ -1,18 +1,14 @@
 -- The result of reading a header, and the parts of question 7 as the code tests them.
-use Rattle.std.specs.Prelude.{List, Bool, cond, ◌&&◌, ◌≡◌, ℕ, zero, suc, ◌+◌, ◌-◌, ◌*◌, ◌≤◌, length, get_or, eqb, leb}
+use Rattle.std.specs.Prelude.{List, Bool, cond, ◌&&◌, ◌≡◌, ℕ, ◌+◌, ◌-◌, ◌*◌, ◌≤◌, length, get_or, eqb, leb, Result, Ok, Err}
+use Rattle.refusals.specs.declared.Refusal.{Refusal}
+use Rattle.refusals.specs.declared.Refusal.TheVariants.{TreeTooShort, UnknownLayout, HeaderWrong}
 use Rattle.text.specs.Text.{all_below, sum_below}
 use Rattle.format.specs.Layout.{word_at, pieces, max_levels, max_counted}
 use Rattle.format.specs.Layout.{layout_at, text_length_at, leaf_at, arity_at, levels_at, counted_count_at, counted_at, leaf_offset_at, leaf_count_at, header_length}
 use Rattle.format.specs.SizeLaws.{Bounds}
 use Rattle.format.specs.Layout as at
-use Rattle.format.specs.TreeReading.{header_result}
 use Rattle.layout.specs.declared.settings.Settings.{Settings}
-use Rattle.layout.specs.declared.settings.SettingsAnswer.{SettingsAnswer}
-use Rattle.layout.specs.declared.settings.SettingsAnswer.TheVariants as settings
-use Rattle.layout.specs.declared.settings.SettingsAnswer.TheVariants.{Fine}
 use Rattle.layout.specs.declared.header.Header.{Header}
-use Rattle.layout.specs.declared.header.HeaderAnswer.{HeaderAnswer}
-use Rattle.layout.specs.declared.header.HeaderAnswer.TheVariants.{Good, Refused}
 
 -- The settings in the words of the header.
 abbrev pub settings_of : List ℕ → Settings
@@ -25,8 +21,8 @@ is_start_right t =
     && (leb (at.counted_count t) max_counted && at.counted_ok (at.settings t).counted)
 
 -- The settings, if these conditions hold.
-unfoldable pub settings_answer : List ℕ → SettingsAnswer
-settings_answer t = cond (is_start_right t) (Fine (settings_of t)) (settings.Refused 7)
+unfoldable pub settings_answer : List ℕ → Result Settings Refusal
+settings_answer t = cond (is_start_right t) (Ok (settings_of t)) (Err HeaderWrong)
 
 -- The words of the header, and the lengths of a level 0 block and of a record.
 abbrev pub fields_of : List ℕ → Header
@@ -40,13 +36,12 @@ fields_of t = record {
   record_size = at.record_size t;
 }
 
--- The header, or the refusal.
-abbrev pub good_unless : ℕ → Header → HeaderAnswer
-good_unless zero h = Good h
-good_unless (suc q) h = Refused (suc q)
-
-unfoldable pub header_answer : List ℕ → HeaderAnswer
-header_answer t = good_unless (header_result t) (fields_of t)
+-- The header, or the refusal of the first of the questions 5 to 7 that fails.
+unfoldable pub header_answer : List ℕ → Result Header Refusal
+header_answer t =
+    cond (at.holds_header t)
+    (cond (at.layout_ok t) (cond (at.is_header_ok t) (Ok (fields_of t)) (Err HeaderWrong)) (Err UnknownLayout))
+    (Err TreeTooShort)
 
 module _ (t : List ℕ) where
   -- The unused places for counted bytes are zero.

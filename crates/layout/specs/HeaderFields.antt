@@ -1,5 +1,5 @@
 -- The result of reading a header: the header of a tree that passes questions 5 to 7, or the refusal that every call returns.
-use Rattle.std.specs.Prelude.{List, Bool, true, false, ◌≡◌, refl, ℕ, zero, suc, ◌-◌, ◌*◌, ◌^◌, ◌≤◌, ◌<◌}
+use Rattle.std.specs.Prelude.{List, Bool, true, false, cond, ◌≡◌, refl, ℕ, suc, ◌-◌, ◌*◌, ◌^◌, ◌≤◌, ◌<◌, Result, Ok, Err}
 use Rattle.std.proofs.Common.{sym, ap, ◌∙◌, arith}
 use Rattle.format.specs.Layout.{block_length}
 use Rattle.format.specs.SizeLaws.{sizes-alone}
@@ -7,10 +7,11 @@ use Rattle.format.specs.Layout as at
 use Rattle.format.specs.TreeReading.{ask, header_result}
 use Rattle.format.specs.LayoutLaws.{Readable, header-facts}
 use Rattle.layout.specs.declared.header.Header.{Header}
-use Rattle.layout.specs.declared.header.HeaderAnswer.{HeaderAnswer}
-use Rattle.layout.specs.declared.header.HeaderAnswer.TheVariants.{Good, Refused}
+use Rattle.refusals.specs.declared.Refusal.{Refusal}
+use Rattle.refusals.specs.declared.Refusal.TheVariants.{TreeTooShort, UnknownLayout, HeaderWrong}
+use Rattle.refusals.specs.Refusals.{refusal_number}
 use Rattle.layout.specs.SettingsLevel.{Sized}
-use Rattle.layout.specs.Header.{fields_of, good_unless, header_answer}
+use Rattle.layout.specs.Header.{fields_of, header_answer}
 
 -- The tree t passes questions 5 to 7, and h is its header.
 pub record HeaderOf (t : List ℕ) (h : Header) : Type 0 where
@@ -46,24 +47,35 @@ of_fields t h z e = record {
   size_is = ap (λ (x : Header). x.record_size) e;
 }
 
-good-cases : (n : ℕ) (f h : Header) → Good h ≡ good_unless n f → (n ≡ 0) × (h ≡ f)
-good-cases zero f h e = (refl, cc)
-good-cases (suc n) f h e = absurd (let z : ◌≡◌ {A = ℕ} 0 1 = cc in omega arith)
+-- The three questions, one after the other.
+module _ (a b c : Bool) (f : Header) where
+  abbrev asked : Result Header Refusal
+  asked = cond a (cond b (cond c (Ok f) (Err HeaderWrong)) (Err UnknownLayout)) (Err TreeTooShort)
 
-refused-cases : (n q : ℕ) (f : Header) → Refused q ≡ good_unless n f → (k : ℕ) × (n ≡ suc k) × (q ≡ suc k)
-refused-cases zero q f e = absurd (let z : ◌≡◌ {A = ℕ} 0 1 = cc in omega arith)
-refused-cases (suc k) q f e = (k, refl, cc)
+good-cases : (a b c : Bool) (f h : Header) → Ok h ≡ asked a b c f → (ask 5 a (ask 6 b (ask 7 c 0)) ≡ 0) × (h ≡ f)
+good-cases true true true f h e = (refl, cc)
+good-cases true true false f h e = cc
+good-cases true false c f h e = cc
+good-cases false b c f h e = cc
 
-module _ (t : List ℕ) (x : HeaderAnswer) (is : x ≡ header_answer t) where
-  pub header-good : (h : Header) → x ≡ Good h → HeaderOf t h
-  unfolding header_answer
+refused-cases : (a b c : Bool) (f : Header) (q : Refusal) → Err q ≡ asked a b c f
+    → (k : ℕ) × (ask 5 a (ask 6 b (ask 7 c 0)) ≡ suc k) × (refusal_number q ≡ suc k)
+refused-cases true true true f q e = cc
+refused-cases true true false f q e = let z : HeaderWrong ≡ q = cc in (6, refl, rw (← z))
+refused-cases true false c f q e = let z : UnknownLayout ≡ q = cc in (5, refl, rw (← z))
+refused-cases false b c f q e = let z : TreeTooShort ≡ q = cc in (4, refl, rw (← z))
+
+module _ (t : List ℕ) (x : Result Header Refusal) (is : x ≡ header_answer t) where
+  pub header-good : (h : Header) → x ≡ Ok h → HeaderOf t h
+  unfolding header_answer header_result
   header-good h e =
-      let z = good-cases (header_result t) (fields_of t) h (sym e ∙ is) in
+      let z = good-cases (at.holds_header t) (at.layout_ok t) (at.is_header_ok t) (fields_of t) h (sym e ∙ is) in
       of_fields t h z.0 z.1
 
-  pub header_refused : (q : ℕ) → x ≡ Refused q → (k : ℕ) × (header_result t ≡ suc k) × (q ≡ suc k)
-  unfolding header_answer
-  header_refused q e = refused-cases (header_result t) q (fields_of t) (sym e ∙ is)
+  -- The refusal has the number of the first question that fails.
+  pub header_refused : (q : Refusal) → x ≡ Err q → (k : ℕ) × (header_result t ≡ suc k) × (refusal_number q ≡ suc k)
+  unfolding header_answer header_result
+  header_refused q e = refused-cases (at.holds_header t) (at.layout_ok t) (at.is_header_ok t) (fields_of t) q (sym e ∙ is)
 
 -- The settings of a header are within their bounds, and give the block length of each level.
 module _ (t : List ℕ) (h : Header) (k : HeaderOf t h) where

@@ -4,8 +4,9 @@ ghost use Rattle.format.specs.Layout.{max_levels, max_counted, header_length, re
 ghost use Rattle.format.specs.SizeLaws.{max_record};
 ghost use Rattle.layout.specs.Header.{header_answer, rest_right, spare_counted, spare_levels, tables_meet, HasSettings, settings_answer, fields_of};
 
-use crate::settings::{Settings, SettingsAnswer};
+use crate::settings::Settings;
 use crate::{settings, word};
+use refusals::Refusal;
 
 // Offsets in the header. Six words and the bytes for counted bytes.
 pub const LAYOUT_AT: usize = 0;
@@ -57,31 +58,22 @@ pub struct Header {
     pub record_size: u32,
 }
 
-#[derive(Clone, Copy)]
-pub enum HeaderAnswer {
-    Good(Header),
-    Refused(u32),
-}
-
 // The header of any bytes, or the first of the questions 5, 6 and 7 that fails.
-pub fn read_header(t: &[u8]) -> HeaderAnswer
+pub fn read_header(t: &[u8]) -> Result<Header, Refusal>
     ensures { result ≡ header_answer t.now }
 {
     if t.len() < HEADER_LENGTH {
-        return HeaderAnswer::Refused(5);
+        return Err(Refusal::TreeTooShort);
     }
     if !known(word::read(t, LAYOUT_AT)) {
-        return HeaderAnswer::Refused(6);
+        return Err(Refusal::UnknownLayout);
     }
-    let checked = header_settings(t);
-    let SettingsAnswer::Fine(settings) = checked else {
-        return HeaderAnswer::Refused(7);
-    };
+    let settings = header_settings(t)?;
     let h = fields(t, settings);
     if !rest_right(t, h) {
-        return HeaderAnswer::Refused(7);
+        return Err(Refusal::HeaderWrong);
     }
-    HeaderAnswer::Good(h)
+    Ok(h)
 }
 
 // The layouts that are read.
@@ -112,17 +104,17 @@ fn fields(t: &[u8], settings: Settings) -> Header
 }
 
 // The first conditions of question 7: the length of the text and the settings, if they are within their bounds.
-fn header_settings(t: &[u8]) -> SettingsAnswer
+fn header_settings(t: &[u8]) -> Result<Settings, Refusal>
     requires { header_length ≤ length t.now }
     ensures { result ≡ settings_answer t.now }
 {
     let n = word::read(t, TEXT_LENGTH_AT);
     if Settings::MAX_TEXT < n {
-        return SettingsAnswer::Refused(7);
+        return Err(Refusal::HeaderWrong);
     }
     let k = word::read(t, COUNTED_COUNT_AT) as usize;
     if Settings::MAX_COUNTED < k {
-        return SettingsAnswer::Refused(7);
+        return Err(Refusal::HeaderWrong);
     }
     let end = COUNTED_AT + k;
     let checked = Settings::new(
@@ -131,10 +123,10 @@ fn header_settings(t: &[u8]) -> SettingsAnswer
         word::read(t, LEVELS_AT),
         &t[COUNTED_AT..end],
     );
-    let SettingsAnswer::Fine(settings) = checked else {
-        return SettingsAnswer::Refused(7);
+    let Ok(settings) = checked else {
+        return Err(Refusal::HeaderWrong);
     };
-    SettingsAnswer::Fine(settings)
+    Ok(settings)
 }
 
 // The other conditions of question 7: unused places, the block count of level 0, offsets, and the length.

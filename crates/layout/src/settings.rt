@@ -7,6 +7,7 @@ ghost use Rattle.format.specs.Layout as format;
 ghost use Rattle.layout.specs.SettingsLevel.{Sized};
 
 use crate::record;
+use refusals::Refusal;
 
 // The size of the words of a record, in bytes: of every record, and for each counted byte.
 const PLAIN: u32 = record::PLAIN_BYTES as u32;
@@ -24,12 +25,6 @@ pub struct Settings {
     pub levels: u32,
     // k, the number of counted bytes.
     pub counted: u32,
-}
-
-#[derive(Clone, Copy)]
-pub enum SettingsAnswer {
-    Fine(Settings),
-    Refused(u32),
 }
 
 impl Settings {
@@ -56,19 +51,19 @@ impl Settings {
     pub const EDGED: u32 = 2;
 
     // The settings, or the question that refuses them: 2 for m, r and H, 3 for the counted bytes.
-    pub fn new(leaf: u32, arity: u32, levels: u32, counted: &[u8]) -> SettingsAnswer
+    pub fn new(leaf: u32, arity: u32, levels: u32, counted: &[u8]) -> Result<Settings, Refusal>
         ensures { result ≡ checked leaf arity levels counted.now }
     {
         if !sizes_fit(leaf, arity, levels) {
-            return SettingsAnswer::Refused(2);
+            return Err(Refusal::SettingsOutOfBounds);
         }
         if Settings::MAX_COUNTED < counted.len() {
-            return SettingsAnswer::Refused(3);
+            return Err(Refusal::CountedBytesWrong);
         }
         if !rises(counted) {
-            return SettingsAnswer::Refused(3);
+            return Err(Refusal::CountedBytesWrong);
         }
-        SettingsAnswer::Fine(Settings {
+        Ok(Settings {
             leaf,
             arity,
             levels,

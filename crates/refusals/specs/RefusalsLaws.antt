@@ -1,5 +1,5 @@
 -- Laws of the numbers: 1 to 25, and each of one refusal.
-use Rattle.std.specs.Prelude.{List, [], ◌∷◌, ◌≡◌, refl, ℕ, ◌-◌, ◌≤◌, get_or, Result, Ok, Err}
+use Rattle.std.specs.Prelude.{List, [], ◌∷◌, ◌≡◌, refl, ℕ, ◌-◌, ◌≤◌, get_or, Result, Ok, Err, IsErrAnd}
 use Rattle.std.proofs.Common.{sym, ap, ◌∙◌, arith}
 use Rattle.refusals.specs.declared.Refusal.{Refusal}
 use Rattle.refusals.specs.declared.Refusal.TheVariants as refused
@@ -125,11 +125,17 @@ numbered-back refused.GuideTableTooShort = refl
 pub one-number : (d e : Refusal) → refusal_number d ≡ refusal_number e → d ≡ e
 one-number d e same = sym (numbered-back d) ∙ ap refusal_numbered same ∙ numbered-back e
 
--- A result whose number is that of a refusal is that refusal; one whose number is 0 is not refused.
+-- A result whose number is that of a refusal is that refusal.
 pub refused-as : {A : Type 0} (r : Result A Refusal) (e : Refusal) → result_refusal r ≡ refusal_number e → r ≡ Err e
 refused-as (Ok x) e same = absurd (let low = number-above e in let z : ⊥ = omega arith in z)
 refused-as (Err d) e same = ap Err (one-number d e same)
 
-pub not-an-error : {A : Type 0} (r : Result A Refusal) (e : Refusal) → result_refusal r ≡ 0 → r ≡ Err e → ⊥
-not-an-error (Ok x) e none is = cc
-not-an-error (Err d) e none is = let low = number-above d in omega arith
+-- A result whose number is 0 is not refused: it has a value.
+pub answered-with : {A : Type 0} (r : Result A Refusal) (x : A) → result_refusal r ≡ 0 → ((y : A) → r ≡ Ok y → y ≡ x) → r ≡ Ok x
+answered-with (Ok y) x none is = ap Ok (is y refl)
+answered-with (Err d) x none is = absurd (let low = number-above d in let z : ⊥ = omega arith in z)
+
+-- A refusal that `?` passes on.
+pub passed-on : {A : Type 0} (r : Result A Refusal) (e : Refusal) → IsErrAnd r (λ d. d ≡ e) → r ≡ Err e
+passed-on (Ok x) e k = absurd k
+passed-on (Err d) e k = ap Err k

@@ -46,4 +46,4 @@ pub returns : goal.returns
 unfolding length_ok
 returns c = laws.settings-fine c.args.t.now _ _ _ _ c.read.ensures
     c.read-2.ensures c.read-3.ensures c.read-k.ensures c.if-k-gt-MAX_COUNTED.false _ c.read-n.ensures
-    c.if-n-gt-MAX_TEXT.false _ _ c.new-checked.ensures c.in-Fine.is c.requires
+    c.if-n-gt-MAX_TEXT.false _ _ c.new-checked.ensures c.in-Ok.is c.requires

@@ -1,6 +1,5 @@
 use Prim.Native.Nat.{◌-◌}
 use borrow.Author.Rules.{rules}
-use mathlib.Core.Bool.{true}
 use native.Mathlib.Omega.{arith}
 use Rattle.layout.proofs.HeaderLaws.{level-used, level-zero}
 use Rattle.layout.proofs.TestLoops.{scan-none, scan-more, scan-done, scan-fails}
