@@ -1,4 +1,7 @@
 -- The loop of span and row that copies runs to a buffer, and clears the copied part if a byte is refused.
+use Rattle.std.specs.Prelude.{Result, Ok, Err}
+use Rattle.refusals.specs.declared.Refusal.{Refusal}
+use Rattle.refusals.specs.Refusals.{refusal_number}
 use mathlib.Core.List.{List, ◌++◌}
 use mathlib.Core.Bool.{true, false, ◌&&◌}
 use mathlib.Core.Path.{◌≡◌, refl, sym, ap, ◌∙◌}
@@ -10,14 +13,9 @@ use lib.ListN.{length, set, drop, replicate, length-set}
 use lib.Seq.{drop-set-lt}
 use Rattle.text.specs.Text.{tabulate}
 use Rattle.text.specs.ListLaws.{tab-none, tab-more}
-use Rattle.format.specs.Layout as at
 use Rattle.format.specs.Answers.{Answer, NeverZero, replied, byte_answer, paths_hold}
 use Rattle.layout.specs.declared.header.Header.{Header}
 use Rattle.layout.specs.HeaderFields.{HeaderOf}
-use Rattle.query_access.specs.declared.ByteAnswer.{ByteAnswer}
-use Rattle.query_access.specs.declared.ByteAnswer.TheVariants.{Byte, Refused}
-use Rattle.query_access.specs.declared.SpanAnswer.{SpanAnswer}
-use Rattle.query_access.specs.declared.SpanAnswer.TheVariants as span
 use Rattle.query_access.specs.ReadAnswers.{byte_reply, span_reply}
 use Rattle.query_access.specs.ReadByRuns.{ReadsFrom, places_written, RunCopied}
 use Rattle.theory_paths.specs.PlaceBytes.{only-14}
@@ -54,15 +52,15 @@ module _ (t : List ℕ) (p len : ℕ) where
     rest-broken z = rw (open-rest, z)
 
 -- A byte's answer: the byte of its place, or a refusal by 14.
-module _ (t : List ℕ) (h : Header) (k : HeaderOf t h) (p : ℕ) (low : p < h.text_length) (a : ByteAnswer) (a_is : replied (byte_reply a) ≡ byte_answer t p)
+module _ (t : List ℕ) (h : Header) (k : HeaderOf t h) (p : ℕ) (low : p < h.text_length) (a : Result (ℕ × ℕ) Refusal) (a_is : replied (byte_reply a) ≡ byte_answer t p)
   where
-    pub byte-good : (v n : ℕ) → a ≡ Byte v n → ((byte_answer t p).number ≡ 0) × (v ≡ (byte_answer t p).value)
+    pub byte-good : (v n : ℕ) → a ≡ Ok (v, n) → ((byte_answer t p).number ≡ 0) × (v ≡ (byte_answer t p).value)
     byte-good v n e =
-        let z : record { number = 0; value = v; entered = n } ≡ byte_answer t p = ap (λ (x : ByteAnswer). replied (byte_reply x)) (sym e) ∙ a_is in
+        let z : record { number = 0; value = v; entered = n } ≡ byte_answer t p = ap (λ (x : Result (ℕ × ℕ) Refusal). replied (byte_reply x)) (sym e) ∙ a_is in
         (sym (ap (λ (s : Answer). s.number) z), ap (λ (s : Answer). s.value) z)
 
-    pub byte-refused : (q : ℕ) → a ≡ Refused q → (byte_answer t p).number ≡ 14
-    byte-refused q e = only-14 t k.passes p (omega (arith, k.length_is)) q (ap (λ (x : ByteAnswer). replied (byte_reply x)) (sym e) ∙ a_is)
+    pub byte-refused : (q : Refusal) → a ≡ Err q → (byte_answer t p).number ≡ 14
+    byte-refused q e = only-14 t k.passes p (omega (arith, k.length_is)) (refusal_number q) (ap (λ (x : Result (ℕ × ℕ) Refusal). replied (byte_reply x)) (sym e) ∙ a_is)
 
 -- Buffer e, where i of the len bytes from p were copied to buffer d.
 pub record Copying (t : List ℕ) (p len : ℕ) (d e : List ℕ) (i : ℕ) : Type 0 where
@@ -103,15 +101,16 @@ module _ (t : List ℕ) (p len : ℕ) (d : List ℕ) (room : len ≤ length d) w
       rw is (rw (z, s) at (copy_run 0 d (copy_start t p len d) n (omega arith) (λ x l. rw z (good x l))))
 
 -- What `copy_range` returns.
-pub not-refused : (x : SpanAnswer) (n m q : ℕ) → x ≡ span.Bytes n m → x ≡ span.Refused q → ⊥
-not-refused x n m q e f = let z : ◌≡◌ {A = ℕ} 0 1 = cc in omega arith
+pub not-refused : (x : Result (ℕ × ℕ) Refusal) (n m : ℕ) (q : Refusal) → x ≡ Ok (n, m) → x ≡ Err q → ⊥
+not-refused x n m q e f = cc
 
 -- The bytes of a range that is known, written first.
 pub copy-first : (t : List ℕ) (p len : ℕ) (d : List ℕ) → len ≤ length d → (r : LeafRun) → ReadsFrom t p r
-    → (known : ℕ) → known ≡ min len r.length → (x : SpanAnswer) → x ≡ span.Bytes known 0 → (n m : ℕ) → x ≡ span.Bytes n m
+    → (known : ℕ) → known ≡ min len r.length → (x : Result (ℕ × ℕ) Refusal) → x ≡ Ok (known, 0) → (n m : ℕ) → x ≡ Ok (n, m)
     → (e : List ℕ) → e ≡ bytes_written d 0 t r.from known → (n ≤ len) × Copying t p len d e n
 copy-first t p len d room r k known Known-is x x-is n m taken e e-is =
-    let same : n ≡ known = cc in
+    let pair : ◌≡◌ {A = ℕ × ℕ} (n, m) (known, 0) = cc in
+    let same : n ≡ known = ap (λ (y : ℕ × ℕ). y.0) pair in
     let short : known ≤ len = omega arith in
     let within : known ≤ r.length = omega arith in
     rw same (short, copy-known t p len d room known short (λ y l. run-answered t p r k y (omega arith)) e (e-is ∙ run-written t p r k d 0 known within))
@@ -119,23 +118,24 @@ copy-first t p len d room r k known Known-is x x-is n m taken e e-is =
 -- What `copy_run` returns.
 module _ (t : List ℕ) (h : Header) (p len : ℕ)
     (k : HeaderOf t h) (low : p + len ≤ h.text_length) (d : List ℕ) (room : len ≤ length d) (i : ℕ) (e : List ℕ) (c : Copying t p len d e i) where
-  module _ (f : List ℕ) (r : SpanAnswer) (r-is : RunCopied t (p + i) (len - i) i e f r) where
+  module _ (f : List ℕ) (r : Result (ℕ × ℕ) Refusal) (r-is : RunCopied t (p + i) (len - i) i e f r) where
     -- Bytes.
-    pub copy-on : (n m : ℕ) → r ≡ span.Bytes n m → (1 ≤ n) × (i + n ≤ len) × Copying t p len d f (i + n)
+    pub copy-on : (n m : ℕ) → r ≡ Ok (n, m) → (1 ≤ n) × (i + n ≤ len) × Copying t p len d f (i + n)
     copy-on n m is =
-        let z : RunCopied t (p + i) (len - i) i e f (span.Bytes n m) = rw is at r-is in
+        let z : RunCopied t (p + i) (len - i) i e f (Ok (n, m)) = rw is at r-is in
         (z.0, omega (arith, z.0, z.1), rw z.3 (copy_run t p len d room i e c n (omega (arith, z.0, z.1)) z.2))
 
     -- A refusal: the first len bytes are cleared.
-    pub copy-broken : i < len → (q : ℕ) → r ≡ span.Refused q → (z : List ℕ) → z ≡ replicate len 0 ++ drop len f
+    pub copy-broken : i < len → (q : Refusal) → r ≡ Err q → (z : List ℕ) → z ≡ replicate len 0 ++ drop len f
         → NeverZero (span_reply r) × ByPaths t p len d (replied (span_reply r)) z
     copy-broken more q is z z-is =
-        let y : RunCopied t (p + i) (len - i) i e f (span.Refused q) = rw is at r-is in
+        let y : RunCopied t (p + i) (len - i) i e f (Err q) = rw is at r-is in
         let past : drop len f ≡ drop len d = ap (drop len) y.2 ∙ c.past in
+        let number : refusal_number q ≡ 14 = ap refusal_number y.0 in
         rw is (
-          omega (arith, y.0),
+          omega arith,
           span-broken t p len d (paths_hold t p len) (tabulate len (values t p))
-              0 k.passes (omega (arith, k.length_is)) room z q y.0 (rest-broken t p len i more y.1 ∙ c.hold) (rw past at z-is),
+              0 k.passes (omega (arith, k.length_is)) room z (refusal_number q) number (rest-broken t p len i more y.1 ∙ c.hold) (rw past at z-is),
         )
 
   -- All are copied.

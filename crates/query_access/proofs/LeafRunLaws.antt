@@ -1,4 +1,8 @@
 -- The run of a place, from the end of its walk, and its bytes copied.
+use Rattle.std.specs.Prelude.{Result, Ok, Err}
+use Rattle.refusals.specs.declared.Refusal.{Refusal}
+use Rattle.refusals.specs.declared.Refusal.TheVariants.{PathBroken}
+use Rattle.refusals.specs.Refusals.{refusal_number}
 use mathlib.Core.List.{List}
 use mathlib.Core.Path.{◌≡◌, refl, sym, ap, ◌∙◌}
 use Prim.Native.Nat.{ℕ, zero, suc, ◌+◌, ◌-◌, ◌≤◌, ◌<◌, min}
@@ -19,23 +23,16 @@ use Rattle.walk_steps.proofs.NextLaws.{on-top}
 use Rattle.walk_path.specs.declared.TopLevel.{TopLevel}
 use Rattle.byte_slices.specs.ByteSlices.{bytes_written}
 use Rattle.byte_slices.proofs.ByteSliceLaws.{bytes-more}
-use Rattle.query_access.specs.declared.ByteAnswer.{ByteAnswer}
-use Rattle.query_access.specs.declared.ByteAnswer.TheVariants.{Byte, Refused}
-use Rattle.query_access.specs.declared.SpanAnswer.{SpanAnswer}
-use Rattle.query_access.specs.declared.SpanAnswer.TheVariants as span
 use Rattle.query_access.specs.declared.read_by_header.LeafRun.{LeafRun}
 use Rattle.query_access.specs.declared.read_by_header.LeafRunAnswer.{LeafRunAnswer}
 use Rattle.query_access.specs.declared.read_by_header.LeafRunAnswer.TheVariants as leaf-run
 use Rattle.query_access.specs.declared.read_by_header.TreeRange.{TreeRange}
-use Rattle.query_access.specs.declared.read_by_header.RunRangeAnswer.{RunRangeAnswer}
-use Rattle.query_access.specs.declared.read_by_header.RunRangeAnswer.TheVariants as run
 use Rattle.walk_ranges.specs.declared.leaf_end.LeafEnd.{LeafEnd}
 use Rattle.walk_ranges.specs.declared.leaf_end.LeafEndAnswer.{LeafEndAnswer}
 use Rattle.walk_ranges.specs.declared.leaf_end.LeafEndAnswer.TheVariants as leaf-end
 use Rattle.query_access.specs.ReadAnswers.{byte_reply, IsRunAnswer}
 use Rattle.walk_ranges.specs.LeafEnds.{LeafEndAt, LeafEndOf, Joined}
-use Rattle.query_access.specs.ReadByRuns.{ReadsOn, LeafRunAt, LeafRunOf, LeafRangeAt, ReadsFrom, LeafRangeOf, IsRangeAnswer, places_written, RunCopied}
-use Rattle.query_access.proofs.ByteLaws as bytes
+use Rattle.query_access.specs.ReadByRuns.{IsRunOfPlace, ReadsOn, LeafRunAt, LeafRunOf, LeafRangeAt, ReadsFrom, LeafRangeOf, IsRangeAnswer, places_written, RunCopied}
 use Rattle.query_access.proofs.RunLaws.{run-answers, run-from, run-size, run-some}
 use Rattle.walk_ranges.proofs.LeafEndLaws.{end_is, end-left, end-entered, left-min, joined-answers}
 
@@ -154,12 +151,17 @@ module _ (t : List ℕ) (p : ℕ) (x : LeafRunAnswer) (x-is : LeafRunOf t p x) w
   pub run-refused : x ≡ leaf-run.Broken → byte_answer t p ≡ refused 14
   run-refused e = rw e at x-is
 
-  pub broken-part : x ≡ leaf-run.Broken → IsRunAnswer t p (run.Refused 14)
-  broken-part e = bytes.run_none t p 13 14 refl (sym (run-refused e))
+-- The answer of `run_of_place`.
+module _ (t : List ℕ) (p : ℕ) (x : Result LeafRun Refusal) (x-is : IsRunOfPlace t p x) where
+  pub place-found : (r : LeafRun) → x ≡ Ok r → LeafRunAt t p r
+  place-found r e = rw e at x-is
 
-  pub found_part : (r : LeafRun) → x ≡ leaf-run.At r → IsRunAnswer t p (run.At (record { from = r.from; length = r.length }))
-  found_part r e =
-      let k = run-found r e in
+  pub place-refused : (q : Refusal) → x ≡ Err q → refused (refusal_number q) ≡ byte_answer t p
+  place-refused q e = rw e at x-is
+
+  pub place-part : (r : LeafRun) → x ≡ Ok r → IsRunAnswer t p (Ok (record { from = r.from; length = r.length }))
+  place-part r e =
+      let k = place-found r e in
       let z : p + 0 ≡ p = omega arith in record {
         number_is = sym (ap (λ (s : Answer). s.number) (rw z at (k.answers 0 k.some_byte)));
         numbered = tt;
@@ -178,7 +180,7 @@ module _ (t : List ℕ) (p most : ℕ) (x : LeafRunAnswer) (x-is : LeafRangeOf t
       let z : byte_answer t p ≡ refused 14 = rw e at x-is in
       ap (λ (s : Answer). s.number) z
 
-  pub found-range : header_result t ≡ 0 → (r : LeafRun) → x ≡ leaf-run.At r → IsRangeAnswer t p most (run.At (record { from = r.from; length = r.length }))
+  pub found-range : header_result t ≡ 0 → (r : LeafRun) → x ≡ leaf-run.At r → IsRangeAnswer t p most (Ok (record { from = r.from; length = r.length }))
   found-range passes r e =
       let k = range-found r e in
       let number : (y : ℕ) → y < r.length → (byte_answer t (p + y)).number ≡ 0 = λ y l. ap (λ (s : Answer). s.number) (k.answers y l) in (
@@ -193,30 +195,30 @@ module _ (t : List ℕ) (p most : ℕ) (x : LeafRunAnswer) (x-is : LeafRangeOf t
       )
 
 -- The answer of `range_at`.
-module _ (t : List ℕ) (p most : ℕ) (x : RunRangeAnswer) (x-is : IsRangeAnswer t p most x) where
-  pub range-reads : (part : TreeRange) → x ≡ run.At part → (ReadsOn t p part.from part.length) × (1 ≤ part.length) × (part.length ≤ most)
+module _ (t : List ℕ) (p most : ℕ) (x : Result TreeRange Refusal) (x-is : IsRangeAnswer t p most x) where
+  pub range-reads : (part : TreeRange) → x ≡ Ok part → (ReadsOn t p part.from part.length) × (1 ≤ part.length) × (part.length ≤ most)
   range-reads part e = rw e at x-is
 
-  pub range-broken : (q : ℕ) → x ≡ run.Refused q → (q ≡ 14) × ((byte_answer t p).number ≡ 14)
+  pub range-broken : (q : Refusal) → x ≡ Err q → (q ≡ PathBroken) × ((byte_answer t p).number ≡ 14)
   range-broken q e = rw e at x-is
 
 -- The first byte of a run is that of its place.
 pub run-first-byte : (t : List ℕ) (p : ℕ) (r : LeafRun) → LeafRunAt t p r
-    → (a : ByteAnswer) → a ≡ Byte (get_or t (r.from + 0) 0) r.entered → replied (byte_reply a) ≡ byte_answer t p
+    → (a : Result (ℕ × ℕ) Refusal) → a ≡ Ok (get_or t (r.from + 0) 0, r.entered) → replied (byte_reply a) ≡ byte_answer t p
 run-first-byte t p r k a e =
     let z : p + 0 ≡ p = omega arith in
-    ap (λ (x : ByteAnswer). replied (byte_reply x)) e ∙ sym (rw z at (k.answers 0 k.some_byte))
+    ap (λ (x : Result (ℕ × ℕ) Refusal). replied (byte_reply x)) e ∙ sym (rw z at (k.answers 0 k.some_byte))
 
 -- No byte of a run is refused.
-pub run-not-refused : (a : ByteAnswer) (v n q : ℕ) → a ≡ Byte v n → a ≡ Refused q → ⊥
-run-not-refused a v n q e f = let z : ◌≡◌ {A = ℕ} 0 1 = cc in omega arith
+pub run-not-refused : (a : Result (ℕ × ℕ) Refusal) (v n : ℕ) (q : Refusal) → a ≡ Ok (v, n) → a ≡ Err q → ⊥
+run-not-refused a v n q e f = cc
 
 -- A byte's answer is taken apart, and its byte written.
-value-is : (a : ByteAnswer) (v n u m : ℕ) → a ≡ Byte v n → a ≡ Byte u m → u ≡ v
-value-is a v n u m e f = cc
+value-is : (a : Result (ℕ × ℕ) Refusal) (v n u m : ℕ) → a ≡ Ok (v, n) → a ≡ Ok (u, m) → u ≡ v
+value-is a v n u m e f = let z : ◌≡◌ {A = ℕ × ℕ} (v, n) (u, m) = cc in sym (ap (λ (x : ℕ × ℕ). x.0) z)
 
 pub byte-written : (d e t : List ℕ) (to from j : ℕ) → e ≡ bytes_written d to t from j
-    → (a : ByteAnswer) (n u m : ℕ) → a ≡ Byte (get_or t (from + j) 0) n → a ≡ Byte u m → set e (to + j) u ≡ bytes_written d to t from (j + 1)
+    → (a : Result (ℕ × ℕ) Refusal) (n u m : ℕ) → a ≡ Ok (get_or t (from + j) 0, n) → a ≡ Ok (u, m) → set e (to + j) u ≡ bytes_written d to t from (j + 1)
 byte-written d e t to from j is a n u m given taken =
     bytes-more d e _ t to from j is (ap (set e (to + j)) (value-is a (get_or t (from + j) 0) n u m given taken))
 
@@ -240,7 +242,7 @@ module _ (t : List ℕ) (p : ℕ) (r : LeafRun) (k : ReadsFrom t p r) where
 
 -- A range, all copied.
 pub run-copied : (t : List ℕ) (p most : ℕ) (r : LeafRun) → LeafRangeAt t p most r
-    → (to : ℕ) (d e : List ℕ) (c : SpanAnswer) → c ≡ span.Bytes r.length 0 → e ≡ bytes_written d to t r.from r.length → RunCopied t p most to d e c
+    → (to : ℕ) (d e : List ℕ) (c : Result (ℕ × ℕ) Refusal) → c ≡ Ok (r.length, 0) → e ≡ bytes_written d to t r.from r.length → RunCopied t p most to d e c
 run-copied t p most r k to d e c c_is is =
     let f = range-read t p most r k in
     rw c_is (k.some_byte, k.at_most, run-answered t p r f, is ∙ run-written t p r f d to r.length (omega arith))

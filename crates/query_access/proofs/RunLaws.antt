@@ -1,5 +1,9 @@
 -- Reading by runs: a part of the tree's own bytes that are bytes of its text, with all their paths holding, on any tree that passes
 -- questions 5 to 7.
+use Rattle.std.specs.Prelude.{Result, Ok, Err}
+use Rattle.refusals.specs.declared.Refusal.{Refusal}
+use Rattle.refusals.specs.declared.Refusal.TheVariants.{PathBroken}
+use Rattle.refusals.specs.RefusalsLaws.{one-number}
 use mathlib.Core.List.{List}
 use mathlib.Core.Option.{some}
 use mathlib.Core.Path.{◌≡◌, sym, ap, ◌∙◌}
@@ -20,8 +24,6 @@ use Rattle.theory_paths.specs.PlaceBytes.{path-there, byte-broken}
 use Rattle.layout.specs.declared.header.Header.{Header}
 use Rattle.layout.specs.HeaderFields.{HeaderOf}
 use Rattle.query_access.specs.declared.read_by_header.TreeRange.{TreeRange}
-use Rattle.query_access.specs.declared.read_by_header.RunRangeAnswer.{RunRangeAnswer}
-use Rattle.query_access.specs.declared.read_by_header.RunRangeAnswer.TheVariants as run
 use Rattle.query_access.specs.ReadAnswers.{IsRunAnswer}
 use Rattle.query_access.specs.ReadByRuns.{ReadsOn}
 
@@ -100,18 +102,18 @@ module _ (t : List ℕ) (r : header_result t ≡ 0) (p : ℕ) (low : p < at.text
       (reads.run-part t (header-facts t r) r p low w.0 w.1).some_byte
 
 -- The answer of `run_range_at`.
-module _ (t : List ℕ) (h : Header) (k : HeaderOf t h) (p : ℕ) (low : p < h.text_length) (r : RunRangeAnswer) (a : IsRunAnswer t p r) where
+module _ (t : List ℕ) (h : Header) (k : HeaderOf t h) (p : ℕ) (low : p < h.text_length) (r : Result TreeRange Refusal) (a : IsRunAnswer t p r) where
   low-text : p < at.text_length t
   low-text = omega (arith, k.length_is)
 
-  pub part-reads : (part : TreeRange) → r ≡ run.At part → ReadsOn t p part.from part.length × (1 ≤ part.length)
+  pub part-reads : (part : TreeRange) → r ≡ Ok part → ReadsOn t p part.from part.length × (1 ≤ part.length)
   part-reads part e =
-      let z : IsRunAnswer t p (run.At part) = rw e at a in
+      let z : IsRunAnswer t p (Ok part) = rw e at a in
       let number = sym z.number_is in
       (rw (z.from_is, z.length_is) (run-reads t k.passes p low-text number), rw z.length_is (run-some t k.passes p low-text number))
 
-  pub part-broken : (q : ℕ) → r ≡ run.Refused q → (q ≡ 14) × ((byte_answer t p).number ≡ 14)
+  pub part-broken : (q : Refusal) → r ≡ Err q → (q ≡ PathBroken) × ((byte_answer t p).number ≡ 14)
   part-broken q e =
-      let z : IsRunAnswer t p (run.Refused q) = rw e at a in
+      let z : IsRunAnswer t p (Err q) = rw e at a in
       let y = byte-broken t k.passes p low-text (λ x. omega (arith, z.number_is, z.numbered)) in
-      (z.number_is ∙ y, y)
+      (one-number q PathBroken (z.number_is ∙ y), y)

@@ -13,6 +13,9 @@ use lib.ListN.{length, drop, replicate}
 use lib.Seq.{drop-set-lt}
 use Rattle.text.specs.Text.{tabulate}
 use Rattle.text.specs.ListLaws.{lt-or-ge, bool_cases}
+use Rattle.refusals.specs.declared.Refusal.{Refusal}
+use Rattle.refusals.specs.Refusals.{refusal_number}
+use Rattle.refusals.specs.RefusalsLaws.{number-above}
 use Rattle.format.specs.Layout as at
 use Rattle.format.specs.Layout.{max_text}
 use Rattle.format.specs.TreeReading.{Path, provided, path_of}
@@ -101,10 +104,9 @@ unfolding SegmentCopied leaf_in
 leaves-segment t zero l first place n to d e r l-is may s = absurd (let y : ⊥ = omega arith in y)
 leaves-segment t (suc p) l first place n to d e r l-is may s = rw l-is s
 
--- A refusal.
-pub some-refusal : (r : ℕ) → (r ≡ 0 → ⊥) → 1 ≤ r
-some-refusal zero off = absurd (off refl)
-some-refusal (suc q) off = omega arith
+-- A refusal's number is not 0.
+pub is-refusal : (q : Refusal) → refusal_number q ≡ 0 → ⊥
+is-refusal q e = let low = number-above q in omega arith
 
 missing-byte : (t : List ℕ) (f : ℕ → Option ℕ) (n to : ℕ) (d e : List ℕ) (r : ℕ) → (r ≡ 0 → ⊥) → Copied t f n to d e r
     → (r ≡ 14) × ((x : ℕ) × (x < n) × (f x ≡ none)) × ((k : ℕ) → to + n ≤ k → drop k e ≡ drop k d)

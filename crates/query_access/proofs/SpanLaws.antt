@@ -1,4 +1,7 @@
 -- Span: each of its questions, and what it then leaves.
+use Rattle.std.specs.Prelude.{Result, Err}
+use Rattle.refusals.specs.declared.Refusal.{Refusal}
+use Rattle.refusals.specs.Refusals.{refusal_number}
 use mathlib.Core.List.{List, ◌++◌}
 use mathlib.Core.Bool.{Bool, true, false}
 use mathlib.Core.Path.{◌≡◌, ◌∙◌}
@@ -13,11 +16,9 @@ use Rattle.format.specs.TreeReading.{ask, header_result}
 use Rattle.format.specs.Answers.{Answer, refused, unless, NeverZero, replied}
 use Rattle.format.specs.Answers.{byte_answer, paths_hold, span_questions, buffer_after, is_short, span_reached, span_bytes, span_blocks, span_refusal, span_answer}
 use Rattle.format.specs.Answers.{span_buffer, copy_refusal, copy_answer, copy_buffer}
-use Rattle.layout.specs.declared.header.HeaderAnswer.{HeaderAnswer}
-use Rattle.layout.specs.declared.header.HeaderAnswer.TheVariants as header
+use Rattle.layout.specs.declared.header.Header.{Header}
 use Rattle.layout.specs.Header.{header_answer}
 use Rattle.layout.specs.HeaderFields.{header_refused, header-small}
-use Rattle.query_access.specs.declared.SpanAnswer.{SpanAnswer}
 use Rattle.query_access.specs.ReadAnswers.{span_reply, IsSpanAnswer}
 use Rattle.query_access.specs.ReadByRuns.{IsCopyAnswer}
 
@@ -37,18 +38,18 @@ ByPaths t p len d = Spanned t p len d (paths_hold t p len) (tabulate len (values
 abbrev pub Whole : List ℕ → ℕ → ℕ → List ℕ → Answer → List ℕ → Type 0
 Whole t p len d = Spanned t p len d (span_reached t p len) (span_bytes t p len) (span_blocks t p len)
 
-pub access-answered : (t : List ℕ) (p len : ℕ) (d after : List ℕ) (r : SpanAnswer) → NeverZero (span_reply r) → Whole t p len d (replied (span_reply r)) after
+pub access-answered : (t : List ℕ) (p len : ℕ) (d after : List ℕ) (r : Result (ℕ × ℕ) Refusal) → NeverZero (span_reply r) → Whole t p len d (replied (span_reply r)) after
     → IsSpanAnswer t p len (length d) r × (after ≡ span_buffer t p len d)
 unfolding span_answer span_refusal span_buffer
 access-answered t p len d after r numbered k = (record { answers = k.answers; numbered = numbered }, k.leaves)
 
-pub copy-answered : (t : List ℕ) (p len : ℕ) (d after : List ℕ) (r : SpanAnswer) → NeverZero (span_reply r) → ByPaths t p len d (replied (span_reply r)) after
+pub copy-answered : (t : List ℕ) (p len : ℕ) (d after : List ℕ) (r : Result (ℕ × ℕ) Refusal) → NeverZero (span_reply r) → ByPaths t p len d (replied (span_reply r)) after
     → IsCopyAnswer t p len (length d) r × (after ≡ copy_buffer t p len d)
 unfolding copy_answer copy_refusal copy_buffer
 copy-answered t p len d after r numbered k = (record { answers = k.answers; numbered = numbered }, k.leaves)
 
 -- A span that is not short is read by its bytes' paths.
-pub by_paths : (t : List ℕ) (p len : ℕ) (d after : List ℕ) (r : SpanAnswer) → is_short t len ≡ false → IsCopyAnswer t p len (length d) r → after
+pub by_paths : (t : List ℕ) (p len : ℕ) (d after : List ℕ) (r : Result (ℕ × ℕ) Refusal) → is_short t len ≡ false → IsCopyAnswer t p len (length d) r → after
     ≡ copy_buffer t p len d
     → IsSpanAnswer t p len (length d) r × (after ≡ span_buffer t p len d)
 unfolding span_answer span_refusal span_buffer span_reached span_bytes span_blocks copy_answer copy_refusal copy_buffer
@@ -64,12 +65,13 @@ module _ (t : List ℕ) (p len : ℕ) (d : List ℕ) (reached : Bool) (bytes : L
   number-leaves q e other = record { answers = rw e; leaves = rw (e, ne_eqb (suc q) 0 (λ z. omega arith), ne_eqb (suc q) 14 other) }
 
   -- A tree that does not pass questions 5 to 7.
-  pub span-unread : (x : HeaderAnswer) → x ≡ header_answer t → (q : ℕ) → x ≡ header.Refused q → (1 ≤ q) × Spanned t p len d reached bytes blocks (refused q) d
+  pub span-unread : (x : Result Header Refusal) → x ≡ header_answer t → (q : Refusal) → x ≡ Err q
+      → Spanned t p len d reached bytes blocks (refused (refusal_number q)) d
   unfolding span_questions
   span-unread x x-is q e =
       let z = header_refused t x x-is q e in
       let n : number ≡ suc z.0 = rw (ne_eqb (header_result t) 0 (λ y. omega arith)) z.1 in
-      (omega arith, rw z.2 (number-leaves z.0 n (λ y. omega (arith, header-small t))))
+      rw z.2 (number-leaves z.0 n (λ y. omega (arith, header-small t)))
 
   -- One that does.
   module _ (passes : header_result t ≡ 0) where

@@ -1,19 +1,19 @@
 -- Reading by runs: a part of the tree's own bytes that are bytes of its text.
-use Rattle.std.specs.Prelude.{List, ◌≡◌, ℕ, zero, suc, ◌+◌, ◌≤◌, ◌<◌, length, get_or, set}
+use Rattle.std.specs.Prelude.{List, ◌≡◌, ℕ, zero, suc, ◌+◌, ◌≤◌, ◌<◌, length, get_or, set, Result, Ok, Err}
+use Rattle.refusals.specs.declared.Refusal.{Refusal}
+use Rattle.refusals.specs.declared.Refusal.TheVariants.{PathBroken}
+use Rattle.refusals.specs.Refusals.{refusal_number}
 use Rattle.format.specs.Layout as at
 use Rattle.format.specs.TreeReading.{text_of}
 use Rattle.format.specs.Answers.{refused, Is, byte_answer, run_answer, copy_answer}
-use Rattle.query_access.specs.declared.SpanAnswer.{SpanAnswer}
-use Rattle.query_access.specs.declared.SpanAnswer.TheVariants as span
-use Rattle.query_access.specs.declared.read_by_header.RunRangeAnswer.{RunRangeAnswer}
-use Rattle.query_access.specs.declared.read_by_header.RunRangeAnswer.TheVariants as run
+use Rattle.query_access.specs.declared.read_by_header.TreeRange.{TreeRange}
 use Rattle.query_access.specs.declared.read_by_header.LeafRun.{LeafRun}
 use Rattle.query_access.specs.declared.read_by_header.LeafRunAnswer.{LeafRunAnswer}
 use Rattle.query_access.specs.declared.read_by_header.LeafRunAnswer.TheVariants as leaf-run
 use Rattle.query_access.specs.ReadAnswers.{span_reply}
 
 -- The same of bytes that are copied by their paths.
-abbrev pub IsCopyAnswer : (t : List ℕ) (p len room : ℕ) → SpanAnswer → Type 0
+abbrev pub IsCopyAnswer : (t : List ℕ) (p len room : ℕ) → Result (ℕ × ℕ) Refusal → Type 0
 IsCopyAnswer t p len room = Is span_reply (copy_answer t p len room)
 
 -- `size` bytes of the tree, from `from`, are those of its text from place p, and no path of these places breaks
@@ -36,6 +36,11 @@ abbrev pub LeafRunOf : List ℕ → ℕ → LeafRunAnswer → Type 0
 LeafRunOf t p (leaf-run.At r) = LeafRunAt t p r
 LeafRunOf t p leaf-run.Broken = byte_answer t p ≡ refused 14
 
+-- The run of place p, or the refusal of byte for that place.
+abbrev pub IsRunOfPlace : List ℕ → ℕ → Result LeafRun Refusal → Type 0
+IsRunOfPlace t p (Ok r) = LeafRunAt t p r
+IsRunOfPlace t p (Err q) = refused (refusal_number q) ≡ byte_answer t p
+
 -- r is a range of at most `most` bytes of the tree that are the answers of byte at the places from p on, each with the same number of blocks entered.
 pub record LeafRangeAt (t : List ℕ) (p most : ℕ) (r : LeafRun) : Type 0 where
   pub some_byte : 1 ≤ r.length
@@ -55,9 +60,9 @@ LeafRangeOf t p most (leaf-run.At r) = LeafRangeAt t p most r
 LeafRangeOf t p most leaf-run.Broken = byte_answer t p ≡ refused 14
 
 -- The answer of `range_at`: some bytes of the tree, at most `most`, that are those of its text from place p on; or 14, the refusal of byte.
-abbrev pub IsRangeAnswer : List ℕ → ℕ → ℕ → RunRangeAnswer → Type 0
-IsRangeAnswer t p most (run.At part) = (ReadsOn t p part.from part.length) × (1 ≤ part.length) × (part.length ≤ most)
-IsRangeAnswer t p most (run.Refused q) = (q ≡ 14) × ((byte_answer t p).number ≡ 14)
+abbrev pub IsRangeAnswer : List ℕ → ℕ → ℕ → Result TreeRange Refusal → Type 0
+IsRangeAnswer t p most (Ok part) = (ReadsOn t p part.from part.length) × (1 ≤ part.length) × (part.length ≤ most)
+IsRangeAnswer t p most (Err q) = (q ≡ PathBroken) × ((byte_answer t p).number ≡ 14)
 
 -- The buffer d with the bytes of n places from p written from `to` on.
 abbrev pub places_written : List ℕ → ℕ → List ℕ → ℕ → ℕ → List ℕ
@@ -65,7 +70,7 @@ places_written d to t p zero = d
 places_written d to t p (suc n) = set (places_written d to t p n) (to + n) (byte_answer t (p + n)).value
 
 -- The answer of `copy_run`, which turns buffer d into e: some bytes, none of them refused; or 14 for the first one, and nothing is written.
-abbrev pub RunCopied : List ℕ → ℕ → ℕ → ℕ → List ℕ → List ℕ → SpanAnswer → Type 0
-RunCopied t p most to d e (span.Bytes n entered) =
-    (1 ≤ n) × (n ≤ most) × ((x : ℕ) → x < n → (byte_answer t (p + x)).number ≡ 0) × (e ≡ places_written d to t p n)
-RunCopied t p most to d e (span.Refused q) = (q ≡ 14) × ((byte_answer t p).number ≡ 14) × (e ≡ d)
+abbrev pub RunCopied : List ℕ → ℕ → ℕ → ℕ → List ℕ → List ℕ → Result (ℕ × ℕ) Refusal → Type 0
+RunCopied t p most to d e (Ok r) =
+    (1 ≤ r.0) × (r.0 ≤ most) × ((x : ℕ) → x < r.0 → (byte_answer t (p + x)).number ≡ 0) × (e ≡ places_written d to t p r.0)
+RunCopied t p most to d e (Err q) = (q ≡ PathBroken) × ((byte_answer t p).number ≡ 14) × (e ≡ d)

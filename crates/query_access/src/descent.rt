@@ -3,12 +3,14 @@ ghost use Rattle.std.specs.Prelude.{◌+◌, ◌*◌, ◌≤◌, length};
 ghost use Rattle.format.specs.Layout as at;
 ghost use Rattle.format.specs.Layout.{max_text};
 ghost use Rattle.format.specs.LayoutLaws.{Readable};
+ghost use Rattle.refusals.specs.Refusals.{result_refusal};
 ghost use Rattle.walk_ranges.specs.Segments.{SegmentAt, SegmentCopied};
 
+use crate::read_by_header;
 use crate::read_by_header::LeafRun;
-use crate::{SpanAnswer, read_by_header};
 use layout::fields;
 use layout::place::BlockPlace;
+use refusals::Refusal;
 use walk_ranges::segments;
 use walk_ranges::segments::{Piece, Rules};
 use walk_steps::position::{BlockPosition, LevelAt};
@@ -20,30 +22,32 @@ pub struct BufferPart {
     pub size: u32,
 }
 
-// Copies a range of leaf bytes: 0, or the refusal, 14 if there are not so many.
-fn copy_leaves(t: &[u8], from: BlockPosition, part: BufferPart, buffer: &mut [u8]) -> u32
+// Copies a range of leaf bytes; refused if there are not so many.
+fn copy_leaves(
+    t: &[u8],
+    from: BlockPosition,
+    part: BufferPart,
+    buffer: &mut [u8],
+) -> Result<(), Refusal>
     requires { (Readable t.now) × (from.place.0 + part.size ≤ 2 * max_text) × (1 ≤ part.size) × (part.to + part.size ≤ length buffer.old) }
     ensures { SegmentCopied t.now 1 (at.settings t.now).levels from.block.0 from.place.0
-        part.size part.to buffer.old buffer.new result }
+        part.size part.to buffer.old buffer.new (result_refusal result) }
 {
     let shape = fields::shape_of(t);
     let leaf = from.block.0 as u64 + from.place.0 as u64;
     if (shape.leaf_count as u64) < leaf + part.size as u64 {
-        return 14;
+        return Err(Refusal::PathBroken);
     }
     let run = LeafRun {
         from: shape.leaf_offset as usize + leaf as usize,
         length: part.size,
         entered: 0,
     };
-    let copied = read_by_header::copy_range(t, run, part.size, buffer, part.to as usize);
-    match copied {
-        SpanAnswer::Bytes(_, _) => 0,
-        SpanAnswer::Refused(number) => number,
-    }
+    read_by_header::copy_range(t, run, part.size, buffer, part.to as usize)?;
+    Ok(())
 }
 
-// Copies the bytes of a segment, which are in the segments below it or beside it: 0, or the refusal.
+// Copies the bytes of a segment, which are in the segments below it or beside it.
 pub fn copy_segment(
     t: &&[u8],
     rules: Rules,
@@ -51,11 +55,11 @@ pub fn copy_segment(
     from: BlockPosition,
     part: BufferPart,
     buffer: &mut [u8],
-) -> u32
+) -> Result<(), Refusal>
     requires { (SegmentAt t.now.now rules.pointers rules.record_size on.level on.b from.place.0 part.size)
         × (part.to + part.size ≤ max_text) × (part.to + part.size ≤ length buffer.old) }
     ensures { SegmentCopied t.now.now rules.pointers on.level from.block.0 from.place.0
-        part.size part.to buffer.old buffer.new result }
+        part.size part.to buffer.old buffer.new (result_refusal result) }
 {
     let tree = *t;
     let shape = fields::shape_of(tree);
@@ -69,17 +73,14 @@ pub fn copy_segment(
         let rest = BlockPosition { block, place };
         let found = segments::next_segment(tree, rules, on, rest, part.size - done);
         let Piece::At(next, n) = found else {
-            return 14;
+            return Err(Refusal::PathBroken);
         };
         let piece = BufferPart {
             to: part.to + done,
             size: n,
         };
-        let refused = copy_segment(t, next.rules, next.on, next.from, piece, buffer);
-        if refused != 0 {
-            return refused;
-        }
+        copy_segment(t, next.rules, next.on, next.from, piece, buffer)?;
         done += n;
     }
-    0
+    Ok(())
 }

@@ -1,5 +1,5 @@
 // Byte, run and span in a tree that passes questions 5 to 7, given its header.
-ghost use Rattle.std.specs.Prelude.{true, ◌&&◌, ◌≡◌, ◌+◌, ◌≤◌, ◌<◌, length, get_or, eqb, leb};
+ghost use Rattle.std.specs.Prelude.{true, ◌&&◌, ◌≡◌, ◌+◌, ◌≤◌, ◌<◌, length, get_or, eqb, leb, Ok};
 ghost use Rattle.format.specs.Answers.{replied, byte_answer, is_short, span_buffer, copy_buffer};
 ghost use Rattle.layout.specs.HeaderFields.{HeaderOf};
 ghost use Rattle.byte_slices.specs.ByteSlices.{bytes_written};
@@ -7,10 +7,11 @@ ghost use Rattle.query_access.specs.ReadAnswers.{byte_reply, IsRunAnswer, IsSpan
 ghost use Rattle.query_access.specs.ReadByRuns.{IsCopyAnswer, LeafRunOf, LeafRangeOf, ReadsFrom, IsRangeAnswer, RunCopied};
 
 use crate::descent::BufferPart;
-use crate::{ByteAnswer, SpanAnswer, descent, short_copy};
+use crate::{descent, questions, short_copy};
 use layout::header::Header;
 use layout::place::{BlockNumber, BlockPlace, TextPlace};
 use layout::settings::Settings;
+use refusals::Refusal;
 use walk_path::TopLevel;
 use walk_ranges::leaf_end;
 use walk_ranges::leaf_end::LeafEndAnswer;
@@ -24,13 +25,6 @@ use walk_steps::position::{BlockPosition, LevelAt};
 pub struct TreeRange {
     pub from: usize,
     pub length: usize,
-}
-
-// The range of a run, or the refusal.
-#[derive(Clone, Copy)]
-pub enum RunRangeAnswer {
-    At(TreeRange),
-    Refused(u32),
 }
 
 // The run of a place: where it is in the bytes of the tree, its length, and the number of blocks on the path of each of its places.
@@ -60,17 +54,11 @@ pub fn no_run() -> LeafRun
 }
 
 // Byte: questions 10 and 14.
-pub fn byte_at(t: &[u8], h: Header, at: TextPlace) -> ByteAnswer
+pub fn byte_at(t: &[u8], h: Header, at: TextPlace) -> Result<(u8, u32), Refusal>
     requires { HeaderOf t.now h }
     ensures { replied (byte_reply result) ≡ byte_answer t.now at.0 }
 {
-    if h.text_length <= at.0 {
-        return ByteAnswer::Refused(10);
-    }
-    let found = leaf_run(&t, h, at);
-    let LeafRunAnswer::At(run) = found else {
-        return ByteAnswer::Refused(14);
-    };
+    let run = questions::run_of_place(t, h, at)?;
     byte_on(t, run, 0)
 }
 
@@ -85,7 +73,7 @@ fn top_level(h: Header) -> TopLevel
 }
 
 // The run of a place of the text, bounded by the number of leaf bytes: question 14.
-fn leaf_run(t: &&[u8], h: Header, at: TextPlace) -> LeafRunAnswer
+pub fn leaf_run(t: &&[u8], h: Header, at: TextPlace) -> LeafRunAnswer
     requires { (HeaderOf t.now.now h) × (at.0 < h.text_length) }
     ensures { LeafRunOf t.now.now at.0 result }
 {
@@ -126,41 +114,35 @@ pub fn leaf_range(t: &&[u8], h: Header, at: TextPlace, most: u32) -> LeafRunAnsw
 }
 
 // The answer of byte at the k-th place of a run, from 0.
-fn byte_on(t: &[u8], run: LeafRun, k: usize) -> ByteAnswer
+fn byte_on(t: &[u8], run: LeafRun, k: usize) -> Result<(u8, u32), Refusal>
     requires { run.from + k < length t.now }
-    ensures { result ≡ ByteAnswer.Byte (get_or t.now (run.from + k) 0) run.entered }
+    ensures { result ≡ Ok (get_or t.now (run.from + k) 0, run.entered) }
 {
-    ByteAnswer::Byte(t[run.from + k], run.entered)
+    Ok((t[run.from + k], run.entered))
 }
 
 // Run: questions 10 and 14.
-pub fn run_range_at(t: &[u8], h: Header, at: TextPlace) -> RunRangeAnswer
+pub fn run_range_at(t: &[u8], h: Header, at: TextPlace) -> Result<TreeRange, Refusal>
     requires { HeaderOf t.now h }
     ensures { IsRunAnswer t.now at.0 result }
 {
-    if h.text_length <= at.0 {
-        return RunRangeAnswer::Refused(10);
-    }
-    let found = leaf_run(&t, h, at);
-    let LeafRunAnswer::At(run) = found else {
-        return RunRangeAnswer::Refused(14);
-    };
-    RunRangeAnswer::At(TreeRange {
+    let run = questions::run_of_place(t, h, at)?;
+    Ok(TreeRange {
         from: run.from,
         length: run.length as usize,
     })
 }
 
 // As part_at, but beyond the end of the run as far as the bytes are contiguous, and at most `most` bytes.
-pub fn range_at(t: &[u8], h: Header, at: TextPlace, most: u32) -> RunRangeAnswer
+pub fn range_at(t: &[u8], h: Header, at: TextPlace, most: u32) -> Result<TreeRange, Refusal>
     requires { (HeaderOf t.now h) × (at.0 < h.text_length) × (1 ≤ most) }
     ensures { IsRangeAnswer t.now at.0 most result }
 {
     let found = leaf_range(&t, h, at, most);
     let LeafRunAnswer::At(run) = found else {
-        return RunRangeAnswer::Refused(14);
+        return Err(Refusal::PathBroken);
     };
-    RunRangeAnswer::At(TreeRange {
+    Ok(TreeRange {
         from: run.from,
         length: run.length as usize,
     })
@@ -170,17 +152,23 @@ pub fn range_at(t: &[u8], h: Header, at: TextPlace, most: u32) -> RunRangeAnswer
 const FEW: u32 = 64;
 
 // Span: questions 10 and 13; then a short span of a layout 2 tree by edges, any other span by the paths of its bytes.
-pub fn span_at(t: &[u8], h: Header, at: TextPlace, len: u32, buffer: &mut [u8]) -> SpanAnswer
+pub fn span_at(
+    t: &[u8],
+    h: Header,
+    at: TextPlace,
+    len: u32,
+    buffer: &mut [u8],
+) -> Result<(u32, u32), Refusal>
     requires { HeaderOf t.now h }
     ensures span_answer { IsSpanAnswer t.now at.0 len (length buffer.old) result }
     ensures buffer_after { buffer.new ≡ span_buffer t.now at.0 len buffer.old }
 {
     let end = at.0 as u64 + len as u64;
     if (h.text_length as u64) < end {
-        return SpanAnswer::Refused(10);
+        return Err(Refusal::PastTheEnd);
     }
     if buffer.len() < len as usize {
-        return SpanAnswer::Refused(13);
+        return Err(Refusal::AnswerDoesNotFit);
     }
     if is_short(h, len) {
         return short_span(t, h, at, len, buffer);
@@ -205,7 +193,13 @@ fn is_short(h: Header, len: u32) -> bool
 }
 
 // A short span: its bytes are in the tree in one range or two. If its walk breaks, `len` bytes of the buffer become zero.
-fn short_span(t: &[u8], h: Header, at: TextPlace, len: u32, buffer: &mut [u8]) -> SpanAnswer
+fn short_span(
+    t: &[u8],
+    h: Header,
+    at: TextPlace,
+    len: u32,
+    buffer: &mut [u8],
+) -> Result<(u32, u32), Refusal>
     requires { (HeaderOf t.now h) × (at.0 + len ≤ h.text_length) × (len ≤ length buffer.old) × (is_short t.now len ≡ true) }
     ensures span_answer { IsSpanAnswer t.now at.0 len (length buffer.old) result }
     ensures buffer_after { buffer.new ≡ span_buffer t.now at.0 len buffer.old }
@@ -213,31 +207,37 @@ fn short_span(t: &[u8], h: Header, at: TextPlace, len: u32, buffer: &mut [u8]) -
     let found = gather::from_text(t, h, at, len);
     let Gathered::At(q) = found else {
         byte_slices::clear(buffer, len as usize);
-        return SpanAnswer::Refused(14);
+        return Err(Refusal::PathBroken);
     };
     let size = q.size as usize;
     short_copy::copy_short(buffer, 0, t, q.from, size);
     short_copy::copy_short(buffer, size, t, q.next, len as usize - size);
-    SpanAnswer::Bytes(len, q.entered)
+    Ok((len, q.entered))
 }
 
 // Copies the first n bytes of a range to a place in the buffer. Their answers are those of one walk, so that the loop over them is a copy.
-pub fn copy_range(t: &[u8], run: LeafRun, n: u32, buffer: &mut [u8], to: usize) -> SpanAnswer
+pub fn copy_range(
+    t: &[u8],
+    run: LeafRun,
+    n: u32,
+    buffer: &mut [u8],
+    to: usize,
+) -> Result<(u32, u32), Refusal>
     requires { (run.from + n ≤ length t.now) × (to + n ≤ length buffer.old) }
-    ensures value { result ≡ SpanAnswer.Bytes n 0 }
+    ensures value { result ≡ Ok (n, 0) }
     ensures buffer_after { buffer.new ≡ bytes_written buffer.old to t.now run.from n }
 {
     let size = n as usize;
     let mut k: usize = 0;
     while k < size {
         let answer = byte_on(t, run, k);
-        let ByteAnswer::Byte(value, _) = answer else {
-            return SpanAnswer::Refused(number(answer));
+        let Ok((value, _)) = answer else {
+            return Err(answer.unwrap_err());
         };
         buffer[to + k] = value;
         k += 1;
     }
-    SpanAnswer::Bytes(n, 0)
+    Ok((n, 0))
 }
 
 // Copies some bytes from a place of the text, at most so many, to a place in the buffer, by one walk.
@@ -248,24 +248,30 @@ fn copy_run(
     most: u32,
     buffer: &mut [u8],
     to: usize,
-) -> SpanAnswer
+) -> Result<(u32, u32), Refusal>
     requires { (HeaderOf t.now h) × (at.0 < h.text_length) × (1 ≤ most) × (to + most ≤ length buffer.old) }
     ensures { RunCopied t.now at.0 most to buffer.old buffer.new result }
 {
     let found = leaf_range(&t, h, at, most);
     let LeafRunAnswer::At(run) = found else {
-        return SpanAnswer::Refused(14);
+        return Err(Refusal::PathBroken);
     };
     copy_range(t, run, run.length, buffer, to)
 }
 
 // Copies by one descent; where a byte is refused, the part asked for is left zero.
-pub fn copy(t: &[u8], h: Header, at: TextPlace, len: u32, buffer: &mut [u8]) -> SpanAnswer
+pub fn copy(
+    t: &[u8],
+    h: Header,
+    at: TextPlace,
+    len: u32,
+    buffer: &mut [u8],
+) -> Result<(u32, u32), Refusal>
     requires { (HeaderOf t.now h) × (at.0 + len ≤ h.text_length) × (len ≤ length buffer.old) }
     ensures copy_answer { IsCopyAnswer t.now at.0 len (length buffer.old) result }
     ensures buffer_after { buffer.new ≡ copy_buffer t.now at.0 len buffer.old }
 {
-    let refused = descent::copy_segment(
+    let copied = descent::copy_segment(
         &t,
         Rules {
             record_size: h.record_size,
@@ -282,11 +288,11 @@ pub fn copy(t: &[u8], h: Header, at: TextPlace, len: u32, buffer: &mut [u8]) -> 
         BufferPart { to: 0, size: len },
         buffer,
     );
-    if refused != 0 {
+    if let Err(refusal) = copied {
         byte_slices::clear(buffer, len as usize);
-        return SpanAnswer::Refused(refused);
+        return Err(refusal);
     }
-    SpanAnswer::Bytes(len, 0)
+    Ok((len, 0))
 }
 
 // The same range by range, each by a walk, where some of the first bytes, or none, are known to be a range of the tree.
@@ -297,35 +303,25 @@ pub fn copy_on(
     at: TextPlace,
     len: u32,
     buffer: &mut [u8],
-) -> SpanAnswer
+) -> Result<(u32, u32), Refusal>
     requires { (HeaderOf t.now h) × (at.0 + len ≤ h.text_length) × (len ≤ length buffer.old) × (ReadsFrom t.now at.0 run) }
     ensures copy_answer { IsCopyAnswer t.now at.0 len (length buffer.old) result }
     ensures buffer_after { buffer.new ≡ copy_buffer t.now at.0 len buffer.old }
 {
     let known = byte_slices::min(len, run.length);
     let first = copy_range(t, run, known, buffer, 0);
-    let SpanAnswer::Bytes(done, _) = first else {
+    let Ok((done, _)) = first else {
         byte_slices::clear(buffer, len as usize);
         return first;
     };
     let mut i: u32 = done;
     while i < len {
         let copied = copy_run(t, h, TextPlace(at.0 + i), len - i, buffer, i as usize);
-        let SpanAnswer::Bytes(n, _) = copied else {
+        let Ok((n, _)) = copied else {
             byte_slices::clear(buffer, len as usize);
             return copied;
         };
         i += n;
     }
-    SpanAnswer::Bytes(len, 0)
-}
-
-// The refusal of an answer, 0 for none.
-pub fn number(answer: ByteAnswer) -> u32
-    ensures { result ≡ (replied (byte_reply answer)).number }
-{
-    match answer {
-        ByteAnswer::Byte(_, _) => 0,
-        ByteAnswer::Refused(number) => number,
-    }
+    Ok((len, 0))
 }

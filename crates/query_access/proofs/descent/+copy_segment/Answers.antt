@@ -1,8 +1,7 @@
 use mathlib.Core.Path.{refl, sym, ◌∙◌}
 use Prim.Native.Nat.{◌+◌, ◌-◌}
 use native.Mathlib.Omega.{arith}
-use borrow.Author.Rules.{rules}
-use borrow.Fn.PlainCycle.{is, falls}
+use Rattle.refusals.specs.RefusalsLaws.{passed-on}
 use Rattle.layout.proofs.ShapeLaws.{shapes}
 use Rattle.walk_ranges.specs.Segments.{NextAt}
 use Rattle.query_access.proofs.SegmentLaws as segments
@@ -50,8 +49,8 @@ returns-in_default t c = segments.go-off _ _ _ _ _ _ _ _ _ c.loop-done.invariant
 pub overflow_add-piece : goal.overflow_add-piece
 overflow_add-piece t c = record { fits = omega (arith, c.requires.1, c.loop-done-test.true) }
 
-pub copy_segment-refused-requires : goal.copy_segment-refused-requires
-copy_segment-refused-requires t c =
+pub copy_segment-requires : goal.copy_segment-requires
+copy_segment-requires t c =
     let next : NextAt c.args.t.now.now c.args.rules.pointers c.args.on.level c.args.from.block.0
     (c.args.from.place.0 + c.loop-done.done) (c.args.part.size - c.loop-done.done) c.in-At.next c.in-At.n = segments.next-at _ _ _ _ _ _ _ c.next_segment-found.ensures _ _ c.in-At.is in
     let s = next in (
@@ -59,15 +58,12 @@ copy_segment-refused-requires t c =
       (s.segment, omega (arith, c.requires.1, s.at_most, c.loop-done-test.true), omega (arith, c.requires.2, s.at_most, c.loop-done-test.true, c.loop-done.invariant.1)),
     )
 
-pub shape_of-buffer-then-refused-ne0 : goal.shape_of-buffer-then-refused-ne0
-shape_of-buffer-then-refused-ne0 t c = c.copy_segment-refused.auto.buffer ∙ c.loop-done.invariant.1
-
-pub returns-then-refused-ne0 : goal.returns-then-refused-ne0
-returns-then-refused-ne0 t c =
+pub returns-in_err-copy_segment : goal.returns-in_err-copy_segment
+returns-in_err-copy_segment t c =
     let next : NextAt c.args.t.now.now c.args.rules.pointers c.args.on.level c.args.from.block.0
     (c.args.from.place.0 + c.loop-done.done) (c.args.part.size - c.loop-done.done) c.in-At.next c.in-At.n = segments.next-at _ _ _ _ _ _ _ c.next_segment-found.ensures _ _ c.in-At.is in
-    segments.go-broken _ _ _ _ _ _ _ _ _ c.loop-done.invariant.2 _ _ _ next _ _ c.copy_segment-refused.ensures
-    c.if-refused-ne0.true _ (omega (arith, c.loop-done-test.true))
+    rw (passed-on _ _ c.from_residual.ensures.1) (segments.go-broken _ _ _ _ _ _ _ _ _ c.loop-done.invariant.2 _ _ _ next _ _ (rw c.in_err-copy_segment.was at c.copy_segment.ensures)
+    (segments.is-refusal _) _ (omega (arith, c.loop-done-test.true)))
 
 pub overflow_add-done : goal.overflow_add-done
 overflow_add-done t c =
@@ -86,8 +82,8 @@ loop-done-preserved t c =
     let next : NextAt c.args.t.now.now c.args.rules.pointers c.args.on.level c.args.from.block.0
     (c.args.from.place.0 + c.loop-done.done) (c.args.part.size - c.loop-done.done) c.in-At.next c.in-At.n = segments.next-at _ _ _ _ _ _ _ c.next_segment-found.ensures _ _ c.in-At.is in (
       omega (arith, next.at_most, c.loop-done-test.true),
-      c.copy_segment-refused.auto.buffer ∙ c.loop-done.invariant.1,
-      segments.go-more _ _ _ _ _ _ _ _ _ c.loop-done.invariant.2 _ _ _ next _ _ c.copy_segment-refused.ensures c.if-refused-ne0.false,
+      c.copy_segment.auto.buffer ∙ c.loop-done.invariant.1,
+      segments.go-more _ _ _ _ _ _ _ _ _ c.loop-done.invariant.2 _ _ _ next _ _ (rw c.in_ok-copy_segment.was at c.copy_segment.ensures) refl,
     )
 
 pub shape_of-buffer : goal.shape_of-buffer

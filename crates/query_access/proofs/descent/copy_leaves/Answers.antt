@@ -2,7 +2,6 @@ use mathlib.Core.Path.{refl, ap}
 use Prim.Native.Nat.{ℕ, ◌+◌}
 use native.Mathlib.Omega.{arith}
 use Rattle.layout.proofs.ShapeLaws.{shapes}
-use Rattle.query_access.proofs.CopyLaws.{not-refused}
 use Rattle.query_access.proofs.SegmentLaws as segments
 use Rattle.query_access.proofs.descent.copy_leaves.Goals as goal
 
@@ -10,14 +9,11 @@ pub returns-then-shape-leaf : goal.returns-then-shape-leaf
 returns-then-shape-leaf c = let x = shapes _ _ c.shape_of-shape.ensures in
     segments.leaves-missing _ _ _ _ _ _ _ _ c.requires.2 refl x.count_is c.if-shape-leaf.true
 
-pub copy_range-copied-requires : goal.copy_range-copied-requires
-copy_range-copied-requires c = let x = shapes _ _ c.shape_of-shape.ensures in
+pub copy_range-requires : goal.copy_range-requires
+copy_range-requires c = let x = shapes _ _ c.shape_of-shape.ensures in
     (omega (arith, c.if-shape-leaf.false, x.count_is, x.offset_is, c.requires.0.size), c.requires.3)
 
-pub returns-in-Bytes : goal.returns-in-Bytes
-returns-in-Bytes c = let x = shapes _ _ c.shape_of-shape.ensures in
+pub returns : goal.returns
+returns c = let x = shapes _ _ c.shape_of-shape.ensures in
     segments.leaves-copied _ _ _ _ _ _ _ _ _ _ refl x.count_is c.if-shape-leaf.false
-    (ap (λ (y : ℕ). y + (c.args.from.block.0 + c.args.from.place.0)) x.offset_is) c.copy_range-copied.ensures.buffer_after
-
-pub returns-in-Refused : goal.returns-in-Refused
-returns-in-Refused c = absurd (not-refused _ _ _ _ c.copy_range-copied.ensures.value c.in-Refused.is)
+    (ap (λ (y : ℕ). y + (c.args.from.block.0 + c.args.from.place.0)) x.offset_is) c.copy_range.ensures.buffer_after

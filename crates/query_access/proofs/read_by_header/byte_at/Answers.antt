@@ -1,18 +1,14 @@
-use mathlib.Core.Path.{sym}
 use native.Mathlib.Omega.{arith}
-use Rattle.query_access.proofs.ByteLaws.{byte_past}
+use Rattle.refusals.specs.RefusalsLaws.{passed-on}
 use Rattle.query_access.proofs.LeafRunLaws as laws
 use Rattle.query_access.proofs.read_by_header.byte_at.Goals as goal
 
-pub returns-then-h-at : goal.returns-then-h-at
-returns-then-h-at c = byte_past _ _ _ c.requires c.if-h-at.true
-
-pub returns-in_default : goal.returns-in_default
-returns-in_default c = sym (laws.run-refused _ _ _ c.leaf_run-found.ensures c.in_default.is)
+pub returns-in_err-run : goal.returns-in_err-run
+returns-in_err-run c = rw (passed-on _ _ c.from_residual.ensures.1) (laws.place-refused _ _ _ c.run_of_place.ensures _ c.in_err-run.was)
 
 pub byte_on-requires : goal.byte_on-requires
-byte_on-requires c = let r = laws.run-found _ _ _ c.leaf_run-found.ensures _ c.in-At.is in
+byte_on-requires c = let r = laws.place-found _ _ _ c.run_of_place.ensures _ c.in_ok-run.was in
     omega (arith, r.some_byte, r.in_tree)
 
 pub returns : goal.returns
-returns c = laws.run-first-byte _ _ _ (laws.run-found _ _ _ c.leaf_run-found.ensures _ c.in-At.is) _ c.byte_on.ensures
+returns c = laws.run-first-byte _ _ _ (laws.place-found _ _ _ c.run_of_place.ensures _ c.in_ok-run.was) _ c.byte_on.ensures

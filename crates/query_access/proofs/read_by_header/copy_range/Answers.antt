@@ -1,4 +1,3 @@
-use Prim.Native.Nat.{◌-◌}
 use mathlib.Core.Path.{◌≡◌, refl}
 use native.Mathlib.Omega.{arith}
 use lib.ListN.{length-set}
@@ -34,7 +33,7 @@ loop-k-preserved c = (
   omega arith,
   simp length-set c.loop-k.invariant.1,
   laws.byte-written c.args.buffer.now c.loop-k.buffer c.args.t.now c.args.to _ c.loop-k.k c.loop-k.invariant.2
-      _ _ _ _ c.byte_on-answer.ensures c.in-Byte.is,
+      _ _ _ _ c.byte_on-answer.ensures c.in-Ok.is,
 )
 
 pub shape_of-buffer : goal.shape_of-buffer

@@ -1,12 +1,10 @@
-use Rattle.query_access.proofs.ByteLaws.{run_past}
+use Rattle.refusals.specs.RefusalsLaws.{passed-on}
+use Rattle.query_access.proofs.ByteLaws.{run_none}
 use Rattle.query_access.proofs.LeafRunLaws as laws
 use Rattle.query_access.proofs.read_by_header.run_range_at.Goals as goal
 
-pub returns-then-h-at : goal.returns-then-h-at
-returns-then-h-at c = run_past _ _ _ c.requires c.if-h-at.true
-
-pub returns-in_default : goal.returns-in_default
-returns-in_default c = laws.broken-part _ _ _ c.leaf_run-found.ensures c.in_default.is
+pub returns-in_err-run : goal.returns-in_err-run
+returns-in_err-run c = rw (passed-on _ _ c.from_residual.ensures.1) (run_none _ _ _ (laws.place-refused _ _ _ c.run_of_place.ensures _ c.in_err-run.was))
 
 pub returns : goal.returns
-returns c = laws.found_part _ _ _ c.leaf_run-found.ensures _ c.in-At.is
+returns c = laws.place-part _ _ _ c.run_of_place.ensures _ c.in_ok-run.was

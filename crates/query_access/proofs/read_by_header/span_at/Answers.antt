@@ -1,16 +1,17 @@
+use Rattle.std.specs.Prelude.{Err}
+use Rattle.refusals.specs.declared.Refusal.TheVariants.{PastTheEnd, AnswerDoesNotFit}
 use mathlib.Core.Path.{sym, ◌∙◌}
 use native.Mathlib.Omega.{arith}
-use Rattle.query_access.specs.declared.SpanAnswer.TheVariants.{Refused}
 use Rattle.query_access.proofs.LeafRunLaws.{access-none-read}
 use Rattle.query_access.proofs.ShortLaws.{short-is}
 use Rattle.query_access.proofs.SpanLaws as laws
 use Rattle.query_access.proofs.read_by_header.span_at.Goals as goal
 
 pub returns-then-h-end : goal.returns-then-h-end
-returns-then-h-end c = let both = laws.access-answered _ _ _ _ _ (Refused 10) (omega arith) (laws.span_past _ _ _ _ _ _ _ c.requires.passes (omega (arith, c.requires.length_is, c.if-h-end.true))) in record { span_answer = both.0; buffer_after = both.1 }
+returns-then-h-end c = let both = laws.access-answered _ _ _ _ _ (Err PastTheEnd) (omega arith) (laws.span_past _ _ _ _ _ _ _ c.requires.passes (omega (arith, c.requires.length_is, c.if-h-end.true))) in record { span_answer = both.0; buffer_after = both.1 }
 
 pub returns-then-buffer-len : goal.returns-then-buffer-len
-returns-then-buffer-len c = let both = laws.access-answered _ _ _ _ _ (Refused 13)
+returns-then-buffer-len c = let both = laws.access-answered _ _ _ _ _ (Err AnswerDoesNotFit)
     (omega arith) (laws.span_short _ _ _ _ _ _ _ c.requires.passes (omega (arith, c.requires.length_is, c.if-h-end.false)) c.if-buffer-len.true) in record { span_answer = both.0; buffer_after = both.1 }
 
 pub short_span-requires : goal.short_span-requires
