@@ -1,15 +1,23 @@
 -- Two trees read side by side: what remains to be compared, place by place and run by run.
 use mathlib.Core.List.{List}
-use mathlib.Core.Bool.{cond}
-use mathlib.Core.Path.{◌≡◌, refl, sym, ◌∙◌}
+use mathlib.Core.Bool.{Bool, true, cond}
+use mathlib.Core.Path.{◌≡◌, sym, ap, ◌∙◌}
 use mathlib.Core.Logic.{◌⊎◌, inl, inr}
 use Prim.Native.Nat.{ℕ, zero, suc, ◌+◌, ◌-◌, ◌≤◌, ◌<◌, min}
 use native.Mathlib.Omega.{arith}
 use native.Mathlib.Nat.{sub-zero}
 use borrow.Author.Tests.{lt-ltb, le-ltb}
 use lib.ListN.{length, get_or}
-use lib.Dec.{ltb}
-use Rattle.text.specs.ListLaws.{lt-or-ge, below_suc}
+use Rattle.std.specs.List.{between, zip, AllWithin, HoldsAt}
+use Rattle.std.specs.Option.{MatchOption, unwrap_or}
+use Rattle.std.specs.Cmp.Lexicographic.{pointwise}
+use Rattle.std.proofs.Common.{Option, Some, None}
+use Rattle.std.proofs.lemmas.List.Edits.{length-between, get_or-between}
+use Rattle.std.proofs.lemmas.Slice.Eq.{slice_eq-Decides}
+use Rattle.std.proofs.lemmas.Slice.Zip.{length-zip, get_or-zip}
+use Rattle.std.proofs.lemmas.Bool.Decides.{Decides-eqb}
+use lib.Dec.{eqb, ltb}
+use Rattle.text.specs.ListLaws.{lt-or-ge}
 use Rattle.format.specs.Answers.{Answer, refused, replied, unless, byte_answer}
 use Rattle.format.specs.AnswerLaws.{unless-refused}
 use Rattle.format.specs.Layout as at
@@ -256,12 +264,46 @@ module _ (t u : List ℕ) (x : HeaderAnswer) (q : ℕ) (e : x ≡ header.Refused
       let z = header_refused u x x-is q e in
       record { answers = rw r (unless-refused (header_result u) z.0 q _ z.1 z.2) }
 
--- One place more agrees.
-pub agree-more : (s : List ℕ) (a : ℕ) (t : List ℕ) (b i : ℕ)
-    → ((x : ℕ) → x < i → get_or s (a + x) 0 ≡ get_or t (b + x) 0) → get_or s (a + i) 0 ≡ get_or t (b + i) 0
-    → (x : ℕ) → x < i + 1 → get_or s (a + x) 0 ≡ get_or t (b + x) 0
-agree-more s a t b i all here x h = go (below_suc x i (omega arith))
-  where
-    go : (x < i) ⊎ (x ≡ i) → get_or s (a + x) 0 ≡ get_or t (b + x) 0
-    go (inl l) = all x l
-    go (inr e) = rw e here
+-- A byte of one range beside that of the other.
+abbrev pub Differ : ℕ × ℕ → Type 0
+Differ p = p.0 ≡ p.1 → ⊥
+
+abbrev pub Equal : ℕ × ℕ → Type 0
+Equal p = p.0 ≡ p.1
+
+-- Two ranges of n bytes, as slices.
+module _ (s : List ℕ) (a : ℕ) (t : List ℕ) (b n : ℕ) (fits : a + n ≤ length s) (room : b + n ≤ length t) where
+  abbrev xs : List ℕ
+  xs = between a (a + n) s
+
+  abbrev ys : List ℕ
+  ys = between b (b + n) t
+
+  pub equal-ranges : (r : Bool) → r ≡ pointwise eqb xs ys → r ≡ true → (x : ℕ) → x < n → get_or s (a + x) 0 ≡ get_or t (b + x) 0
+  equal-ranges r e y x h =
+      sym (get_or-between s a (a + n) x 0 (omega arith)) ∙ ap (λ (l : List ℕ). get_or l x 0) ((slice_eq-Decides Decides-eqb xs ys r e).0 y)
+      ∙ get_or-between t b (b + n) x 0 (omega arith)
+
+  pair-at : (x : ℕ) → x < n → get_or (zip xs ys) x (0, 0) ≡ (get_or s (a + x) 0, get_or t (b + x) 0)
+  pair-at x h =
+      let k : x < length xs = omega (arith, length-between s a (a + n) fits) in
+      let l : x < length ys = omega (arith, length-between t b (b + n) room) in
+      rw (get_or-zip xs ys x (0, 0) k l, get_or-between s a (a + n) x 0 (omega arith), get_or-between t b (b + n) x 0 (omega arith))
+
+  pairs : length (zip xs ys) ≡ n
+  pairs = omega (arith, length-zip xs ys, length-between s a (a + n) fits, length-between t b (b + n) room)
+
+  -- The first pair of bytes that differ.
+  pub first-differs : (r : Option ℕ) (m : ℕ) → m ≡ unwrap_or r n
+      → MatchOption r (AllWithin Equal (zip xs ys) 0 (length (zip xs ys)))
+      (λ i. (i < length (zip xs ys)) × HoldsAt Differ (zip xs ys) i × AllWithin Equal (zip xs ys) 0 i) → Agrees s a t b n m
+  first-differs None m e all = rw e (record {
+    most = omega arith;
+    same = λ x h. rw (pair-at x h) at (all x (0, 0) (omega arith) (omega (arith, pairs)));
+    differ = λ h. absurd (let z : ⊥ = omega arith in z);
+  })
+  first-differs (Some i) m e hit = rw e (record {
+    most = omega (arith, hit.0, pairs);
+    same = λ x h. rw (pair-at x (omega (arith, hit.0, pairs))) at (hit.2 x (0, 0) (omega arith) h);
+    differ = λ h. rw (pair-at i h) at (hit.1 (0, 0));
+  })

@@ -41,6 +41,7 @@ pub fn by_places(one: &[u8], h: Header, other: &[u8], g: Header) -> CompareAnswe
         one: TreeRange { from: 0, length: 0 },
         other: TreeRange { from: 0, length: 0 },
     };
+    // A `while`: each part's length is found when it is read, so there is no range to go over.
     while m.place.0 < most {
         let round = read_on(one, h, other, g, m);
         match round {
@@ -123,8 +124,8 @@ fn min(a: usize, b: usize) -> usize
     a
 }
 
-// The length of the common prefix of two ranges of n bytes. Mostly all bytes agree, and a loop without an exit is compiled to vector instructions; only if
-// one differs are they compared one by one.
+// The length of the common prefix of two ranges of n bytes. Mostly all bytes agree, and `==` of slices compares many at once; only if one differs are they
+// compared one by one.
 fn agree(one: &[u8], from: usize, other: &[u8], at: usize, n: usize) -> usize
     requires { (from + n ≤ length one.now) × (at + n ≤ length other.now) }
     ensures { Agrees one.now from other.now at n result }
@@ -140,15 +141,8 @@ fn all_agree(one: &[u8], from: usize, other: &[u8], at: usize, n: usize) -> bool
     requires { (from + n ≤ length one.now) × (at + n ≤ length other.now) }
     ensures { result ≡ true → (x : ℕ) → x < n → get_or one.now (from + x) 0 ≡ get_or other.now (at + x) 0 }
 {
-    let mut same = true;
-    let mut i: usize = 0;
-    while i < n {
-        if one[from + i] != other[at + i] {
-            same = false;
-        }
-        i += 1;
-    }
-    same
+    let (end, until) = (from + n, at + n);
+    one[from..end] == other[at..until]
 }
 
 // The first of n bytes in which two ranges differ; n if they agree.
@@ -156,14 +150,9 @@ fn first_difference(one: &[u8], from: usize, other: &[u8], at: usize, n: usize) 
     requires { (from + n ≤ length one.now) × (at + n ≤ length other.now) }
     ensures { Agrees one.now from other.now at n result }
 {
-    let mut i: usize = 0;
-    while i < n {
-        if one[from + i] != other[at + i] {
-            return i;
-        }
-        i += 1;
-    }
-    i
+    let (end, until) = (from + n, at + n);
+    let mut pairs = one[from..end].iter().zip(&other[at..until]);
+    pairs.position(|(x, y)| x != y).unwrap_or(n)
 }
 
 // The order by the first byte that differs: the k-th of two ranges, which start at a place of the text.

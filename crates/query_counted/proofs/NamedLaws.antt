@@ -1,40 +1,39 @@
 -- A byte looked for, one place after another.
-use mathlib.Core.List.{List}
-use mathlib.Core.Path.{◌≡◌, sym, ◌∙◌}
-use Prim.Native.Nat.{ℕ, ◌+◌, ◌≤◌, ◌<◌}
+use mathlib.Core.List.{List, [], ◌∷◌}
+use mathlib.Core.Path.{◌≡◌, refl, sym, ap, ◌∙◌}
+use Prim.Native.Nat.{ℕ, ◌+◌, ◌-◌, ◌≤◌, ◌<◌}
 use native.Mathlib.Omega.{arith}
-use native.Mathlib.Numerals.{add-one}
-use lib.ListN.{length, drop, get_or, length-take, length-drop, drop_of_length-le}
-use lib.Seq.{drop-cons, get_or-take, get_or-drop}
+use lib.ListN.{length, drop, get_or}
+use lib.Seq.{get_or-take, get_or-drop, take-take}
+use Rattle.std.specs.List.{between, AllWithin, HoldsAt}
+use Rattle.std.specs.Option.{MatchOption, unwrap_or}
+use Rattle.std.proofs.Common.{Option}
+use Rattle.std.proofs.lemmas.Iterator.{index_from_first}
+use Rattle.std.proofs.lemmas.Bool.Decides.{nat_tests}
+use Rattle.std.proofs.lemmas.List.Edits.{length-between}
 use borrow.Author.Tests.{eq-eqb, ne_eqb}
 use Rattle.format.specs.Layout.{max_counted, counted_at}
 use Rattle.format.specs.Layout as at
 use Rattle.format.specs.Answers.{index_of, number_of_byte}
 use Rattle.query_counted.specs.Named.{Names}
 
--- The number of a byte in a list.
+-- The first place of a list that has a byte.
+abbrev pub FirstOf : ℕ → List ℕ → Option ℕ → Type 0
+FirstOf byte xs r = MatchOption r (AllWithin (λ x. x ≡ byte → ⊥) xs 0 (length xs))
+    (λ i. (i < length xs) × HoldsAt (λ x. x ≡ byte) xs i × AllWithin (λ x. x ≡ byte → ⊥) xs 0 i)
 
-index-here : (c : ℕ) (xs : List ℕ) (i : ℕ) → i < length xs → get_or xs i 0 ≡ c → index_of c (drop i xs) ≡ 0
+index-first : (byte : ℕ) (xs : List ℕ) (r : Option ℕ) → FirstOf byte xs r → index_of byte xs ≡ unwrap_or r (length xs)
 unfolding index_of
-index-here c xs i h e = rw (drop-cons xs i 0 h, eq-eqb c (get_or xs i 0) (sym e))
+index-first byte xs r first =
+    index_from_first (index_of byte) (λ x. x ≡ byte) (λ x. x ≡ byte → ⊥) refl (λ x xs e. rw (eq-eqb byte x (sym e)))
+    (λ x xs e. rw (ne_eqb byte x (λ q. e (sym q)))) xs r first
 
-index-later : (c : ℕ) (xs : List ℕ) (i : ℕ) → i < length xs → (get_or xs i 0 ≡ c → ⊥) → index_of c (drop i xs) ≡ index_of c (drop (i + 1) xs) + 1
+index-most : (byte : ℕ) (xs : List ℕ) → index_of byte xs ≤ length xs
 unfolding index_of
-index-later c xs i h e = rw (add-one i, drop-cons xs i 0 h, ne_eqb c (get_or xs i 0) (λ x. e (sym x)))
+index-most byte [] = omega arith
+index-most byte (x ∷ xs) = grind (arith, nat_tests, index-most byte xs)
 
-index-past : (c : ℕ) (xs : List ℕ) (i : ℕ) → length xs ≤ i → index_of c (drop i xs) ≡ 0
-unfolding index_of
-index-past c xs i h = rw (drop_of_length-le xs h)
-
--- The index of a byte among the names from i on.
-unfoldable pub counted_ahead : List ℕ → ℕ → ℕ → ℕ
-counted_ahead t byte i = index_of byte (drop i (at.settings t).counted) + i
-
-pub counted-ahead-start : (t : List ℕ) (byte : ℕ) → counted_ahead t byte 0 ≡ number_of_byte t byte
-unfolding counted_ahead number_of_byte
-counted-ahead-start t byte = omega arith
-
-module _ (t : List ℕ) (k byte i : ℕ) (n : Names t k) where
+module _ (t : List ℕ) (k i : ℕ) (n : Names t k) where
   pub name-at : i < k → get_or (at.settings t).counted i 0 ≡ get_or t (counted_at + i) 0
   unfolding at.settings
   name-at h =
@@ -42,18 +41,18 @@ module _ (t : List ℕ) (k byte i : ℕ) (n : Names t k) where
       let b : i < max_counted = omega (arith, n.k_low) in
       rw (get_or-take, get_or-take, get_or-drop)
 
-  names : length (at.settings t).counted ≡ k
+-- The counted bytes stand in the header, one after the other.
+module _ (t : List ℕ) (k byte : ℕ) (n : Names t k) where
+  names-are : (at.settings t).counted ≡ between counted_at (counted_at + k) t
   unfolding at.settings
-  names = simp (length-take, length-drop) (omega (arith, n.long, n.k_is, n.k_low))
+  names-are = let e : counted_at + k - counted_at ≡ k = omega arith in rw (e, ← n.k_is) (take-take k max_counted (drop counted_at t) n.k_low)
 
-  pub ahead-hit : i < k → get_or t (counted_at + i) 0 ≡ byte → i ≡ counted_ahead t byte i
-  unfolding counted_ahead
-  ahead-hit h e = omega (arith, index-here byte (at.settings t).counted i (omega (arith, names)) (name-at h ∙ e))
+  length-names : length (between counted_at (counted_at + k) t) ≡ k
+  length-names = length-between t counted_at (counted_at + k) (omega (arith, n.long, n.k_low)) ∙ omega arith
 
-  pub ahead-miss : i < k → (get_or t (counted_at + i) 0 ≡ byte → ⊥) → counted_ahead t byte (i + 1) ≡ counted_ahead t byte i
-  unfolding counted_ahead
-  ahead-miss h e = omega (arith, index-later byte (at.settings t).counted i (omega (arith, names)) (λ x. e (sym (name-at h) ∙ x)))
-
-  pub ahead-end : k ≤ i → i ≡ counted_ahead t byte i
-  unfolding counted_ahead
-  ahead-end h = omega (arith, index-past byte (at.settings t).counted i (omega (arith, names)))
+  pub number-is : (r : Option ℕ) (m : ℕ) → m ≡ unwrap_or r k → FirstOf byte (between counted_at (counted_at + k) t) r → (m ≡ number_of_byte t byte) × (m ≤ k)
+  unfolding number_of_byte
+  number-is r m e first =
+      let i : m ≡ index_of byte (between counted_at (counted_at + k) t) =
+      e ∙ ap (unwrap_or r) (sym length-names) ∙ sym (index-first byte (between counted_at (counted_at + k) t) r first) in
+      (rw names-are i, omega (arith, i, index-most byte (between counted_at (counted_at + k) t), length-names))

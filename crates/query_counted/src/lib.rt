@@ -24,14 +24,9 @@ pub fn number_of(t: &[u8], k: u32, byte: u8) -> u32
     requires { Names t.now k }
     ensures { (result ≡ number_of_byte t.now byte) × (result ≤ k) }
 {
-    let mut i: u32 = 0;
-    while i < k {
-        if t[header::COUNTED_AT + i as usize] == byte {
-            return i;
-        }
-        i += 1;
-    }
-    i
+    let end = header::COUNTED_AT + k as usize;
+    let found = t[header::COUNTED_AT..end].iter().position(|x| *x == byte);
+    found.unwrap_or(k as usize) as u32
 }
 
 // How often a counted byte occurs in the text: the sum of before and inside of the last block of level 0, or 0 if there is no block.

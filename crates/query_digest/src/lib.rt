@@ -69,15 +69,14 @@ fn hash_parts(t: &[u8], h: Header, part: &mut [u8]) -> HashAnswer
     ensures { result ≡ hash_answer t.now 0 }
 {
     let mut s = sha256::initial_state();
-    let mut at: u32 = 0;
-    while PART <= h.text_length - at {
-        if !read_part(t, h, at, PART, part) {
+    let parts = h.text_length / PART;
+    for k in 0..parts {
+        if !read_part(t, h, PART * k, PART, part) {
             return HashAnswer::BrokenPath;
         }
         s = sha256::hash_blocks(s, part, PART_BLOCKS);
-        at += PART;
     }
-    last_part(t, h, at, s, part)
+    last_part(t, h, PART * parts, s, part)
 }
 
 // Hashes the rest of the text from `at` on, less than a part, and the padding.

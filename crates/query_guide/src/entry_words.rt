@@ -33,10 +33,8 @@ pub fn entries_before(t: &[u8], h: Header, number: u32) -> u64
     ensures { (result ≡ entries_before t.now number) × (result ≤ max_counted * (2 ^ 64 / listed_every)) }
 {
     let mut sum: u64 = 0;
-    let mut c: u32 = 0;
-    while c < number {
-        sum = sum + entries_of(t, h, c);
-        c += 1;
+    for c in 0..number {
+        sum += entries_of(t, h, c);
     }
     sum
 }

@@ -1,11 +1,10 @@
 -- The table: it starts with the first `room` of the places found.
 use mathlib.Core.List.{List, [], ◌∷◌, ◌++◌, append_assoc}
-use mathlib.Core.Path.{◌≡◌, sym, ◌∙◌}
-use Prim.Native.Nat.{ℕ, suc, ◌+◌, ◌≤◌, ◌<◌}
+use mathlib.Core.Path.{◌≡◌}
+use Prim.Native.Nat.{ℕ, suc, ◌≤◌, ◌<◌}
 use native.Mathlib.Omega.{arith}
 use lib.ListN.{length, get_or, take, drop, set, length-append, length-drop, length-take}
-use native.Mathlib.Numerals.{add-one}
-use lib.Seq.{take_all, take-nil, take-suc, take-append-le, take-append_seam, length-take-le, drop-cons, set-append_seam, set_at}
+use lib.Seq.{take_all, take-nil, take-append-le, take-append_seam, drop-cons, set-append_seam}
 use Rattle.query_places.specs.TableFilled.{filled}
 
 pub filled_none : (room : ℕ) (before : List ℕ) → before ≡ filled [] room before
@@ -20,14 +19,6 @@ filled-all ps room before h = rw (take_all room ps h)
 -- The converse.
 pub filled-take : (ps : List ℕ) (room : ℕ) (before : List ℕ) → length ps ≤ room → take (length ps) (filled ps room before) ≡ ps
 filled-take ps room before h = rw (filled-all ps room before h) (take-append_seam ps (drop (length ps) before))
-
--- A copy of the first words, by one more.
-pub copied_more : (few table now : List ℕ) (i : ℕ) → i < length few → i < length table → now ≡ take i few ++ drop i table
-    → set now i (get_or few i 0) ≡ take (i + 1) few ++ drop (i + 1) table
-copied_more few table now i h k e =
-    let n : length (take i few) ≡ i = length-take-le i few (omega arith) in
-    rw (e, add-one, take-suc few i 0 h, drop-cons table i 0 k)
-    (set_at (take i few) (get_or table i 0) (drop (suc i) table) (get_or few i 0) i n ∙ sym (append_assoc (take i few) (get_or few i 0 ∷ []) (drop (suc i) table)))
 
 module _ (ps : List ℕ) (room : ℕ) (before : List ℕ) (fits : room ≤ length before) where
   pub filled-length : length (filled ps room before) ≡ length before

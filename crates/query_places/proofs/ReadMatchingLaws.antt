@@ -9,9 +9,6 @@ use borrow.Author.Tests.{lt-ltb, eq-eqb, ne_eqb}
 use lib.ListN.{length, get_or}
 use lib.Dec.{ltb, eqb}
 use Rattle.text.specs.ListLaws.{and_both, and-false, lt-or-ge}
-use Rattle.format.specs.Layout as at
-use Rattle.format.specs.TreeReading.{text_of}
-use Rattle.theory_paths.specs.OneText.{text-length}
 use Rattle.query_access.specs.ReadByRuns.{ReadsOn}
 use Rattle.query_access.proofs.RunLaws.{reads-rest}
 use Rattle.search_byte.specs.FirstByte.{Without}

@@ -151,9 +151,5 @@ fn copy(few: &[u32], n: usize, table: &mut [u32])
     requires { (n ≤ length few.now) × (n ≤ length table.old) }
     ensures { table.new ≡ take n few.now ++ drop n table.old }
 {
-    let mut i: usize = 0;
-    while i < n {
-        table[i] = few[i];
-        i += 1;
-    }
+    table[..n].copy_from_slice(&few[..n]);
 }

@@ -123,6 +123,7 @@ fn feed(
     let start = run.before.place.0;
     let mut at = run.before;
     let mut i: usize = 0;
+    // A `while`: how many bytes a step passes is found in its body, so there is no range to go over.
     while i < size {
         at = read_matching(t, from + i, size - i, pattern, at);
         i = (at.place.0 - start) as usize;
@@ -153,6 +154,7 @@ pub fn seek(
         state: 0,
         found: 0,
     };
+    // A `while`: each part's length is found when it is read, so there is no range to go over.
     while m.place.0 < h.text_length {
         let range = read_by_header::range_at(t, h, m.place, MOST);
         let RunRangeAnswer::At(part) = range else {

@@ -28,6 +28,7 @@ pub fn next_newline(t: &&[u8], h: Header, from: TextPlace) -> Newline
     let mut at: u32 = from.0;
     let mut earlier: u8 = 0;
     let mut first = read_by_header::no_run();
+    // A `while`: each part's length is found when it is read, so there is no range to go over.
     while at < h.text_length {
         let found = read_by_header::leaf_range(t, h, TextPlace(at), MOST);
         let LeafRunAnswer::At(part) = found else {

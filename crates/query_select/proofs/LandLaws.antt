@@ -6,9 +6,9 @@ use mathlib.Core.Logic.{◌⊎◌, inl, inr}
 use Prim.Native.Nat.{ℕ, ◌+◌, ◌-◌, ◌*◌, ◌/◌, ◌≤◌, ◌<◌}
 use native.Mathlib.Omega.{arith}
 use native.Mathlib.Nat.{zero-mul}
-use borrow.Author.Tests.{ltb-true, lt-ltb, le-leb, ne_eqb}
+use borrow.Author.Tests.{lt-ltb, ne_eqb}
 use lib.ListN.{length, get_or}
-use lib.Dec.{ltb, leb}
+use lib.Dec.{ltb}
 use Rattle.text.specs.ListLaws.{bool_cases, bool_clash, and_right}
 use Rattle.text.specs.Text.{substring, count_in}
 use Rattle.format.specs.Layout.{pieces, max_text, counted_at}
@@ -37,7 +37,6 @@ use Rattle.theory_counts.specs.CountedSubstrings.{leaves-end, leaves-tally}
 use Rattle.theory_counts.specs.Finds as finds
 use Rattle.theory_counts.specs.Theorems as demands
 use Rattle.query_select.specs.declared.seek.CountField.{CountField}
-use Rattle.query_select.specs.declared.seek.Child.{Child}
 use Rattle.query_select.specs.declared.seek.Child.TheVariants as child
 use Rattle.query_select.specs.declared.seek.Target.{Target}
 use Rattle.query_select.specs.declared.seek.Target.TheVariants as target
@@ -283,7 +282,7 @@ module _ (t : List ℕ) (size c level b i j link : ℕ)
 -- The counted byte that is read in the header.
 pub named-byte : (t : List ℕ) (c : ℕ) → Readable t → c < at.counted_count t → get_or t (counted_at + c) 0 ≡ byte_of t c
 unfolding byte_of
-named-byte t c k hc = sym (name-at t (at.counted_count t) 0 c (record { long = k.long; k_is = refl; k_low = k.bounds.counted_high }) hc)
+named-byte t c k hc = sym (name-at t (at.counted_count t) c (record { long = k.long; k_is = refl; k_low = k.bounds.counted_high }) hc)
 
 module _ (t : List ℕ) (c level i j way : ℕ) where
   pub not_found : (r : ℕ) → (check_result t ≡ 0 → c < at.counted_count t → j ≤ at.inside t level i c → ⊥) → FoundIn t c level i j way r

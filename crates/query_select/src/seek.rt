@@ -109,23 +109,21 @@ fn by_fours(t: &[u8], field: CountField, level: u32, blocks: Blocks, j: u64) -> 
     ensures { (Passed t.now field.number level blocks.first.0 blocks.end.0 j result.block.0)
         × (blocks.first.0 + result.steps ≡ result.block.0) }
 {
-    let last = blocks.end.0;
-    let mut i: u32 = blocks.first.0;
-    let mut steps: u32 = 0;
-    while 4 < last - i {
-        let most = largest_before(t, field, level, BlockNumber(i)) as u64;
+    let first = blocks.first.0;
+    let fours = (blocks.end.0 - first - 1) / 4;
+    for k in 0..fours {
+        let block = BlockNumber(first + 4 * k);
+        let most = largest_before(t, field, level, block) as u64;
         if j <= most {
             return StepResult {
-                block: BlockNumber(i),
-                steps,
+                block,
+                steps: 4 * k,
             };
         }
-        i += 4;
-        steps += 4;
     }
     StepResult {
-        block: BlockNumber(i),
-        steps,
+        block: BlockNumber(first + 4 * fours),
+        steps: 4 * fours,
     }
 }
 
@@ -136,23 +134,20 @@ pub fn step_along(t: &[u8], field: CountField, level: u32, blocks: Blocks, j: u6
         × (blocks.first.0 + result.steps ≡ result.block.0) }
 {
     let near = by_fours(t, field, level, blocks, j);
-    let last = blocks.end.0;
-    let mut i: u32 = near.block.0;
-    let mut steps: u32 = near.steps;
-    while i + 1 < last {
+    let from = near.block.0;
+    let last = blocks.end.0 - 1;
+    for i in from..last {
         let next = record::before(t, field.size, level, BlockNumber(i + 1), field.number) as u64;
         if j <= next {
             return StepResult {
                 block: BlockNumber(i),
-                steps,
+                steps: near.steps + (i - from),
             };
         }
-        i += 1;
-        steps += 1;
     }
     StepResult {
-        block: BlockNumber(i),
-        steps,
+        block: BlockNumber(last),
+        steps: near.steps + (last - from),
     }
 }
 
@@ -172,15 +167,12 @@ fn last_child(t: &[u8], field: CountField, level: u32, blocks: Blocks, j: u64) -
     requires { Siblings t.now field level blocks.first.0 blocks.end.0 }
     ensures { LastBefore t.now field.number level blocks.first.0 blocks.end.0 j result.0 }
 {
-    let last = blocks.end.0;
     let mut i: u32 = blocks.first.0;
-    let mut k: u32 = i + 1;
     let mut going: u32 = 1;
-    while k < last {
+    for k in blocks.first.0 + 1..blocks.end.0 {
         let next = record::before(t, field.size, level, BlockNumber(k), field.number) as u64;
-        going = going * is_below(next, j);
+        going *= is_below(next, j);
         i += going;
-        k += 1;
     }
     BlockNumber(i)
 }

@@ -62,15 +62,3 @@ module _ (W : List ℕ) (items heads x g e h s w : ℕ) (room : 3 * items + head
     places = λ y l. other (3 * y + 2) (λ q. omega arith) (λ q. omega arith) (λ q. omega arith) (λ q. omega arith);
     heads = λ f n. other (3 * items + f) (λ q. omega arith) (λ q. omega arith) (λ q. omega arith) (λ q. n (omega arith));
   }
-
--- zeros, one after the other
-module _ (W Z : List ℕ) (from i : ℕ) (fits : from + i < length W) (same : length Z ≡ length W) (before : (k : ℕ) → k < i → get_or Z (from + k) 0 ≡ 0) where
-  pub one_more : (k : ℕ) → k < i + 1 → get_or (set Z (from + i) 0) (from + k) 0 ≡ 0
-  one_more k l = go (lt-or-ge k i)
-    where
-      go : (k < i) ⊎ (i ≤ k) → get_or (set Z (from + i) 0) (from + k) 0 ≡ 0
-      go (inl m) = let n : from + k ≢ from + i = λ q. omega arith in simp get_or-set_other (before k m)
-      go (inr m) =
-          let e : k ≡ i = omega arith in
-          let f : from + i < length Z = omega arith in
-          rw e (get_or-set_same Z (from + i) 0 0 f)

@@ -13,11 +13,8 @@ pub fn clear(words: &mut [u32], from: usize, n: usize)
     requires { from + n ≤ length words.old }
     ensures { Cleared words.old words.new from n }
 {
-    let mut i: usize = 0;
-    while i < n {
-        words[from + i] = 0;
-        i += 1;
-    }
+    let end = from + n;
+    words[from..end].fill(0);
 }
 
 // One more than an item below x with the same bytes, by the chain of their fingerprint; 0 if none is found.
@@ -28,6 +25,7 @@ fn equal_item(words: &[u32], text: &[u8], out: &[u8], it: Items, x: u32, own: Pr
     let mut e = words[3 * it.items as usize
         + chain_head::bucket(own.fingerprint, it.heads) as usize]
         / 256;
+    // A `while`: each item names the next of its chain, so there is no range to go over.
     while e != 0 {
         let at = 3 * (e - 1) as usize;
         if words[at + 1] == own.fingerprint {

@@ -32,6 +32,7 @@ fn traverse_chain(words: &mut [u32], text: &[u8], out: &[u8], it: Items, w: Prob
         out.now it words.old words.new (bucket_of it.heads w.fingerprint) w.start.0 w.length }
 {
     let mut e = link;
+    // A `while`: each item names the next of its chain, so there is no range to go over.
     while e != 0 {
         let x = e - 1;
         compare_item(words, text, out, it, x, w);

@@ -148,15 +148,14 @@ pub fn enter_level(words: &mut [u32], text: &[u8], out: &[u8], it: Items) -> Len
         ending: 0,
     };
     let mut h = block_fingerprint(text, out, it, BlockNumber(0));
-    let mut i: u32 = 0;
-    while 2 * i + 1 < it.items {
+    let last = it.items / 2;
+    for i in 0..last {
         let next = block_fingerprint(text, out, it, BlockNumber(i + 1));
         let both = PairFingerprints { own: h, next, top };
         let n = enter_both(words, text, out, it, BlockNumber(i), both);
         l = with_length(with_length(l, it.size, it.size), it.size, n);
         h = next;
-        i += 1;
     }
-    entry::enter(words, text, out, it, 2 * i, h);
-    with_length(l, it.size, item::bytes_of(text, out, it, 2 * i).length)
+    entry::enter(words, text, out, it, 2 * last, h);
+    with_length(l, it.size, item::bytes_of(text, out, it, 2 * last).length)
 }

@@ -115,17 +115,12 @@ pub fn pass(words: &mut [u32], text: &[u8], out: &[u8], it: Items, l: Lengths) -
     let last = first(words, text, out, it, l.last);
     let ending = first(words, text, out, it, l.ending);
     let mut cut = cut_windows(last, ending);
-    let mut p: u32 = 0;
-    while p < text.len() as u32 {
-        let place = TextPlace(p);
-        let here = ByteAt {
-            place,
-            byte: text[p as usize],
-        };
+    for (p, byte) in text.iter().enumerate() {
+        let place = TextPlace(p as u32);
+        let here = ByteAt { place, byte: *byte };
         a = step(words, text, out, it, a, here);
         b = step(words, text, out, it, b, here);
         cut = step_cut(words, text, out, it, cut, here);
-        p += 1;
     }
     a.looked + b.looked + cut.last.looked + cut.ending.looked
 }

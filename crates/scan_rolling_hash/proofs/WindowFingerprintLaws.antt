@@ -1,13 +1,14 @@
 -- Fingerprints of windows: one byte more, the window moved by one, two adjacent windows joined.
 use mathlib.Core.List.{List, [], ◌∷◌, ◌++◌}
 use mathlib.Core.Path.{◌≡◌, refl, sym, ap, ap₂, ◌∙◌}
-use Prim.Native.Nat.{ℕ, suc, ◌+◌, ◌-◌, ◌*◌, ◌/◌, ◌%◌, ◌^◌, ◌≤◌, ◌<◌}
+use Prim.Native.Nat.{ℕ, zero, suc, ◌+◌, ◌-◌, ◌*◌, ◌/◌, ◌%◌, ◌^◌, ◌≤◌, ◌<◌}
 use native.Mathlib.Omega.{arith}
 use native.Mathlib.Numerals.{add-one}
 use native.Mathlib.Nat.{mod-lt, mod-eq_of_lt, mod-add-div, mod-add-mod, add-mod-mod, add-mul-mod_self_left}
-use native.Mathlib.Nat.{mul_comm, mul_assoc, add-mul, mul-le-mul, pow-zero, pow-suc, zero-mul, add-zero}
-use lib.ListN.{length, take, get_or}
-use lib.Seq.{take-suc, drop-cons}
+use native.Mathlib.Nat.{mul_comm, mul_assoc, mul-suc, add-mul, mul-le-mul, pow-zero, pow-suc, zero-mul, add-zero}
+use lib.ListN.{length, take, drop, get_or}
+use lib.Seq.{take-suc, drop-cons, get_or-take, get_or-drop}
+use Rattle.std.specs.Simd.{first_chunks}
 use Rattle.text.specs.Text.{substring}
 use Rattle.text.specs.TextLaws.{substring-add, length-substring}
 use Rattle.search.specs.FingerValues.{search_digits}
@@ -57,6 +58,13 @@ rolling-digits-lift b k (x ∷ s) =
 digits_last : (b a : ℕ) (s : List ℕ) (y : ℕ) → search_digits b a (s ++ (y ∷ [])) ≡ search_digits b a s * b + y
 unfolding search_digits
 digits_last b a s y = digits_append b a s (y ∷ [])
+
+-- An element of a chunk.
+pub in-chunk : (n k : ℕ) (s : List ℕ) (m j : ℕ) (d : List ℕ) → m < k → j < n → get_or (get_or (first_chunks n k s) m d) j 0 ≡ get_or s (n * m + j) 0
+in-chunk n zero s m j d l b = absurd (omega arith)
+in-chunk n (suc k) s zero j d l b = get_or-take n s j 0 b ∙ ap (λ (x : ℕ). get_or s x 0) (omega arith)
+in-chunk n (suc k) s (suc m) j d l b =
+    in-chunk n k (drop n s) m j d (omega arith) b ∙ get_or-drop n s (n * m + j) 0 ∙ ap (λ (x : ℕ). get_or s x 0) (omega (arith, mul-suc n m))
 
 one_byte : (T : List ℕ) (p : ℕ) → p < length T → substring T p 1 ≡ get_or T p 0 ∷ []
 unfolding substring

@@ -102,10 +102,8 @@ pub fn power(seed: u32, n: u32) -> u32
 {
     let base = base_of(seed);
     let mut w: u32 = 1;
-    let mut i: u32 = 0;
-    while i < n {
+    for _ in 0..n {
         w = push_power(base, w);
-        i += 1;
     }
     w
 }
@@ -141,10 +139,8 @@ fn finish(seed: u32, h: u64, s: &[u8], from: usize) -> u32
 {
     let base = base_of(seed);
     let mut g = h;
-    let mut i = from;
-    while i < s.len() {
-        g = push(base, g, s[i]);
-        i += 1;
+    for x in &s[from..] {
+        g = push(base, g, *x);
     }
     reduce(g)
 }
@@ -154,12 +150,11 @@ pub fn fingerprint(seed: u32, s: &[u8]) -> u32
 {
     let by = first_powers(seed);
     let mut h: u64 = 0;
-    let mut i: usize = 0;
-    while i + 4 <= s.len() {
-        h = push_four(by, h, s[i], s[i + 1], s[i + 2], s[i + 3]);
-        i += 4;
+    let (fours, rest) = s.as_chunks::<4>();
+    for [a, b, c, d] in fours {
+        h = push_four(by, h, *a, *b, *c, *d);
     }
-    finish(seed, h, s, i)
+    finish(seed, h, s, s.len() - rest.len())
 }
 
 // The fingerprint of the n bytes at p.

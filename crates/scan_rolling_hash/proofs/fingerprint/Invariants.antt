@@ -1,11 +1,8 @@
-use Prim.Native.Nat.{◌-◌, ◌%◌, ◌≤◌, ◌<◌}
+use Prim.Native.Nat.{◌*◌, ◌%◌, ◌<◌}
 use mathlib.Core.Path.{◌≡◌}
-use lib.ListN.{length, take}
+use lib.ListN.{take}
 use Rattle.scan_rolling_hash.specs.Fingerprints.{fingerprint}
 use Rattle.scan_rolling_hash.proofs.fingerprint.Given as goal
 
-abbrev pub invariant-loop-i : goal.invariant-loop-i
-invariant-loop-i l = (l.i ≤ length l.s) × (l.h < 4294967296) × (l.h % 2147483647 ≡ fingerprint l.seed (take l.i l.s))
-
-abbrev pub decreases-loop-i : goal.decreases-loop-i
-decreases-loop-i l = length l.s - l.i
+abbrev pub invariant-loop-a : goal.invariant-loop-a
+invariant-loop-a l = (l.h < 4294967296) × (l.h % 2147483647 ≡ fingerprint l.seed (take (4 * l.a-index) l.s))

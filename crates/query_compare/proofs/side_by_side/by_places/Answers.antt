@@ -1,4 +1,3 @@
-use Prim.Native.Nat.{◌-◌}
 use native.Mathlib.Omega.{arith}
 use Rattle.query_compare.proofs.SideBySideLaws as laws
 use Rattle.query_compare.proofs.side_by_side.by_places.Goals as goal

@@ -1,10 +1,7 @@
 use mathlib.Core.Path.{◌≡◌}
-use Prim.Native.Nat.{◌-◌, ◌*◌, ◌/◌, ◌^◌, ◌≤◌}
+use Prim.Native.Nat.{◌*◌, ◌/◌, ◌^◌, ◌≤◌}
 use Rattle.query_guide.specs.Guides.{entries_before, listed_every}
 use Rattle.query_guide.proofs.entry_words.entries_before.Given as goal
 
 abbrev pub invariant-loop-c : goal.invariant-loop-c
-invariant-loop-c l = (l.c ≤ l.number) × (l.sum ≡ entries_before l.t l.c) × (l.sum ≤ l.c * (2 ^ 64 / listed_every))
-
-abbrev pub decreases-loop-c : goal.decreases-loop-c
-decreases-loop-c l = l.number - l.c
+invariant-loop-c l = (l.sum ≡ entries_before l.t l.c) × (l.sum ≤ l.c * (2 ^ 64 / listed_every))

@@ -1,9 +1,7 @@
 use mathlib.Core.Path.{◌∙◌}
-use Prim.Native.Nat.{◌-◌}
 use native.Mathlib.Omega.{arith}
 use Rattle.layout.proofs.ShapeLaws.{shapes}
 use Rattle.query_select.proofs.LandLaws as laws
-use Rattle.query_select.proofs.seek.kept_step.Reads as kept_step
 use Rattle.query_select.proofs.seek.+kept_step_pointing_step.Goals as goal
 
 pub kept_step-shape_of-shape-requires : goal.kept_step-shape_of-shape-requires

@@ -1,6 +1,4 @@
-use native.Mathlib.Omega.{arith}
-use mathlib.Core.Path.{refl, ◌∙◌}
-use Prim.Native.Nat.{◌-◌}
+use mathlib.Core.Path.{refl}
 use Rattle.scan_pass.specs.Passes.{CutWindowsAt}
 use Rattle.scan_pass.proofs.PassLaws as laws
 use Rattle.scan_pass.proofs.pass.pass.Goals as goal
@@ -38,13 +36,6 @@ loop-p-init c =
       laws.cut-of-len _ _ _ _ _ _ o,
     )
 
-pub overflow_cast-text : goal.overflow_cast-text
-overflow_cast-text c = omega (arith, c.loop-p.invariant.0.asked.laid.placed.few)
-
-pub step-a-requires : goal.step-a-requires
-step-a-requires c =
-    (c.loop-p.invariant.0.asked, laws.of-len _ _ _ _ _ c.loop-p.invariant.0.a_is, c.loop-p-test.true, refl)
-
 pub step-b-requires : goal.step-b-requires
 step-b-requires c =
     (laws.asked-after _ _ _ _ _ c.step-a.ensures.stepped.searched c.loop-p.invariant.0.asked, laws.of-len _ _ _ _ _ c.loop-p.invariant.0.b_is, c.loop-p-test.true, refl)
@@ -56,14 +47,6 @@ step_cut-cut-requires c = (
   c.loop-p-test.true,
   refl,
 )
-
-pub overflow_add-p : goal.overflow_add-p
-overflow_add-p c =
-    omega (arith, c.loop-p-test.true, c.loop-p.invariant.0.asked.laid.placed.few)
-
-pub loop-p-smaller : goal.loop-p-smaller
-loop-p-smaller c =
-    omega (arith, c.loop-p-test.true)
 
 pub loop-p-preserved : goal.loop-p-preserved
 loop-p-preserved c =
@@ -77,30 +60,6 @@ loop-p-preserved c =
           c.step-a.ensures.window_at c.step-b.ensures.window_at c.step_cut-cut.ensures.cut_windows_at.last_is c.step_cut-cut.ensures.cut_windows_at.ending_is,
       laws.cut-of-same _ _ _ _ _ _ c.loop-p.invariant.1 _ c.step_cut-cut.ensures.cut_windows_at,
     )
-
-pub overflow_add-result : goal.overflow_add-result
-overflow_add-result c =
-    omega (arith, c.loop-p.invariant.0.asked.laid.placed.few, laws.looked-few _ _ _ _ _ c.loop-p.invariant.0.a_is, laws.looked-few _ _ _ _ _ c.loop-p.invariant.0.b_is)
-
-pub overflow_add-result-2 : goal.overflow_add-result-2
-overflow_add-result-2 c =
-    omega (arith, c.loop-p.invariant.0.asked.laid.placed.few, laws.looked-few _ _ _ _ _ c.loop-p.invariant.0.a_is, laws.looked-few _ _ _ _ _ c.loop-p.invariant.0.b_is, laws.looked-few _ _ _ _ _ c.loop-p.invariant.0.c_is)
-
-pub overflow_add-result-3 : goal.overflow_add-result-3
-overflow_add-result-3 c =
-    omega (
-      arith,
-      c.loop-p.invariant.0.asked.laid.placed.few,
-      laws.looked-few _ _ _ _ _ c.loop-p.invariant.0.a_is,
-      laws.looked-few _ _ _ _ _ c.loop-p.invariant.0.b_is,
-      laws.looked-few _ _ _ _ _ c.loop-p.invariant.0.c_is,
-      laws.looked-few _ _ _ _ _ c.loop-p.invariant.0.d_is,
-    )
-
-pub shape_of-words : goal.shape_of-words
-shape_of-words c =
-    c.loop-p.invariant.0.searched.same_length ∙ (laws.begun _ _ _ _ _ c.requires.0 c.requires.2 c.requires.1 _ _ _ _
-    c.first-a.ensures.stepped c.first-b.ensures.stepped c.first-last.ensures.stepped c.first-ending.ensures.stepped).same_length
 
 pub returns : goal.returns
 returns c =
