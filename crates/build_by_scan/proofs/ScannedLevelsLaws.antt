@@ -1,6 +1,6 @@
 -- From level to level, with the windows looked up so far.
 use mathlib.Core.List.{List}
-use mathlib.Core.Path.{◌≡◌, refl, sym, ap, ◌∙◌, subst}
+use mathlib.Core.Path.{◌≡◌, sym, ap, ◌∙◌, subst}
 use Prim.Native.Nat.{ℕ, ◌+◌, ◌-◌, ◌*◌, ◌≤◌, ◌<◌}
 use native.Mathlib.Omega.{arith}
 use lib.ListN.{length}
@@ -16,35 +16,28 @@ use Rattle.build_by_search.proofs.AllLevelsLaws.{LevelReached}
 use Rattle.build_by_scan.specs.ScanAnswers.{windows_at, windows_of}
 
 -- Before a level: the tree is written up to it, and the windows of the levels above are counted.
-pub record ScanReached (first : code.Settings) (cs T out₀ words₀ out words : List ℕ) (level : Level) (windows : ℕ) : Type 0 where
+pub record ScanReached (first : code.Settings) (cs T out₀ out : List ℕ) (level : Level) (windows : ℕ) : Type 0 where
   pub reached : LevelReached first cs T out₀ out level
-  pub same_length : length words ≡ length words₀
   pub windows_are : windows ≡ sum_below level.number (windows_at (record_settings_of first cs) T)
   pub windows_few : windows ≤ level.number * (4 * max_text)
 
-module _ (first : code.Settings) (cs T out₀ words₀ : List ℕ) where
+module _ (first : code.Settings) (cs T out₀ : List ℕ) where
   pub along-first : (level : Level)
       → level.settings ≡ first → level.number ≡ 0 → LevelReady (record_settings_of first cs) T out₀ level
-      → ScanReached first cs T out₀ words₀ out₀ words₀ level 0
+      → ScanReached first cs T out₀ out₀ level 0
   unfolding sum_below
   along-first level s z r = record {
     reached = record { same = s; ready = r; only_tree = only-tree-refl _ _ };
-    same_length = refl;
     windows_are = rw z;
     windows_few = omega arith;
   }
 
-  module _ (out words : List ℕ) (level : Level) (windows : ℕ) (a : ScanReached first cs T out₀ words₀ out words level windows) where
-    pub room-here : 4 * pieces (length T) first.leaf ≤ length words₀ → 4 * pieces (length T) level.settings.leaf ≤ length words
-    room-here room = subst (λ (s : code.Settings). 4 * pieces (length T) s.leaf ≤ length words) (sym a.reached.same) (omega (arith, a.same_length))
-
+  module _ (out : List ℕ) (level : Level) (windows : ℕ) (a : ScanReached first cs T out₀ out level windows) where
     module _ (more : ℕ) (more-is : more ≡ windows_at (record_settings_of level.settings cs) T level.number) (few : more ≤ 4 * max_text) where
-      pub along-next : (out' words' : List ℕ) (next : Level)
-          → LevelReached first cs T out₀ out' next → next.number ≡ level.number + 1 → length words' ≡ length words
-          → ScanReached first cs T out₀ words₀ out' words' next (windows + more)
-      along-next out' words' next r n same = record {
+      pub along-next : (out' : List ℕ) (next : Level)
+          → LevelReached first cs T out₀ out' next → next.number ≡ level.number + 1 → ScanReached first cs T out₀ out' next (windows + more)
+      along-next out' next r n = record {
         reached = r;
-        same_length = same ∙ a.same_length;
         windows_are = rw (n, a.windows_are, more-is, a.reached.same) (sym (sum_below-suc level.number (windows_at (record_settings_of first cs) T)));
         windows_few = omega (arith, a.windows_few);
       }

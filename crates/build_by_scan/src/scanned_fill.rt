@@ -79,8 +79,7 @@ fn fill_scanned(out: &mut [u8], words: &[u32], text: &[u8], counted: &[u8], leve
 {
     let mut left = Pair::Apart;
     let mut link: u32 = 0;
-    let mut i: u32 = 0;
-    while i < level.count {
+    for i in 0..level.count {
         let right = pair_in(words, text, counted, out, level, BlockNumber(i));
         let kept = pair::keeps(left, right);
         let marked = Marked {
@@ -89,9 +88,8 @@ fn fill_scanned(out: &mut [u8], words: &[u32], text: &[u8], counted: &[u8], leve
             link: Link(link),
         };
         let block = block_in(words, text, counted, out, level, marked);
-        link = link + record_written::put_block(out, text, counted, level, BlockNumber(i), block);
+        link += record_written::put_block(out, text, counted, level, BlockNumber(i), block);
         left = right;
-        i += 1;
     }
     link
 }

@@ -39,9 +39,9 @@ fn put_levels(
 {
     let mut level = first;
     let mut windows: u32 = 0;
-    while level.number + 1 < first.settings.levels {
+    for _ in 1..first.settings.levels {
         let put = scanned_fill::put_level(out, words, text, counted, level, seed);
-        windows = windows + put.windows;
+        windows += put.windows;
         let step = level_step::go_down(out, text, counted, level, put.below);
         let Step::To(next) = step else {
             return LevelsPut {

@@ -1,9 +1,8 @@
 -- From level to level: what was written so far, and that every level has the settings of the first.
 use mathlib.Core.List.{List}
-use mathlib.Core.Path.{◌≡◌, refl, sym, ap, subst}
+use mathlib.Core.Path.{◌≡◌, refl, sym, subst}
 use mathlib.Core.Logic.{inl}
-use Prim.Native.Nat.{ℕ, ◌+◌, ◌≤◌, ◌<◌}
-use native.Mathlib.Omega.{arith}
+use Prim.Native.Nat.{ℕ}
 use Rattle.format.specs.Blocks.{tree_of}
 use Rattle.layout.specs.declared.settings.Settings as code
 use Rattle.build_records.specs.declared.level_written.Level.{Level}
@@ -36,12 +35,6 @@ module _ (first : code.Settings) (cs T out₀ new : List ℕ) (g : WritesOnlyTre
 module _ (first : code.Settings) (cs T out₀ out : List ℕ) (level : Level) (r : LevelReached first cs T out₀ out level) where
   pub ready-here : LevelReady (record_settings_of level.settings cs) T out level
   ready-here = subst (λ (s : code.Settings). LevelReady (record_settings_of s cs) T out level) (sym r.same) r.ready
-
-  pub upper-here : level.number + 1 < first.levels → level.number + 1 < level.settings.levels
-  upper-here k = omega (arith, ap (λ (s : code.Settings). s.levels) r.same)
-
-  pub last-here : first.levels ≤ level.number + 1 → level.number + 1 ≡ level.settings.levels
-  last-here k = omega (arith, ap (λ (s : code.Settings). s.levels) r.same, r.ready.level_is.number_in)
 
   -- What holds of the settings of the level holds of those of the first.
   module _ (new : List ℕ) where

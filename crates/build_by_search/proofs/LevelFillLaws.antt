@@ -14,9 +14,8 @@ use Rattle.theory_built.specs.BlockSizes.{BuiltBounds, bounds}
 use Rattle.theory_built.specs.BuiltLeafBytes.{widths-le}
 use Rattle.theory_built.specs.Pairs.{offset}
 use Rattle.build_records.specs.declared.level_written.Level.{Level}
-use Rattle.build_records.specs.declared.record_written.Block.{Block}
 use Rattle.build_records.specs.WritesOnlyTree.{WritesOnlyTree, AgreesOn}
-use Rattle.build_records.specs.State.{LevelIs, RecordsUpTo, BlockNext, BlockIs, Writing, place_at}
+use Rattle.build_records.specs.State.{LevelIs, RecordsUpTo, BlockNext, place_at}
 use Rattle.build_records.proofs.WritesOnlyTreeLaws.{only-tree-refl, only-tree-trans, agrees-only-tree, within-part}
 use Rattle.build_records.proofs.StateLaws.{filled-only-tree, place_end}
 use Rattle.build_levels.specs.Trees.{LevelWritten}
@@ -27,7 +26,6 @@ use Rattle.build_marking.proofs.PairLaws.{kept_rule}
 
 -- The loop over the blocks of a level, before block i.
 pub record Going (S : Settings) (T : List ℕ) (level : Level) (out₀ out : List ℕ) (left : Pair) (link i : ℕ) : Type 0 where
-  pub within : i ≤ level.count
   pub only_tree : WritesOnlyTree (tree_of S T) out₀ out
   pub filled : RecordsUpTo S T out level.number i
   pub left_is : left ≡ pair_before S T level.number i
@@ -45,7 +43,7 @@ module _ (S : Settings) (T : List ℕ) (level : Level) (h : LevelIs S T level) w
 
   pub going-first : (out : List ℕ) → RecordsUpTo S T out l 0 → Going S T level out out Apart 0 0
   unfolding pair_before sum_below
-  going-first out f = record { within = omega arith; only_tree = only-tree-refl D out; filled = f; left_is = refl; link_is = refl }
+  going-first out f = record { only_tree = only-tree-refl D out; filled = f; left_is = refl; link_is = refl }
 
   module _ (out₀ out : List ℕ) (left : Pair) (link i : ℕ) (g : Going S T level out₀ out left link i) (il : i < level.count) where
     pub going_on : BlockNext S T out level i
@@ -54,9 +52,6 @@ module _ (S : Settings) (T : List ℕ) (level : Level) (h : LevelIs S T level) w
     module _ (right : Pair) (right_is : right ≡ pair_of S T l i) (kept : Bool) (kept_is : kept ≡ is_kept_by left right) where
       pub going_next : Next S T out level i kept link
       going_next = record { on = going_on; kept_is = kept_is ∙ rw (g.left_is, right_is) (sym (kept_rule S T l i)); link_is = g.link_is }
-
-      pub going-writing : (block : Block) → BlockIs S T l i block → Writing S T out level i block
-      going-writing block is = record { level_is = h; filled = g.filled; block_in = il; block_is = is }
 
       module _ (new : List ℕ) (wide : ℕ)
           (wide_is : wide ≡ width_of S T l i) (more : WritesOnlyTree D out new) (body : AgreesOn D new header_length (place_at S T l (i + 1))) where
@@ -74,7 +69,6 @@ module _ (S : Settings) (T : List ℕ) (level : Level) (h : LevelIs S T level) w
         going_more =
             let f = filled-only-tree S T out new l i g.filled more in
             record {
-              within = omega arith;
               only_tree = only-tree-trans D out₀ out new g.only_tree more;
               filled = record { room = f.room; body = body; starts = f.starts };
               left_is = before-next;
@@ -82,10 +76,7 @@ module _ (S : Settings) (T : List ℕ) (level : Level) (h : LevelIs S T level) w
             }
 
   -- All records of the level are written.
-  module _ (out₀ out : List ℕ) (left : Pair) (link i : ℕ) (g : Going S T level out₀ out left link i) (end : level.count ≤ i) where
-    last : i ≡ level.count
-    last = omega (arith, g.within)
-
+  module _ (out₀ out : List ℕ) (left : Pair) (link i : ℕ) (g : Going S T level out₀ out left link i) (last : i ≡ level.count) where
     pub all-written : AgreesOn D out₀ 0 (count_at l) → LevelWritten S T out level link
     all-written header = record {
       level_is = h;

@@ -20,7 +20,7 @@ fn put_levels(out: &mut [u8], text: &[u8], counted: &[u8], first: Level) -> u32
     ensures tree_complete { TreeComplete (tree_of (record_settings_of first.settings counted.now) text.now) out.new result }
 {
     let mut level = first;
-    while level.number + 1 < first.settings.levels {
+    for _ in first.number + 1..first.settings.levels {
         let count = level_fill::fill_level(out, text, counted, level);
         let step = level_step::go_down(out, text, counted, level, count);
         let Step::To(next) = step else {

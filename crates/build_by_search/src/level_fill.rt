@@ -15,8 +15,7 @@ pub fn fill_level(out: &mut [u8], text: &[u8], counted: &[u8], level: Level) -> 
 {
     let mut left = Pair::Apart;
     let mut link: u32 = 0;
-    let mut i: u32 = 0;
-    while i < level.count {
+    for i in 0..level.count {
         let right = pair::pair_after(text, counted, out, level, BlockNumber(i));
         let kept = pair::keeps(left, right);
         let marked = Marked {
@@ -25,9 +24,8 @@ pub fn fill_level(out: &mut [u8], text: &[u8], counted: &[u8], level: Level) -> 
             link: Link(link),
         };
         let block = build_marking::block_at(text, counted, out, level, marked);
-        link = link + record_written::put_block(out, text, counted, level, BlockNumber(i), block);
+        link += record_written::put_block(out, text, counted, level, BlockNumber(i), block);
         left = right;
-        i += 1;
     }
     link
 }

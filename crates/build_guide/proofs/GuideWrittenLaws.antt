@@ -30,9 +30,6 @@ use Rattle.query_guide.proofs.GuideList.{guide-length, guide-size, guide-entry, 
 pub false-not {ℓ} : {A : Type ℓ} → false ≡ true → A
 false-not e = bool_clash false e refl
 
-pub true-not {ℓ} : {A : Type ℓ} → true ≡ false → A
-true-not e = bool_clash true refl e
-
 -- The block of entry e of counted byte number c, looked for from a block with fewer before it.
 module _ (t : List ℕ) (c e : ℕ) (v : check_result t ≡ 0) (hc : c < at.counted_count t) (he : e < entries_of t c) where
   rank : listed_every * e + 1 ≤ total t c

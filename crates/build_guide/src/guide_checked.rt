@@ -19,8 +19,7 @@ fn entries_right(guide: &[u8], t: &[u8], h: Header, number: u32, place: usize, c
     ensures { GuideCompared t.now guide.now place (place + count) result }
 {
     let mut block: u32 = 0;
-    let mut e: u64 = 0;
-    while e < count {
+    for e in 0..count {
         let along = entry_words::block_from(
             t,
             h,
@@ -32,7 +31,6 @@ fn entries_right(guide: &[u8], t: &[u8], h: Header, number: u32, place: usize, c
         if word::read(guide, 4 * (place + e as usize)) != block {
             return false;
         }
-        e += 1;
     }
     true
 }
@@ -47,14 +45,12 @@ fn right_by(t: &[u8], h: Header, guide: &[u8]) -> bool
         return false;
     }
     let mut place: usize = 0;
-    let mut c: u32 = 0;
-    while c < h.settings.counted {
+    for c in 0..h.settings.counted {
         let count = entry_words::entries_of(t, h, c);
         if !entries_right(guide, t, h, c, place, count) {
             return false;
         }
-        place = place + count as usize;
-        c += 1;
+        place += count as usize;
     }
     true
 }

@@ -20,8 +20,7 @@ fn put_entries(table: &mut [u8], t: &[u8], h: Header, number: u32, place: usize,
     ensures { Puts t.now table.old table.new place (place + count) }
 {
     let mut block: u32 = 0;
-    let mut e: u64 = 0;
-    while e < count {
+    for e in 0..count {
         let along = entry_words::block_from(
             t,
             h,
@@ -31,7 +30,6 @@ fn put_entries(table: &mut [u8], t: &[u8], h: Header, number: u32, place: usize,
         );
         block = along.block.0;
         word::write(table, 4 * (place + e as usize), block);
-        e += 1;
     }
 }
 
@@ -41,12 +39,10 @@ fn put_all(table: &mut [u8], t: &[u8], h: Header)
     ensures { table.new ≡ make_guide_buffer t.now table.old }
 {
     let mut place: usize = 0;
-    let mut c: u32 = 0;
-    while c < h.settings.counted {
+    for c in 0..h.settings.counted {
         let count = entry_words::entries_of(t, h, c);
         put_entries(table, t, h, c, place, count);
-        place = place + count as usize;
-        c += 1;
+        place += count as usize;
     }
 }
 

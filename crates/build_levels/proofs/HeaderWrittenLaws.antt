@@ -1,10 +1,9 @@
 -- The header, part by part.
-use mathlib.Core.List.{List}
-use mathlib.Core.Path.{◌≡◌, sym, ap, ◌∙◌}
+use mathlib.Core.List.{List, []}
+use mathlib.Core.Path.{◌≡◌, refl, sym, ap, ◌∙◌}
 use Prim.Native.Nat.{ℕ, zero, suc, ◌+◌, ◌-◌, ◌*◌, ◌≤◌, ◌<◌}
 use native.Mathlib.Omega.{arith}
-use native.Mathlib.Numerals.{add-one}
-use lib.ListN.{length, get_or, set, replicate, get_or-replicate, get_or-append}
+use lib.ListN.{length, get_or, replicate, get_or-replicate, get_or-append}
 use lib.Seq.{get_or-append-add}
 use Rattle.format.specs.Layout.{set_word, Settings, max_levels, max_counted}
 use Rattle.format.specs.WordLaws.{put_three}
@@ -25,14 +24,38 @@ use Rattle.build_records.proofs.StateLaws.{offset-low}
 
 -- Places for counted bytes.
 
-pub place-used : (cs : List ℕ) (x : ℕ) → x < length cs → get_or cs x 0 ≡ get_or (places cs) x 0
+place-used : (cs : List ℕ) (x : ℕ) → x < length cs → get_or cs x 0 ≡ get_or (places cs) x 0
 place-used cs x l = sym (get_or-append cs (replicate (max_counted - length cs) 0) 0 x l)
 
-pub place-unused : (cs : List ℕ) (x : ℕ) → length cs ≤ x → x < max_counted → 0 ≡ get_or (places cs) x 0
+place-unused : (cs : List ℕ) (x : ℕ) → length cs ≤ x → x < max_counted → 0 ≡ get_or (places cs) x 0
 place-unused cs x l m =
     let e : x ≡ length cs + (x - length cs) = omega arith in
     rw e (sym (get_or-append-add cs (replicate (max_counted - length cs) 0) (x - length cs) 0
     ∙ get_or-replicate (max_counted - length cs) (x - length cs) 0 0 (omega arith)))
+
+module _ (t cs : List ℕ) where
+  used-written : (j : ℕ) → j ≤ length cs → bytes_written t counted_at cs 0 j ≡ bytes_written t counted_at (places cs) 0 j
+  used-written zero l = refl
+  used-written (suc j) l =
+      let z : 0 + j ≡ j = omega arith in
+      rw (used-written j (omega arith), z, place-used cs j (omega arith))
+
+  unused-written : (n j : ℕ) → length cs ≤ n → n + j ≤ max_counted
+      → bytes_written (bytes_written t counted_at (places cs) 0 n) (counted_at + n) [] 0 j ≡ bytes_written t counted_at (places cs) 0 (n + j)
+  unused-written n zero k l = let z : n + 0 ≡ n = omega arith in rw z
+  unused-written n (suc j) k l =
+      let z : n + suc j ≡ suc (n + j) = omega arith in
+      let place : counted_at + n + j ≡ counted_at + (n + j) = omega arith in
+      let from : 0 + (n + j) ≡ n + j = omega arith in
+      rw (z, unused-written n j k (omega arith), place, from, ← place-unused cs (n + j) (omega arith) (omega arith))
+
+  -- The counted bytes are written, then zeros.
+  pub places-written : length cs ≤ max_counted
+      → bytes_written (bytes_written t counted_at cs 0 (length cs)) (counted_at + length cs) [] 0 (max_counted - length cs)
+      ≡ bytes_written t counted_at (places cs) 0 max_counted
+  places-written few =
+      let all : length cs + (max_counted - length cs) ≡ max_counted = omega arith in
+      rw (used-written (length cs) (omega arith), unused-written (length cs) (max_counted - length cs) (omega arith) (omega arith), all)
 
 -- Two words.
 
@@ -58,10 +81,6 @@ module _ (D t : List ℕ) (x a b : ℕ)
       (pair_written t x a b) (count_at x) (count_at x + 4) second (word-within D t (count_at x) a (omega arith) s)) (omega arith) (omega arith))
       (within-part D (pair_written t x a b) (offset_at x) (offset_at x + 4) (offset_at x) (count_at (x + 1))
       (word-within D (set_word t (count_at x) a) (offset_at x) b (omega (arith, first.same_length)) s') (omega arith) (omega arith))
-
--- One unused level more.
-pub unused-more : (t u v : List ℕ) (H n : ℕ) → u ≡ unused_written t H n → v ≡ pair_written u (H + n) 0 0 → v ≡ unused_written t H (n + 1)
-unused-more t u v H n e f = f ∙ rw (e, add-one n)
 
 module _ (S : Settings) (T : List ℕ) (h : Taken S T) where
   abbrev D : List ℕ
@@ -233,14 +252,6 @@ module _ (S : Settings) (T : List ℕ) (h : Taken S T) where
           (within-join D u (count_at S.levels) leaf_offset_at header_length
           (agrees-only-tree D a u (count_at S.levels) leaf_offset_at (only-tree-trans D a b u gb gu) wa)
           (within-join D u leaf_offset_at leaf_count_at header_length (agrees-only-tree D b u leaf_offset_at leaf_count_at gu wb) wu))
-
--- One place for a counted byte more.
-pub places-more : (t u P : List ℕ) (x b : ℕ)
-    → u ≡ bytes_written t counted_at P 0 x → b ≡ get_or P x 0 → set u (counted_at + x) b ≡ bytes_written t counted_at P 0 (x + 1)
-places-more t u P x b e f =
-    let z : x ≡ 0 + x = omega arith in
-    let g : b ≡ get_or P (0 + x) 0 = f ∙ ap (λ (k : ℕ). get_or P k 0) z in
-    rw (e, g, add-one x)
 
 pub end-written : (t u v w : List ℕ) (H a b : ℕ) → u ≡ unused_written t H (max_levels - H) → v ≡ set_word u leaf_offset_at a → w ≡ set_word v leaf_count_at b
     → w ≡ set_word (set_word (unused_written t H (max_levels - H)) leaf_offset_at a) leaf_count_at b

@@ -1,5 +1,5 @@
 // Writes the header.
-ghost use Rattle.std.specs.Prelude.{◌≡◌, ◌-◌, ◌≤◌, ◌<◌, length, get_or};
+ghost use Rattle.std.specs.Prelude.{◌≡◌, ◌-◌, ◌≤◌, ◌<◌, length};
 ghost use Rattle.format.specs.Layout.{set_word, max_levels, max_counted, counted_at, pairs_at, leaf_offset_at, leaf_count_at, header_length};
 ghost use Rattle.format.specs.Blocks.{tree_of};
 ghost use Rattle.theory_built.specs.BlockSizes.{Taken};
@@ -11,26 +11,14 @@ ghost use Rattle.build_records.specs.State.{record_settings_of};
 use layout::settings::Settings;
 use layout::{header, word};
 
-// The byte at one of the places for counted bytes; 0 if the place is unused.
-fn counted_byte(counted: &[u8], x: usize) -> u8
-    requires { (length counted.now ≤ max_counted) × (x < max_counted) }
-    ensures { result ≡ get_or (places counted.now) x 0 }
-{
-    if x < counted.len() {
-        return counted[x];
-    }
-    0
-}
-
+// Writes the counted bytes, then zeros in the places that are left.
 fn put_counted(out: &mut [u8], counted: &[u8])
     requires { (length counted.now ≤ max_counted) × (header_length ≤ length out.old) }
     ensures { out.new ≡ bytes_written out.old counted_at (places counted.now) 0 max_counted }
 {
-    let mut x: usize = 0;
-    while x < Settings::MAX_COUNTED {
-        out[header::COUNTED_AT + x] = counted_byte(counted, x);
-        x += 1;
-    }
+    let used = counted.len();
+    byte_slices::copy(out, header::COUNTED_AT, counted, 0, used);
+    byte_slices::clear_at(out, header::COUNTED_AT + used, Settings::MAX_COUNTED - used);
 }
 
 // Writes the header up to the words of the levels.
@@ -78,10 +66,8 @@ fn put_unused(out: &mut [u8], levels: u32)
     requires { (header_length ≤ length out.old) × (levels ≤ max_levels) }
     ensures { out.new ≡ unused_written out.old levels (max_levels - levels) }
 {
-    let mut n: u32 = 0;
-    while n < Settings::MAX_LEVELS - levels {
-        put_pair(out, levels + n, 0, 0);
-        n += 1;
+    for number in levels..Settings::MAX_LEVELS {
+        put_pair(out, number, 0, 0);
     }
 }
 

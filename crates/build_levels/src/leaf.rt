@@ -46,9 +46,7 @@ pub fn put_leaves(out: &mut [u8], text: &[u8], counted: &[u8], level: Level, at:
         header_length (length (tree_of (record_settings_of level.settings counted.now) text.now)) }
 {
     let mut to: u32 = at;
-    let mut i: u32 = 0;
-    while i < level.count {
-        to = to + put_leaf(out, text, counted, level, to, BlockNumber(i));
-        i += 1;
+    for i in 0..level.count {
+        to += put_leaf(out, text, counted, level, to, BlockNumber(i));
     }
 }

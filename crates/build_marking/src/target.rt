@@ -60,6 +60,7 @@ fn holder(counted: &[u8], out: &[u8], level: Level, place: TextPlace) -> BlockNu
         low: BlockNumber(0),
         high: BlockNumber(level.count),
     };
+    // A `while`: each step halves the range by what it reads, so there is no sequence of places to go over.
     while range.low.0 + 1 < range.high.0 {
         range = narrow(counted, out, level, place, range);
     }

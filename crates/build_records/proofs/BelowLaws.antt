@@ -199,18 +199,7 @@ module _ (S : Settings) (T out : List ℕ) (level next : Level) (i : ℕ) (w : B
                 pub children-written : WritesOnlyTree (tree_of S T) out new × Started S T new (suc l) 0 (sum_below (i + 1) (width_of S T l))
                 children-written = (children-only-tree, children-started)
 
--- The loop over the blocks.
-
-pub below_more : (S : Settings) (T t u : List ℕ) (level next : Level) (i : ℕ) → Below S T t level next i → WritesOnlyTree (tree_of S T) t u
-    → Started S T u (suc level.number) 0 (sum_below (i + 1) (width_of S T level.number)) → Below S T u level next (i + 1)
-below_more S T t u level next i w g s = record {
-  level_is = w.level_is;
-  next_is = w.next_is;
-  follows = w.follows;
-  room = omega (arith, w.room, g.same_length);
-  body = agrees-only-tree (tree_of S T) t u header_length (offset S T (suc level.number)) g w.body;
-  finished = s;
-}
+-- After the loop over the blocks.
 
 pub below_all : (S : Settings) (T t : List ℕ) (level next : Level) (i : ℕ) → Below S T t level next i → i ≡ level.count
     → RecordsUpTo S T t (suc level.number) 0

@@ -30,13 +30,6 @@ use Rattle.build_records.proofs.Neighbours.{LeftOf, left-of, before-left, before
 use Rattle.build_records.proofs.StateLaws.{record-size, place_is, place-next, record-inside-table, offset-low, table-inside, kind-bytes}
 use Rattle.build_records.proofs.StateLaws.{link-bytes, gap-bytes, before-bytes, inside-bytes, skip-bytes}
 
--- The places written so far, and those of one more counted byte.
-pub one_more : (D t u : List ℕ) (p c : ℕ) → AgreesOn D t p (p + counted_bytes * c)
-    → WritesOnlyTree D t u → AgreesOn D u (p + counted_bytes * c) (p + counted_bytes * c + counted_bytes) → AgreesOn D u p (p + counted_bytes * (c + 1))
-one_more D t u p c h g new =
-    let e : p + counted_bytes * c + counted_bytes ≡ p + counted_bytes * (c + 1) = omega arith in
-    rw e at (within-join D u p (p + counted_bytes * c) (p + counted_bytes * c + counted_bytes) (agrees-only-tree D t u p (p + counted_bytes * c) g h) new)
-
 module _ (S : Settings) (T out : List ℕ) (level : Level) (i : ℕ) (block : Block) (w : Writing S T out level i block) where
   abbrev l : ℕ
   l = level.number
@@ -166,13 +159,6 @@ module _ (S : Settings) (T out : List ℕ) (level : Level) (i : ℕ) (block : Bl
       counted-within =
           rw new-right (three-within D out (P + plain_bytes + counted_bytes * c) (before_of S T l i x) (inside_of S T l i x) (skip_of S T l i x) count_fits in_tree
           (before-bytes S T taken l i l-in i-in c cl) (inside-bytes S T taken l i l-in i-in c cl) (skip-bytes S T taken l i l-in i-in c cl))
-
-  -- All counts are written if those of all counted bytes are.
-  pub counted-all : (new : List ℕ) (c : ℕ)
-      → c ≤ length S.counted → length S.counted ≤ c → AgreesOn D new (P + plain_bytes) (P + plain_bytes + counted_bytes * c)
-      → AgreesOn D new (P + plain_bytes) (P + plain_bytes + counted_bytes * length S.counted)
-  counted-all new c a b h = within-part D new (P + plain_bytes)
-      (P + plain_bytes + counted_bytes * c) (P + plain_bytes) (P + plain_bytes + counted_bytes * length S.counted) h (omega arith) (omega arith)
 
   -- Kind, link and gap are written.
   module _ (new : List ℕ) (at : ℕ) (at-is : at ≡ record_place level.table i (record_settings_of level.settings S.counted))

@@ -1,15 +1,15 @@
 -- Laws of buffers that are filled with the bytes of a tree, and of the words in them.
-use mathlib.Core.List.{List, ◌++◌}
+use mathlib.Core.List.{List}
 use mathlib.Core.Path.{◌≡◌, refl, sym, ap, ◌∙◌}
 use mathlib.Core.Logic.{◌⊎◌, inl, inr}
 use Prim.Native.Nat.{ℕ, zero, suc, ◌+◌, ◌-◌, ◌≤◌, ◌<◌}
 use native.Mathlib.Omega.{arith}
-use lib.ListN.{length, get_or, set, take, drop, length-append, length-set, get_or-append}
-use lib.Seq.{get_or-append-add, length-take-le, get_or-set_same, get_or-set_other}
+use lib.ListN.{length, get_or, set, length-set}
+use lib.Seq.{get_or-set_same, get_or-set_other}
 use native.Mathlib.Decide.{ℕ_discrete}
 use Rattle.text.specs.ListLaws.{lt-or-ge, below_suc}
-use Rattle.format.specs.Layout.{word_at, word_bytes, set_word}
-use Rattle.format.specs.WordLaws.{put_three, length-set_word, get_or-set_word-other, set_word-eq}
+use Rattle.format.specs.Layout.{word_at, set_word}
+use Rattle.format.specs.WordLaws.{put_three, length-set_word, get_or-set_word-other}
 use Rattle.theory_built.specs.BuiltBytes.{BytesAt, bytes_word, written-word}
 use Rattle.byte_slices.specs.ByteSlices.{bytes_written}
 use Rattle.build_records.specs.WritesOnlyTree.{WritesOnlyTree, AgreesOn}

@@ -1,31 +1,15 @@
 -- Writing starts one after the other fills a buffer with the bytes of a tree that has them.
 use mathlib.Core.List.{List}
-use mathlib.Core.Path.{◌≡◌, ◌∙◌}
+use mathlib.Core.Path.{◌≡◌}
 use mathlib.Core.Logic.{◌⊎◌, inl, inr}
 use Prim.Native.Nat.{ℕ, zero, suc, ◌+◌, ◌*◌, ◌≤◌, ◌<◌}
 use native.Mathlib.Omega.{arith}
-use native.Mathlib.Numerals.{add-one}
-use native.Mathlib.Nat.{suc-mul, mul-le-mul_right, mul-le-mul}
 use lib.ListN.{length}
 use Rattle.text.specs.ListLaws.{below_suc}
-use Rattle.format.specs.Layout.{max_text, set_word}
-use Rattle.format.specs.SizeLaws.{max_record}
 use Rattle.theory_built.specs.BuiltBytes.{BytesAt}
 use Rattle.build_records.specs.WritesOnlyTree.{WritesOnlyTree, AgreesOn}
 use Rattle.build_records.specs.WrittenStarts.{starts_written}
 use Rattle.build_records.proofs.WritesOnlyTreeLaws.{only-tree-refl, only-tree-trans, agrees-only-tree, word-only-tree, word-within}
-
--- One start more.
-pub starts_more : (t u v : List ℕ) (at step s b j : ℕ) → u ≡ starts_written t at step s b j → v ≡ set_word u (at + j * step) (s + j * b)
-    → v ≡ starts_written t at step s b (j + 1)
-starts_more t u v at step s b j e f = f ∙ rw (e, add-one j)
-
--- A place of the list, and a start, before the end.
-pub part-below : (j n x : ℕ) → j < n → j * x + x ≤ n * x
-part-below j n x l = omega (arith, suc-mul j x, mul-le-mul_right {m = suc j} {n = n} x l)
-
-pub few-steps : (j n step : ℕ) → j < n → n ≤ max_text → step ≤ max_record → j * step ≤ max_record * max_text
-few-steps j n step l k m = mul-le-mul (let z : j ≤ max_text = omega arith in z) m
 
 module _ (D t : List ℕ) (at step s b : ℕ) where
   module _ (n : ℕ) (stand : (j : ℕ) → j < n → BytesAt D (at + j * step) (s + j * b)) (fits : (j : ℕ) → j < n → at + j * step + 4 ≤ length t)

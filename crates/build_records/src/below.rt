@@ -17,10 +17,8 @@ pub fn put_starts(out: &mut [u8], at: usize, step: usize, start: TextPlace, size
     requires { StartsAsk out.old at step start.0 size n }
     ensures { out.new ≡ starts_written out.old at step start.0 size n }
 {
-    let mut j: u32 = 0;
-    while j < n {
+    for j in 0..n {
         word::write(out, at + j as usize * step, start.0 + j * size);
-        j += 1;
     }
 }
 
@@ -63,9 +61,7 @@ pub fn put_children(out: &mut [u8], text: &[u8], counted: &[u8], level: Level, n
         out.new }
     ensures records_up_to { RecordsUpTo (record_settings_of level.settings counted.now) text.now out.new (suc level.number) 0 }
 {
-    let mut i: u32 = 0;
-    while i < level.count {
+    for i in 0..level.count {
         put_children_of(out, text, counted, level, next, BlockNumber(i));
-        i += 1;
     }
 }

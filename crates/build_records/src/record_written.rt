@@ -101,11 +101,9 @@ fn put_counts(
         (place_at (record_settings_of level.settings counted.now)
         text.now level.number i.0 + plain_bytes + counted_bytes * length counted.now) }
 {
-    let mut c: usize = 0;
-    while c < counted.len() {
+    for c in 0..counted.len() {
         let of = Slot { block: i, byte: c };
         put_count_of(out, text, counted, level, block, of);
-        c += 1;
     }
 }
 

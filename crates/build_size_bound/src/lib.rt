@@ -48,10 +48,8 @@ fn blocks(n: u32, s: Settings) -> u64
     ensures { (result ≡ blocks_at_most n s.leaf s.arity s.levels) × (result ≤ max_levels * (2 * max_text)) }
 {
     let mut sum: u64 = 0;
-    let mut l: u32 = 0;
-    while l < s.levels {
-        sum = sum + settings::pieces(n, s.block_length(l)) as u64;
-        l += 1;
+    for l in 0..s.levels {
+        sum += u64::from(settings::pieces(n, s.block_length(l)));
     }
     sum
 }

@@ -99,11 +99,9 @@ fn put_offsets(tree: &[u8], levels: u32, stride: u32, out: &mut [u8])
     ensures { out.new ≡ offsets_in tree.now levels out.old }
 {
     let mut at: u32 = FIRST_RECORD_AT;
-    let mut l: u32 = 0;
-    while l < levels {
+    for l in 0..levels {
         word::write(out, header::OFFSETS_AT + header::PAIR * l as usize, at);
-        at = at + record::level_count(tree, l) * stride;
-        l += 1;
+        at += record::level_count(tree, l) * stride;
     }
 }
 
@@ -115,8 +113,7 @@ fn put_records(tree: &[u8], count: u32, size: u32, stride: u32, out: &mut [u8])
 {
     let from = size as usize;
     let to = stride as usize;
-    let mut j: usize = 0;
-    while j < count as usize {
+    for j in 0..count as usize {
         byte_slices::copy(
             out,
             header::HEADER_LENGTH + j * to,
@@ -124,6 +121,5 @@ fn put_records(tree: &[u8], count: u32, size: u32, stride: u32, out: &mut [u8])
             header::HEADER_LENGTH + j * from,
             to,
         );
-        j += 1;
     }
 }

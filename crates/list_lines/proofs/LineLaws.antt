@@ -7,7 +7,7 @@ use native.Mathlib.Omega.{arith}
 use native.Mathlib.Numerals.{add-one}
 use borrow.Author.Tests.{eq-eqb, ne_eqb, le-leb, lt-leb}
 use lib.ListN.{length}
-use lib.Dec.{eqb, leb}
+use lib.Dec.{leb}
 use Rattle.text.specs.Text.{count_below}
 use Rattle.format.specs.Layout.{max_levels, header_length}
 use Rattle.format.specs.Layout as at
@@ -26,24 +26,18 @@ use Rattle.list_lines.proofs.WrittenLaws.{then-put, put-nothing, put-within}
 
 -- Counting.
 
-pub same-one : (a b : ℕ) → a ≡ b → ◌≡◌ {A = ℕ} 1 (cond (eqb a b) 1 0)
-same-one a b e = rw (eq-eqb a b e)
-
-pub other_none : (a b : ℕ) → (a ≡ b → ⊥) → ◌≡◌ {A = ℕ} 0 (cond (eqb a b) 1 0)
-other_none a b n = rw (ne_eqb a b n)
-
 pub list-count-none : (p : ℕ → Bool) → 0 ≡ count_below 0 p
 unfolding count_below
 list-count-none p = refl
 
-more : (b : Bool) (n : ℕ) → cond b (n + 1) n ≡ n + cond b 1 0
-more true n = refl
-more false n = omega arith
+module _ (t : List ℕ) (l k i kind : ℕ) (is : kind ≡ at.kind t l i) where
+  pub count-same : kind ≡ k → count_below (i + 1) (has_kind t l k) ≡ count_below i (has_kind t l k) + 1
+  unfolding count_below
+  count-same e = rw (add-one i, eq-eqb (at.kind t l i) k (sym is ∙ e))
 
-pub count-more : (t : List ℕ) (l k i found kind one : ℕ) → found ≡ count_below i (has_kind t l k) → kind ≡ at.kind t l i → one ≡ cond (eqb kind k) 1 0
-    → found + one ≡ count_below (i + 1) (has_kind t l k)
-unfolding count_below
-count-more t l k i found kind one e q w = rw (add-one, e, w, q) (sym (more (has_kind t l k i) (count_below i (has_kind t l k))))
+  pub count-other : (kind ≡ k → ⊥) → count_below (i + 1) (has_kind t l k) ≡ count_below i (has_kind t l k)
+  unfolding count_below
+  count-other n = rw (add-one i, ne_eqb (at.kind t l i) k (λ e. n (is ∙ e)))
 
 module _ (t : List ℕ) (size l : ℕ) (k : Level t size l) where
   pub table-there : (l < max_levels) × (header_length ≤ length t)
@@ -96,8 +90,8 @@ module _ (t : List ℕ) where
     level-there l low = record { header_read = k.facts; size_is = k.size_is; level_in = omega (arith, k.levels_is) }
 
     pub lines-done : {d e : List ℕ} {end : ℕ} (l : ℕ)
-        → l ≤ count → count ≤ l → ListPut d e 0 end (lines_below t l) (max_line * l) → ListPut d e 0 end (lines_below t (at.settings t).levels) max_lines
-    lines-done l a b p = let q : l ≡ (at.settings t).levels = omega (arith, k.levels_is) in put-within max_lines (omega (arith, levels-few)) (rw q at p)
+        → l ≡ count → ListPut d e 0 end (lines_below t l) (max_line * l) → ListPut d e 0 end (lines_below t (at.settings t).levels) max_lines
+    lines-done l a p = let q : l ≡ (at.settings t).levels = omega (arith, k.levels_is) in put-within max_lines (omega (arith, levels-few)) (rw q at p)
 
   -- Question 15 first, then the check's.
   pub input-long : max_input < length t → 15 ≡ input_refusal t

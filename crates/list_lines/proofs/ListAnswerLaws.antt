@@ -7,7 +7,6 @@ use native.Mathlib.Omega.{arith}
 use borrow.Author.Tests.{lt-leb, le-leb, ne_eqb}
 use lib.ListN.{length, take, drop}
 use lib.Seq.{take_at}
-use Rattle.list_lines.specs.declared.ListAnswer.{ListAnswer}
 use Rattle.list_lines.specs.declared.ListAnswer.TheVariants.{Bytes, Refused}
 use Rattle.list_lines.specs.ListedLines.{input_refusal, printed, max_lines, list_written, ListPut, list_refusal, list_answer, IsListAnswer, list_buffer}
 

@@ -1,5 +1,5 @@
 // How many blocks of a level are kept, and how many point.
-ghost use Rattle.std.specs.Prelude.{◌≡◌, cond, ◌≤◌, ◌<◌, eqb};
+ghost use Rattle.std.specs.Prelude.{◌≡◌};
 ghost use Rattle.text.specs.Text.{count_below};
 ghost use Rattle.format.specs.Layout as at;
 ghost use Rattle.list_lines.specs.LevelTable.{has_kind, Level};
@@ -14,20 +14,10 @@ pub fn count_of(t: &[u8], size: u32, level: u32, kind: u32) -> u32
 {
     let count = record::level_count(t, level);
     let mut found: u32 = 0;
-    let mut i: u32 = 0;
-    while i < count {
-        found += one_if_same(record::kind(t, size, level, BlockNumber(i)), kind);
-        i += 1;
+    for i in 0..count {
+        if record::kind(t, size, level, BlockNumber(i)) == kind {
+            found += 1;
+        }
     }
     found
-}
-
-// 1 if a and b are the same, else 0.
-fn one_if_same(a: u32, b: u32) -> u32
-    ensures { (result ≡ cond (eqb a b) 1 0) × (result ≤ 1) }
-{
-    if a == b {
-        return 1;
-    }
-    0
 }

@@ -96,12 +96,9 @@ fn levels(t: &[u8], h: Header, out: &mut [u8]) -> usize
     requires { HeaderOf t.now h × (max_lines ≤ length out.old) }
     ensures { ListPut out.old out.new 0 result (lines_below t.now (at.settings t.now).levels) max_lines }
 {
-    let count = h.settings.levels;
     let mut end: usize = 0;
-    let mut l: u32 = 0;
-    while l < count {
+    for l in 0..h.settings.levels {
         end = level_line(t, h.record_size, l, out, end);
-        l += 1;
     }
     end
 }

@@ -1,10 +1,10 @@
-use Prim.Native.Nat.{◌-◌}
+use Prim.Native.Nat.{◌+◌}
+use mathlib.Core.Path.{◌≡◌}
 use Rattle.build_by_scan.proofs.ScannedLevelsLaws as levels
 use Rattle.build_by_scan.proofs.scanned_levels.put_levels.Given as goal
 
-abbrev pub invariant-loop-level : goal.invariant-loop-level
-invariant-loop-level l =
-    levels.ScanReached l.first.settings l.counted l.text l.initial.out l.initial.words l.out l.words l.level l.windows
-
-abbrev pub decreases-loop-level : goal.decreases-loop-level
-decreases-loop-level l = l.first.settings.levels - l.level.number
+abbrev pub invariant-loop : goal.invariant-loop
+invariant-loop l = record {
+  scanned : levels.ScanReached l.fn.first.settings l.counted l.text l.initial.out l.out l.level l.windows;
+  number_is : l.level.number + 1 ≡ l.counter;
+}

@@ -1,51 +1,26 @@
-use Prim.Native.Nat.{◌-◌}
 use native.Mathlib.Omega.{arith}
 use Rattle.build_by_search.proofs.LevelFillLaws as laws
-use Rattle.build_records.proofs.StateLaws.{record-few}
 use Rattle.build_by_search.proofs.level_fill.fill_level.Goals as goal
 
 pub loop-i-init : goal.loop-i-init
 loop-i-init c = laws.going-first _ _ _ c.requires.level_is _ c.requires.filled
 
-pub pair_after-right-requires : goal.pair_after-right-requires
-pair_after-right-requires c = laws.going_on
-    _ _ _ c.requires.level_is _ _ _ _ _ c.loop-i.invariant (omega (arith, c.loop-i.invariant.within, c.loop-i-test.true))
-
 pub block_at-block-requires : goal.block_at-block-requires
 block_at-block-requires c = laws.going_next _ _ _ c.requires.level_is _ _ _ _ _
-    c.loop-i.invariant (omega (arith, c.loop-i.invariant.within, c.loop-i-test.true)) _ c.pair_after-right.ensures _ c.keeps-kept.ensures
-
-pub put_block-link-requires : goal.put_block-link-requires
-put_block-link-requires c = laws.going-writing
-    _ _ _ c.requires.level_is _ _ _ _ _ c.loop-i.invariant (omega (arith, c.loop-i.invariant.within, c.loop-i-test.true))
-    _ c.pair_after-right.ensures _ c.keeps-kept.ensures _ c.block_at-block.ensures
+    c.loop-i.invariant c.loop-i-test.true _ c.pair_after-right.ensures _ c.keeps-kept.ensures
 
 pub overflow_add-link : goal.overflow_add-link
 overflow_add-link c = omega (
   arith,
   laws.link-few _ _ _ c.requires.level_is _ _ _ _ _ c.loop-i.invariant
-      (omega (arith, c.loop-i.invariant.within, c.loop-i-test.true)) _ c.pair_after-right.ensures _ c.keeps-kept.ensures
+      c.loop-i-test.true _ c.pair_after-right.ensures _ c.keeps-kept.ensures
       _ _ c.put_block-link.ensures.value c.put_block-link.ensures.writes_only_tree c.put_block-link.ensures.agrees_on,
 )
 
-pub overflow_add-i : goal.overflow_add-i
-overflow_add-i c = omega (
-  arith,
-  c.loop-i.invariant.within,
-  c.loop-i-test.true,
-  (record-few _ _ _ c.requires.level_is).count_few,
-)
-
-pub loop-i-smaller : goal.loop-i-smaller
-loop-i-smaller c = omega (arith, c.loop-i.invariant.within, c.loop-i-test.true)
-
 pub loop-i-preserved : goal.loop-i-preserved
 loop-i-preserved c = laws.going_more _ _ _ c.requires.level_is _ _ _ _ _ c.loop-i.invariant
-    (omega (arith, c.loop-i.invariant.within, c.loop-i-test.true)) _ c.pair_after-right.ensures _ c.keeps-kept.ensures
+    c.loop-i-test.true _ c.pair_after-right.ensures _ c.keeps-kept.ensures
     _ _ c.put_block-link.ensures.value c.put_block-link.ensures.writes_only_tree c.put_block-link.ensures.agrees_on
 
-pub shape_of-out : goal.shape_of-out
-shape_of-out c = c.loop-i.invariant.only_tree.same_length
-
 pub returns : goal.returns
-returns c = (c.loop-i.invariant.only_tree, laws.all-written _ _ _ c.requires.level_is _ _ _ _ _ c.loop-i.invariant (omega (arith, c.loop-i-test.false)) c.requires.header)
+returns c = (c.loop-i.invariant.only_tree, laws.all-written _ _ _ c.requires.level_is _ _ _ _ _ c.loop-i.invariant (omega arith) c.requires.header)

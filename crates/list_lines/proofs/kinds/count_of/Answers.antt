@@ -1,28 +1,23 @@
-use Prim.Native.Nat.{◌-◌}
 use native.Mathlib.Omega.{arith}
 use Rattle.list_lines.proofs.LineLaws as laws
-use Rattle.list_lines.specs.LevelTable.{has_kind}
 use Rattle.list_lines.proofs.kinds.count_of.Goals as goal
-
-pub level_count-count-requires : goal.level_count-count-requires
-level_count-count-requires c = laws.table-there _ _ _ c.requires
+use Rattle.list_lines.proofs.kinds.count_of.Goals.{then-kind, else-kind}
 
 pub loop-i-init : goal.loop-i-init
-loop-i-init c = (omega arith, omega arith, laws.list-count-none _)
+loop-i-init c = record { few = omega arith; found_is = laws.list-count-none _ }
 
 pub kind-requires : goal.kind-requires
-kind-requires c = laws.kind-there _ _ _ c.requires _ (omega (arith, c.loop-i-test.true, c.level_count-count.ensures))
-
-pub overflow_add-found : goal.overflow_add-found
-overflow_add-found c = omega (arith, c.one_if_same-found.ensures.1)
+kind-requires c = laws.kind-there _ _ _ c.requires _ (omega (arith, c.level_count-count.ensures))
 
 pub loop-i-preserved : goal.loop-i-preserved
-loop-i-preserved c = (
-  omega arith,
-  omega (arith, c.one_if_same-found.ensures.1),
-  laws.count-more _ _ _ _ _ _ _ c.loop-i.invariant.2 c.kind.ensures c.one_if_same-found.ensures.0,
-)
-
-pub returns : goal.returns
-returns c = laws.count-done (has_kind c.args.t.now c.args.level c.args.kind)
-    _ _ _ _ c.loop-i.invariant.0 c.loop-i-test.false c.level_count-count.ensures c.loop-i.invariant.2
+loop-i-preserved c =
+    elim c.if-kind.branch [
+      | then-kind w ↦ record {
+        few = omega arith;
+        found_is = omega (arith, c.loop-i.invariant.found_is, laws.count-same _ _ _ _ _ c.kind.ensures w.if-kind.true);
+      }
+      | else-kind w ↦ record {
+        few = omega arith;
+        found_is = omega (arith, c.loop-i.invariant.found_is, laws.count-other _ _ _ _ _ c.kind.ensures w.if-kind.false);
+      }
+    ]
