@@ -10,8 +10,9 @@ use Rattle.format.specs.TreeReading.{Path, path_of, header_result}
 use Rattle.format.specs.Answers.{Answer, refused, count_of, number_of_byte, count_answer}
 use Rattle.format.specs.AnswerLaws.{unless-refused}
 use Rattle.layout.specs.declared.header.Header.{Header}
-use Rattle.layout.specs.declared.header.HeaderAnswer.{HeaderAnswer}
-use Rattle.layout.specs.declared.header.HeaderAnswer.TheVariants.{Refused}
+use Rattle.std.specs.Prelude.{Result, Err}
+use Rattle.refusals.specs.declared.Refusal.{Refusal}
+use Rattle.refusals.specs.Refusals.{refusal_number}
 use Rattle.layout.specs.Header.{header_answer}
 use Rattle.layout.specs.HeaderFields.{HeaderOf, header_refused}
 use Rattle.query_rank.specs.Sums.{whole_sum, settled, answer_in}
@@ -55,8 +56,9 @@ module _ (t : List ℕ) (h : Header) (k : HeaderOf t h) (byte i : ℕ) where
           (e ∙ settled-whole t byte number (path_of t (i - 1)) ∙ rw is)
 
 -- A tree that does not pass questions 5 to 7.
-pub count-unread : (t : List ℕ) (byte i : ℕ) (x : HeaderAnswer) → x ≡ header_answer t → (q : ℕ) → x ≡ Refused q → refused q ≡ count_answer t byte i
+pub count-unread : (t : List ℕ) (byte i : ℕ) (x : Result Header Refusal) → x ≡ header_answer t
+    → (q : Refusal) → x ≡ Err q → refused (refusal_number q) ≡ count_answer t byte i
 unfolding count_answer
 count-unread t byte i x x-is q e =
     let z = header_refused t x x-is q e in
-    unless-refused (header_result t) z.0 q _ z.1 z.2
+    unless-refused (header_result t) z.0 (refusal_number q) _ z.1 z.2

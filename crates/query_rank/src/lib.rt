@@ -8,22 +8,12 @@ pub mod uncounted;
 ghost use Rattle.query_rank.specs.Counts.{IsCountAnswer};
 
 use layout::header;
-use layout::header::HeaderAnswer;
+use refusals::Refusal;
 
-// How often a byte occurs, with the number of blocks entered; or the refusal.
-#[derive(Clone, Copy)]
-pub enum CountAnswer {
-    Times(u64, u32),
-    Refused(u32),
-}
-
-// Rank: how often a counted byte occurs in the first i bytes of the text.
-pub fn count(t: &[u8], byte: u8, i: u32) -> CountAnswer
+// Rank: how often a counted byte occurs in the first i bytes of the text, with the number of blocks entered.
+pub fn count(t: &[u8], byte: u8, i: u32) -> Result<(u64, u32), Refusal>
     ensures { IsCountAnswer t.now byte i result }
 {
-    let read = header::read_header(t);
-    match read {
-        HeaderAnswer::Good(h) => count_by_header::count_at(t, h, byte, i),
-        HeaderAnswer::Refused(number) => CountAnswer::Refused(number),
-    }
+    let h = header::read_header(t)?;
+    count_by_header::count_at(t, h, byte, i)
 }

@@ -17,8 +17,9 @@ use Rattle.format.specs.Answers.{Answer, refused, number_of_byte, total, find_re
 use Rattle.format.specs.FindAnswerLaws.{FindAnswers, select-lets}
 use Rattle.theory_paths.specs.BlockStarts.{len-inside}
 use Rattle.layout.specs.declared.header.Header.{Header}
-use Rattle.layout.specs.declared.header.HeaderAnswer.{HeaderAnswer}
-use Rattle.layout.specs.declared.header.HeaderAnswer.TheVariants.{Refused}
+use Rattle.std.specs.Prelude.{Result, Err}
+use Rattle.refusals.specs.declared.Refusal.{Refusal}
+use Rattle.refusals.specs.Refusals.{refusal_number}
 use Rattle.layout.specs.Header.{header_answer}
 use Rattle.layout.specs.HeaderFields.{HeaderOf, header_refused}
 use Rattle.walk_steps.specs.Steps.{OnLevel, InTable}
@@ -219,7 +220,8 @@ pub number-unread : (t : List ℕ) (byte j k : ℕ) → header_result t ≡ suc 
 unfolding find_refusal
 number-unread t byte j k e = rw (e, ne_eqb (suc k) 0 (λ y. omega arith))
 
-pub find-unread : (t : List ℕ) (byte j : ℕ) (x : HeaderAnswer) → x ≡ header_answer t → (q : ℕ) → x ≡ Refused q → FindAnswers t byte j (refused q)
+pub find-unread : (t : List ℕ) (byte j : ℕ) (x : Result Header Refusal) → x ≡ header_answer t
+    → (q : Refusal) → x ≡ Err q → FindAnswers t byte j (refused (refusal_number q))
 find-unread t byte j x x-is q e =
     let z = header_refused t x x-is q e in
     rw z.2 (find-refused t byte j z.0 (number-unread t byte j z.0 z.1))

@@ -16,8 +16,11 @@ use Rattle.format.specs.FindAnswerLaws.{FindAnswers, Selected, select-passes}
 use Rattle.theory_paths.specs.Visits.{path-long}
 use Rattle.theory_paths.specs.Theorems as paths
 use Rattle.theory_counts.specs.Theorems as counts
-use Rattle.query_select.specs.declared.FindAnswer.{FindAnswer}
-use Rattle.query_select.specs.declared.FindAnswer.TheVariants.{At, Refused}
+use Rattle.std.specs.Prelude.{Result, Ok, Err}
+use Rattle.refusals.specs.declared.Refusal.{Refusal}
+use Rattle.refusals.specs.declared.Refusal.TheVariants.{PathBroken}
+use Rattle.refusals.specs.Refusals.{refusal_number}
+use Rattle.refusals.specs.RefusalsLaws.{number-above, one-number}
 use Rattle.query_select.specs.Found.{find_reply}
 
 -- On an accepted tree the path of the j-th byte enters a block.
@@ -30,9 +33,10 @@ path-enters t v byte j h =
 pub by-find : (t : List ℕ) (byte j : ℕ) (s : Answer) (ok : ℕ) → (ok ≡ 0 → check_result t ≡ 0) → ok ≡ 0 → FindBy t ok byte j s → FindAnswers t byte j s
 by-find t byte j s ok sound z f = record { asked = f.asked; accepted = λ n v. f.accepted n z; free = λ n v. absurd (v (sound z)) }
 
-module _ (t : List ℕ) (ok byte j : ℕ) (sound : ok ≡ 0 → check_result t ≡ 0) (x : FindAnswer) (says : FindBy t ok byte j (replied (find_reply x))) where
-  module _ (n : ℕ) (e : x ≡ Refused n) (asked : find_refusal t byte j ≡ 0) where
-    answer-refused : replied (find_reply x) ≡ refused n
+module _ (t : List ℕ) (ok byte j : ℕ) (sound : ok ≡ 0 → check_result t ≡ 0) (x : Result (TextPlace × ℕ) Refusal)
+    (says : FindBy t ok byte j (replied (find_reply x))) where
+  module _ (q : Refusal) (e : x ≡ Err q) (asked : find_refusal t byte j ≡ 0) where
+    answer-refused : replied (find_reply x) ≡ refused (refusal_number q)
     answer-refused = rw e
 
     pub refused-not : ok ≡ 0 → ⊥
@@ -42,18 +46,19 @@ module _ (t : List ℕ) (ok byte j : ℕ) (sound : ok ≡ 0 → check_result t �
         let y = ap (λ (s : Answer). s.entered) z in
         omega (arith, path-enters t (sound v) byte j (select-passes t byte j asked))
 
-    pub refused-free : 1 ≤ n → n ≡ 14
-    refused-free low = go (lt-or-ge 0 ok)
+    pub refused-free : q ≡ PathBroken
+    refused-free = one-number q PathBroken (go (lt-or-ge 0 ok))
       where
-        either : (replied (find_reply x) ≡ refused 14) ⊎ (((replied (find_reply x)).number ≡ 0) × ((replied (find_reply x)).value < at.text_length t)) → n ≡ 14
+        either : (replied (find_reply x) ≡ refused 14) ⊎ (((replied (find_reply x)).number ≡ 0) × ((replied (find_reply x)).value < at.text_length t))
+            → refusal_number q ≡ 14
         either (inl s) = ap (λ (y : Answer). y.number) (sym answer-refused ∙ s)
-        either (inr s) = absurd (let z : n ≡ 0 = sym (ap (λ (y : Answer). y.number) answer-refused) ∙ s.0 in omega arith)
+        either (inr s) = absurd (let z : refusal_number q ≡ 0 = sym (ap (λ (y : Answer). y.number) answer-refused) ∙ s.0 in omega (arith, number-above q))
 
-        go : (0 < ok) ⊎ (ok ≤ 0) → n ≡ 14
+        go : (0 < ok) ⊎ (ok ≤ 0) → refusal_number q ≡ 14
         go (inl above) = either (says.free asked (λ v. omega arith))
         go (inr high) = absurd (refused-not (omega arith))
 
-  module _ (p : TextPlace) (e : ℕ) (is : x ≡ At p e) where
+  module _ (p : TextPlace) (e : ℕ) (is : x ≡ Ok (p, e)) where
     answer_at : replied (find_reply x) ≡ record { number = 0; value = p.0; entered = e }
     answer_at = rw is
 

@@ -7,23 +7,13 @@ pub mod seek;
 ghost use Rattle.query_select.specs.Found.{IsFindAnswer};
 
 use layout::header;
-use layout::header::HeaderAnswer;
 use layout::place::TextPlace;
+use refusals::Refusal;
 
-// A place of the text with the number of blocks on its path, or the refusal.
-#[derive(Clone, Copy)]
-pub enum FindAnswer {
-    At(TextPlace, u32),
-    Refused(u32),
-}
-
-// The place of the j-th occurrence of a counted byte.
-pub fn find(t: &[u8], byte: u8, j: u32) -> FindAnswer
+// The place of the j-th occurrence of a counted byte, with the number of blocks on its path.
+pub fn find(t: &[u8], byte: u8, j: u32) -> Result<(TextPlace, u32), Refusal>
     ensures { IsFindAnswer t.now byte j result }
 {
-    let read = header::read_header(t);
-    match read {
-        HeaderAnswer::Good(h) => find_by_header::find_at(t, h, byte, j),
-        HeaderAnswer::Refused(number) => FindAnswer::Refused(number),
-    }
+    let h = header::read_header(t)?;
+    find_by_header::find_at(t, h, byte, j)
 }

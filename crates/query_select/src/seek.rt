@@ -13,11 +13,11 @@ ghost use Rattle.query_select.specs.SoughtPlaces.{placed_in, Sought, Stopped, So
 ghost use Rattle.query_select.specs.Seeks.{entering, Siblings, Passed, LastBefore, KeptIn, PointsIn, ChildWith, target_at, TargetWith};
 ghost use Rattle.query_select.specs.Seeks.{Seeking, FoundIn, HandsOn};
 
-use crate::FindAnswer;
 use layout::header::Header;
 use layout::place::{BlockNumber, BlockPlace, TextPlace};
 use layout::{fields, header, record, settings};
 use query_counted::CountedByte;
+use refusals::Refusal;
 use walk_steps::BlockKind;
 use walk_steps::position::LevelAt;
 
@@ -414,14 +414,14 @@ fn first_block(t: &[u8], field: CountField, j: u64) -> BlockNumber
 }
 
 // The place that the word of a step represents, if it is one of a text of n bytes.
-pub fn text_place(n: u32, word: u64) -> FindAnswer
+pub fn text_place(n: u32, word: u64) -> Result<(TextPlace, u32), Refusal>
     ensures { (replied (find_reply result) ≡ placed_in n word) × (NeverZero (find_reply result)) }
 {
     let place = word % ENTERED;
     if place < n as u64 {
-        return FindAnswer::At(TextPlace(place as u32), (word / ENTERED) as u32);
+        return Ok((TextPlace(place as u32), (word / ENTERED) as u32));
     }
-    FindAnswer::Refused(14)
+    Err(Refusal::PathBroken)
 }
 
 // The word for the j-th occurrence in the text, from its block of level 0 on.
@@ -441,7 +441,7 @@ pub fn word_in(t: &&[u8], field: CountField, b: u32, block: BlockNumber, j: u32)
 }
 
 // The place of the j-th occurrence in the text.
-pub fn seek(t: &[u8], h: Header, wanted: CountedByte, j: u32) -> FindAnswer
+pub fn seek(t: &[u8], h: Header, wanted: CountedByte, j: u32) -> Result<(TextPlace, u32), Refusal>
     requires { (HeaderOf t.now h) × (wanted.number < at.counted_count t.now)
         × (wanted.byte ≡ byte_of t.now wanted.number) × (1 ≤ j) × (j ≤ total t.now wanted.number) }
     ensures { (Sought t.now wanted.byte j (replied (find_reply result))) × (NeverZero (find_reply result)) }
