@@ -1,41 +1,13 @@
-use Prim.Native.Nat.{ℕ, ◌-◌}
-use lib.ListN.{length-set}
-use mathlib.Core.Path.{◌≡◌, refl, ap, ◌∙◌}
-use native.Mathlib.Omega.{arith}
-use Rattle.byte_slices.proofs.ByteSliceLaws.{bytes-more}
-use Rattle.byte_slices.specs.ByteSlices.{bytes_written}
+use Rattle.std.proofs.Common.{◌≡◌, ◌+◌, ◌-◌, sym, arith}
+use Rattle.text.specs.Text.{substring}
+use Rattle.text.specs.TextLaws.{get_or-substring, length-substring}
+use Rattle.byte_slices.proofs.ByteSliceLaws.{bytes-put}
 use Rattle.byte_slices.proofs.copy.Goals as goal
 
-pub loop-j-init : goal.loop-j-init
-loop-j-init c = (omega arith, (refl, refl))
-
-pub overflow_add-out : goal.overflow_add-out
-overflow_add-out c = omega arith
-
-pub bounds-text-from : goal.bounds-text-from
-bounds-text-from c = omega arith
-
-pub overflow_add-out-in-loop-j : goal.overflow_add-out-in-loop-j
-overflow_add-out-in-loop-j c = omega arith
-
-pub bounds-out-to : goal.bounds-out-to
-bounds-out-to c = omega arith
-
-pub overflow_add-j : goal.overflow_add-j
-overflow_add-j c = omega arith
-
-pub loop-j-smaller : goal.loop-j-smaller
-loop-j-smaller c = omega arith
-
-pub loop-j-preserved : goal.loop-j-preserved
-loop-j-preserved c = (
-  omega arith,
-  (simp length-set c.loop-j.invariant.1.0, bytes-more c.args.out.now c.loop-j.out _ c.args.text.now c.args.to c.args.from c.loop-j.j c.loop-j.invariant.1.1 refl),
-)
-
-pub shape_of-out : goal.shape_of-out
-shape_of-out c = c.loop-j.invariant.1.0
-
 pub returns : goal.returns
-returns c = let e : c.loop-j.j ≡ c.args.n = omega arith in
-    c.loop-j.invariant.1.1 ∙ ap (λ (k : ℕ). bytes_written c.args.out.now c.args.to c.args.text.now c.args.from k) e
+unfolding substring
+returns c =
+    let same : c.args.from + c.args.n - c.args.from ≡ c.args.n = omega arith in
+    let part : c.copy_from_slice.new.self ≡ substring c.args.text.now c.args.from c.args.n = rw same at c.copy_from_slice.ensures.after in
+    rw part (bytes-put c.args.out.now c.args.text.now _ c.args.to c.args.from c.args.n _ (omega arith) (omega arith)
+    (sym (length-substring c.args.text.now c.args.from c.args.n (omega arith))) (λ x l. get_or-substring c.args.text.now c.args.from c.args.n x l))
