@@ -38,14 +38,15 @@ pub fn find_nth(t: &[u8], from: usize, n: u32, byte: u8, j: u64) -> u32
     (i + last) as u32
 }
 
-// Copies n bytes of the text.
+// Copies n bytes of the text. A loop, since `copy_from_slice` would make the archive need `memmove`.
 pub fn copy(out: &mut [u8], to: usize, text: &[u8], from: usize, n: usize)
     requires { (to + n ≤ length out.old) × (from + n ≤ length text.now) }
     ensures { out.new ≡ bytes_written out.old to text.now from n }
 {
-    let to_end = to + n;
     let end = from + n;
-    out[to..to_end].copy_from_slice(&text[from..end]);
+    for (i, b) in text[from..end].iter().enumerate() {
+        out[to + i] = *b;
+    }
 }
 
 // Writes zeros into the first n bytes.
