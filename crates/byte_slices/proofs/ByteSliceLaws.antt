@@ -1,5 +1,6 @@
 -- A byte looked for, bytes copied, and zeros, one place after another.
 use mathlib.Core.List.{List, [], ◌∷◌}
+use mathlib.Core.Bool.{false}
 use mathlib.Core.Logic.{◌⊎◌, inl, inr}
 use mathlib.Core.Path.{◌≡◌, refl, sym, ap, ◌∙◌}
 use Prim.Native.Nat.{ℕ, zero, suc, ◌+◌, ◌-◌, ◌≤◌, ◌<◌}
@@ -15,7 +16,7 @@ use Rattle.std.specs.List.{list_all}
 use Rattle.std.specs.Cmp.Lexicographic.{pointwise}
 use borrow.Rule.Slice.PartMut.{put_mid}
 use Rattle.text.specs.Text.{same_list, substring, count_in}
-use Rattle.text.specs.ListLaws.{lt-or-ge}
+use Rattle.text.specs.ListLaws.{lt-or-ge, ne-same_list}
 use Rattle.text.specs.TextLaws.{length-substring}
 use Rattle.text.proofs.CountTheorems.{count-next-same, count-next-other}
 use Rattle.search_byte.specs.FirstByte.{Without, FirstByte}
@@ -133,7 +134,11 @@ unfolding substring
 zeros-all t a n k fits same = let all : length (take n (drop a t)) ≡ n = length-substring t a n fits in
     rw (← same) (zeros-list (take n (drop a t)) ∙ ap (λ (m : ℕ). same_list (take n (drop a t)) (replicate m 0)) all)
 
--- Equal lists.
+-- Lists of different lengths differ.
+pub lengths_differ : (a b : List ℕ) → (length a ≡ length b → ⊥) → false ≡ same_list a b
+lengths_differ a b n = sym (ne-same_list a b (λ e. n (ap length e)))
+
+-- The library's equality of lists.
 pub same-pointwise : (xs ys : List ℕ) → pointwise eqb xs ys ≡ same_list xs ys
 unfolding same_list
 same-pointwise [] [] = refl
