@@ -1,7 +1,6 @@
 -- What the constructor of checked settings returns.
 use Rattle.std.specs.Prelude.{List, [], cond, ℕ, length}
 use Rattle.format.specs.Layout as format
-use Rattle.layout.specs.declared.settings.Settings.{Settings}
 use Rattle.layout.specs.declared.settings.SettingsAnswer.{SettingsAnswer}
 use Rattle.layout.specs.declared.settings.SettingsAnswer.TheVariants.{Fine, Refused}
 
