@@ -1,17 +1,23 @@
 -- A byte looked for, bytes copied, and zeros, one place after another.
-use mathlib.Core.List.{List}
-use mathlib.Core.Bool.{true, false}
+use mathlib.Core.List.{List, [], ◌∷◌}
+use mathlib.Core.Bool.{false}
 use mathlib.Core.Logic.{◌⊎◌, inl, inr}
 use mathlib.Core.Path.{◌≡◌, refl, sym, ap, ◌∙◌}
 use Prim.Native.Nat.{ℕ, zero, suc, ◌+◌, ◌-◌, ◌≤◌, ◌<◌}
 use native.Mathlib.Omega.{arith}
 use native.Mathlib.Nat.{add_assoc}
 use native.Mathlib.Numerals.{add-one}
-use lib.ListN.{length, get_or, set, replicate, length-set, length-replicate, get_or-replicate}
-use lib.Seq.{get_or-set_other, get_or-set_same, set-get_or, ext_get_or}
+use lib.ListN.{length, get_or, set, take, drop, replicate, length-set}
+use lib.Seq.{get_or-set_other, get_or-set_same, set-get_or, paste, paste-suc}
+use lib.Dec.{eqb}
+use Rattle.std.proofs.lemmas.List.Edits.{paste_none}
+use Rattle.std.proofs.lemmas.Slice.{put_mid-paste}
+use Rattle.std.specs.List.{list_all}
+use Rattle.std.specs.Cmp.Lexicographic.{pointwise}
+use borrow.Rule.Slice.PartMut.{put_mid}
 use Rattle.text.specs.Text.{same_list, substring, count_in}
-use Rattle.text.specs.ListLaws.{lt-or-ge, ne-same_list, eq-same_list}
-use Rattle.text.specs.TextLaws.{length-substring, get_or-substring}
+use Rattle.text.specs.ListLaws.{lt-or-ge, ne-same_list}
+use Rattle.text.specs.TextLaws.{length-substring}
 use Rattle.text.proofs.CountTheorems.{count-next-same, count-next-other}
 use Rattle.search_byte.specs.FirstByte.{Without, FirstByte}
 use Rattle.byte_slices.specs.ByteSlices.{HasBytes, bytes_written}
@@ -49,8 +55,8 @@ module _ (t : List ℕ) (from n byte : ℕ) (fits : from + n ≤ length t) where
     }
 
     -- Too few occurrences.
-    pub nth-none : (j left : ℕ) → n - i ≤ k → 1 ≤ left → count_in byte (substring t from i) + left ≡ j → HasBytes t from n byte j n
-    nth-none j left past some c =
+    pub nth-none : (j : ℕ) → n - i ≤ k → count_in byte (substring t from i) < j → HasBytes t from n byte j n
+    nth-none j past few =
         let e : n ≡ i + k = omega (arith, f.high) in
         record {
           high = omega arith;
@@ -104,13 +110,38 @@ bytes-overlap d T to from k e m n fits low high whole =
     let more : bytes_written first (to + k) T (from + k) (n - k) ≡ bytes_written d to T from n = rw all at (bytes-then d T to from k (n - k)) in
     rw parts (sym (bytes-then first T (to + e) (from + e) (k - e) (n - k)) ∙ rw (again, to_end, from_end) more)
 
--- Bytes that are all zero.
-module _ (t : List ℕ) (a n : ℕ) where
-  pub zeros-not : (i : ℕ) → i < n → (get_or t (a + i) 0 ≡ 0 → ⊥) → false ≡ same_list (substring t a n) (replicate n 0)
-  zeros-not i h other =
-      sym (ne-same_list _ _ (λ e. other (sym (get_or-substring t a n i h) ∙ ap (λ (x : List ℕ). get_or x i 0) e ∙ get_or-replicate n i 0 0 h)))
+-- Bytes written into a part of a list.
+bytes-paste : (d T ys : List ℕ) (to from n : ℕ) → to + n ≤ length d → n ≤ length ys → ((x : ℕ) → x < n → get_or ys x 0 ≡ get_or T (from + x) 0)
+    → bytes_written d to T from n ≡ paste d to ys n
+bytes-paste d T ys to from zero fits all same = paste_none d to ys
+bytes-paste d T ys to from (suc n) fits all same =
+    rw (bytes-paste d T ys to from n (omega arith) (omega arith) (λ x l. same x (omega arith)), ← same n (omega arith))
+    (paste-suc d to ys n 0 (omega arith) (omega arith))
 
-  pub zeros-all : (i : ℕ) → a + n ≤ length t → n ≤ i → ((x : ℕ) → x < i → get_or t (a + x) 0 ≡ 0) → true ≡ same_list (substring t a n) (replicate n 0)
-  zeros-all i fits all z =
-      sym (eq-same_list _ _ (ext_get_or 0 (substring t a n) (replicate n 0) (length-substring t a n fits ∙ sym (length-replicate n 0))
-      (λ x h. (let low : x < n = rw (length-substring t a n fits) at h in get_or-substring t a n x low ∙ z x (omega arith) ∙ sym (get_or-replicate n x 0 0 low)))))
+pub bytes-put : (d T ys : List ℕ) (to from n k : ℕ) → to + n ≤ length d → n ≡ k → n ≡ length ys
+    → ((x : ℕ) → x < n → get_or ys x 0 ≡ get_or T (from + x) 0) → put_mid to k d ys ≡ bytes_written d to T from n
+bytes-put d T ys to from n k fits same_n all same =
+    put_mid-paste to k d ys ys n refl same_n all ∙ sym (bytes-paste d T ys to from n fits (omega arith) same)
+
+-- Bytes that are all zero.
+zeros-list : (xs : List ℕ) → list_all (λ x. eqb x 0) xs ≡ same_list xs (replicate (length xs) 0)
+unfolding same_list
+zeros-list [] = refl
+zeros-list (x ∷ xs) = rw (zeros-list xs)
+
+pub zeros-all : (t : List ℕ) (a n k : ℕ) → a + n ≤ length t → n ≡ k → list_all (λ x. eqb x 0) (take k (drop a t)) ≡ same_list (substring t a n) (replicate n 0)
+unfolding substring
+zeros-all t a n k fits same = let all : length (take n (drop a t)) ≡ n = length-substring t a n fits in
+    rw (← same) (zeros-list (take n (drop a t)) ∙ ap (λ (m : ℕ). same_list (take n (drop a t)) (replicate m 0)) all)
+
+-- Lists of different lengths differ.
+pub lengths_differ : (a b : List ℕ) → (length a ≡ length b → ⊥) → false ≡ same_list a b
+lengths_differ a b n = sym (ne-same_list a b (λ e. n (ap length e)))
+
+-- The library's equality of lists.
+pub same-pointwise : (xs ys : List ℕ) → pointwise eqb xs ys ≡ same_list xs ys
+unfolding same_list
+same-pointwise [] [] = refl
+same-pointwise [] (y ∷ ys) = refl
+same-pointwise (x ∷ xs) [] = refl
+same-pointwise (x ∷ xs) (y ∷ ys) = rw (same-pointwise xs ys)

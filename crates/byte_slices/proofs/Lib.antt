@@ -1,2 +1,1 @@
 pub mod ByteSliceLaws
-pub mod SameLaws

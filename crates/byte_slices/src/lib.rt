@@ -10,13 +10,12 @@ pub fn count_in(t: &[u8], from: usize, n: u32, byte: u8) -> u32
     requires { from + n ≤ length t.now }
     ensures { (result ≡ count_in byte (substring t.now from n)) × (result ≤ n) }
 {
+    let end = from + n as usize;
     let mut times: u32 = 0;
-    let mut i: u32 = 0;
-    while i < n {
-        if t[from + i as usize] == byte {
+    for b in &t[from..end] {
+        if *b == byte {
             times += 1;
         }
-        i += 1;
     }
     times
 }
@@ -27,29 +26,26 @@ pub fn find_nth(t: &[u8], from: usize, n: u32, byte: u8, j: u64) -> u32
     ensures { HasBytes t.now from n byte j result }
 {
     let size = n as usize;
-    let mut left: u64 = j;
     let mut i: usize = 0;
-    while 1 < left {
+    for _ in 1..j {
         let k = search_byte::find(t, from + i, size - i, byte);
         if size - i <= k {
             return n;
         }
         i += k + 1;
-        left -= 1;
     }
     let last = search_byte::find(t, from + i, size - i, byte);
     (i + last) as u32
 }
 
-// Copies n bytes of the text.
+// Copies n bytes of the text. A loop, since `copy_from_slice` would make the archive need `memmove`.
 pub fn copy(out: &mut [u8], to: usize, text: &[u8], from: usize, n: usize)
     requires { (to + n ≤ length out.old) × (from + n ≤ length text.now) }
     ensures { out.new ≡ bytes_written out.old to text.now from n }
 {
-    let mut j: usize = 0;
-    while j < n {
-        out[to + j] = text[from + j];
-        j += 1;
+    let end = from + n;
+    for (i, b) in text[from..end].iter().enumerate() {
+        out[to + i] = *b;
     }
 }
 
@@ -58,11 +54,7 @@ pub fn clear(buffer: &mut [u8], n: usize)
     requires { n ≤ length buffer.old }
     ensures { buffer.new ≡ replicate n 0 ++ drop n buffer.old }
 {
-    let mut i: usize = 0;
-    while i < n {
-        buffer[i] = 0;
-        i += 1;
-    }
+    buffer[..n].fill(0);
 }
 
 // Writes zeros into the n bytes at a place.
@@ -70,28 +62,15 @@ pub fn clear_at(out: &mut [u8], to: usize, n: usize)
     requires { to + n ≤ length out.old }
     ensures { out.new ≡ bytes_written out.old to [] 0 n }
 {
-    let mut j: usize = 0;
-    while j < n {
-        out[to + j] = 0;
-        j += 1;
-    }
+    let end = to + n;
+    out[to..end].fill(0);
 }
 
 // Whether two slices are equal; stops at the first difference.
 pub fn equal(a: &[u8], b: &[u8]) -> bool
     ensures { result ≡ same_list a.now b.now }
 {
-    if a.len() != b.len() {
-        return false;
-    }
-    let mut i = 0;
-    while i < a.len() {
-        if a[i] != b[i] {
-            return false;
-        }
-        i += 1;
-    }
-    true
+    a == b
 }
 
 // Whether the n bytes at p and at q are equal.
@@ -109,22 +88,13 @@ pub fn all_zero(t: &[u8], a: usize, n: u32) -> bool
     requires { a + n ≤ length t.now }
     ensures { result ≡ same_list (substring t.now a n) (replicate n 0) }
 {
-    let mut i: u32 = 0;
-    while i < n {
-        if t[a + i as usize] != 0 {
-            return false;
-        }
-        i += 1;
-    }
-    true
+    let end = a + n as usize;
+    t[a..end].iter().all(|b| *b == 0)
 }
 
 // The smaller of two lengths.
 pub fn min(a: u32, b: u32) -> u32
     ensures { result ≡ min a b }
 {
-    if b < a {
-        return b;
-    }
-    a
+    a.min(b)
 }

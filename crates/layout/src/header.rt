@@ -163,14 +163,12 @@ fn spare_levels_zero(t: &[u8], levels: usize) -> bool
     requires { (header_length ≤ length t.now) × (levels ≤ max_levels) }
     ensures { result ≡ spare_levels t.now levels }
 {
-    let mut x: usize = 0;
-    while x < LEVELS - levels {
-        let count = word::read(t, COUNTS_AT + PAIR * (levels + x)) as u64;
-        let offset = word::read(t, OFFSETS_AT + PAIR * (levels + x)) as u64;
+    for level in levels..LEVELS {
+        let count = word::read(t, COUNTS_AT + PAIR * level) as u64;
+        let offset = word::read(t, OFFSETS_AT + PAIR * level) as u64;
         if count + 4294967296 * offset != 0 {
             return false;
         }
-        x += 1;
     }
     true
 }
@@ -181,14 +179,12 @@ fn tables_meet(t: &[u8], levels: usize, size: u32) -> bool
     ensures { result ≡ tables_meet t.now levels }
 {
     let mut end: u64 = FIRST_RECORD_AT;
-    let mut l: usize = 0;
-    while l < levels {
+    for l in 0..levels {
         let offset = word::read(t, OFFSETS_AT + PAIR * l) as u64;
         if offset != end {
             return false;
         }
         end = end + table_bytes(word::read(t, COUNTS_AT + PAIR * l), size);
-        l += 1;
     }
     word::read(t, LEAF_OFFSET_AT) as u64 == end
 }

@@ -158,12 +158,10 @@ fn sizes_fit(leaf: u32, arity: u32, levels: u32) -> bool
 fn rises(s: &[u8]) -> bool
     ensures { result ≡ rising s.now }
 {
-    let mut i: usize = 1;
-    while i < s.len() {
+    for i in 1..s.len() {
         if s[i] <= s[i - 1] {
             return false;
         }
-        i += 1;
     }
     true
 }

@@ -31,10 +31,8 @@ pub fn power(by: Fingerprint, n: usize) -> u64
     let b = by.base as u64;
     let q = by.modulus as u64;
     let mut w = 1 % q;
-    let mut i = 0;
-    while i < n {
+    for _ in 0..n {
         w = w * b % q;
-        i += 1;
     }
     w
 }
@@ -44,10 +42,8 @@ pub fn fingerprint(by: Fingerprint, s: &[u8]) -> u64
     ensures { result ≡ finger by.base by.modulus s.now }
 {
     let mut h = 0;
-    let mut i = 0;
-    while i < s.len() {
-        h = push(by, h, s[i]);
-        i += 1;
+    for x in s {
+        h = push(by, h, *x);
     }
     h
 }

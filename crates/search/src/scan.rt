@@ -43,8 +43,7 @@ pub fn scan(text: &[u8], at: TextPlace, n: usize, by: Fingerprint) -> TextPlace
         fingerprint: karp_rabin::fingerprint_at(by, text, at, n),
     };
     let mut h = karp_rabin::fingerprint_at(by, text, TextPlace(0), n);
-    let mut p: u32 = 0;
-    while p < at.0 {
+    for p in 0..at.0 {
         let here = WindowFingerprint {
             start: TextPlace(p),
             fingerprint: h,
@@ -53,7 +52,6 @@ pub fn scan(text: &[u8], at: TextPlace, n: usize, by: Fingerprint) -> TextPlace
             return TextPlace(p);
         }
         h = karp_rabin::roll(by, h, top, text[p as usize], text[p as usize + n]);
-        p += 1;
     }
-    TextPlace(p)
+    at
 }

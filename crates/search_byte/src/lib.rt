@@ -55,14 +55,8 @@ fn one_by_one(t: &[u8], from: usize, n: usize, byte: u8) -> usize
     requires { from + n ≤ length t.now }
     ensures { FirstByte t.now from n byte result }
 {
-    let mut i: usize = 0;
-    while i < n {
-        if t[from + i] == byte {
-            return i;
-        }
-        i += 1;
-    }
-    i
+    let end = from + n;
+    t[from..end].iter().position(|b| *b == byte).unwrap_or(n)
 }
 
 // Fewer than sixteen bytes. Sixteen are compared at once if the slice has that many.
@@ -85,13 +79,13 @@ pub fn find(t: &[u8], from: usize, n: usize, byte: u8) -> usize
     requires { from + n ≤ length t.now }
     ensures { FirstByte t.now from n byte result }
 {
-    let mut i: usize = 0;
-    while 16 <= n - i {
+    for block in 0..n / 16 {
+        let i = 16 * block;
         let k = first_of_16(t, from + i, byte);
         if k < 16 {
             return i + k;
         }
-        i += 16;
     }
+    let i = n - n % 16;
     i + tail(t, from + i, n - i, byte)
 }

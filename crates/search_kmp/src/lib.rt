@@ -27,6 +27,7 @@ pub fn advance(pattern: &[u8], borders: &[u8], state: usize, byte: u8) -> usize
     ensures { (result ≤ length pattern.now) × (result ≤ state + 1) × Next pattern.now state byte result }
 {
     let mut k = state;
+    // A `while`: each step is read from the table of borders in the body, so there is no range to go over.
     while 0 < k {
         if fits(pattern, k, byte) {
             return k + 1;
@@ -46,11 +47,9 @@ pub fn prepare(pattern: &[u8], borders: &mut [u8])
 {
     borders[0] = 0;
     let mut k: usize = 0;
-    let mut i: usize = 1;
-    while i < pattern.len() {
+    for i in 1..pattern.len() {
         k = advance(pattern, borders, k, pattern[i]);
         borders[i] = k as u8;
-        i += 1;
     }
 }
 
@@ -59,15 +58,14 @@ pub fn matching(t: &[u8], from: usize, n: usize, pattern: &[u8], state: usize) -
     requires { (from + n ≤ length t.now) × (state ≤ length pattern.now) × (length pattern.now ≤ 256) }
     ensures { (result ≤ n) × GoesOn pattern.now t.now from state result }
 {
-    let mut k: usize = 0;
-    while k < n {
+    let end = from + n;
+    for (k, byte) in t[from..end].iter().enumerate() {
         if pattern.len() <= state + k + 1 {
             return k;
         }
-        if t[from + k] != pattern[state + k] {
+        if *byte != pattern[state + k] {
             return k;
         }
-        k += 1;
     }
-    k
+    n
 }

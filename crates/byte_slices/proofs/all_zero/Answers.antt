@@ -1,17 +1,12 @@
-use Prim.Native.Nat.{◌-◌}
-use borrow.Author.Count.{below_more}
-use native.Mathlib.Omega.{arith}
-use Rattle.byte_slices.proofs.ByteSliceLaws.{zeros-not, zeros-all}
+use Rattle.std.proofs.Common.{rules, ◌≡◌, ◌+◌, ◌-◌, take, drop, eqb, ◌∙◌, arith, tests}
+use Rattle.std.proofs.lemmas.Iterator.{YieldsList-from_slice}
+use Rattle.std.proofs.lemmas.Iterator.Search.{all_from_yields_List}
+use Rattle.std.specs.List.{list_all}
+use Rattle.byte_slices.proofs.ByteSliceLaws.{zeros-all}
 use Rattle.byte_slices.proofs.all_zero.Goals as goal
 
-pub loop-i-init : goal.loop-i-init
-loop-i-init c = (omega arith, λ x l. absurd (let z : ⊥ = omega arith in z))
-
-pub returns-then-t-a-ne0 : goal.returns-then-t-a-ne0
-returns-then-t-a-ne0 c = zeros-not _ _ _ _ c.loop-i-test.true c.if-t-a-ne0.true
-
-pub loop-i-preserved : goal.loop-i-preserved
-loop-i-preserved c = (omega arith, below_more _ _ c.loop-i.invariant.1 c.if-t-a-ne0.false)
-
 pub returns : goal.returns
-returns c = zeros-all _ _ _ _ (omega arith) (omega arith) c.loop-i.invariant.1
+returns c =
+    let all : c.all.result ≡ list_all (λ x. eqb x 0) (take (c.args.a + c.args.n - c.args.a) (drop c.args.a c.args.t.now)) =
+    all_from_yields_List (λ x. eqb x 0) _ _ c.all.result c.all.ensures.ran (YieldsList-from_slice _ c.iter.ensures.rest) (λ x b q k. search (rules, tests)) in
+    all ∙ zeros-all c.args.t.now c.args.a c.args.n _ (omega arith) (omega arith)

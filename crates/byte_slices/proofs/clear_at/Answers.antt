@@ -1,32 +1,12 @@
-use Prim.Native.Nat.{ℕ, ◌-◌}
-use lib.ListN.{length-set}
-use mathlib.Core.List.{[]}
-use mathlib.Core.Path.{◌≡◌, refl, ap, ◌∙◌}
-use native.Mathlib.Omega.{arith}
-use Rattle.byte_slices.proofs.ByteSliceLaws.{bytes-more}
-use Rattle.byte_slices.specs.ByteSlices.{bytes_written}
+use Rattle.std.proofs.Common.{◌≡◌, ◌+◌, ◌-◌, [], ℕ, ap, ◌∙◌, take, drop, length, replicate, length-take-le, length-drop, arith}
+use Rattle.std.proofs.lemmas.List.{get_or-replicate}
+use Rattle.byte_slices.proofs.ByteSliceLaws.{bytes-put}
 use Rattle.byte_slices.proofs.clear_at.Goals as goal
 
-pub loop-j-init : goal.loop-j-init
-loop-j-init c = (omega arith, (refl, refl))
-
-pub overflow_add-out : goal.overflow_add-out
-overflow_add-out c = omega arith
-
-pub bounds-out-to : goal.bounds-out-to
-bounds-out-to c = omega arith
-
-pub overflow_add-j : goal.overflow_add-j
-overflow_add-j c = omega arith
-
-pub loop-j-smaller : goal.loop-j-smaller
-loop-j-smaller c = omega arith
-
-pub loop-j-preserved : goal.loop-j-preserved
-loop-j-preserved c = (omega arith, (simp length-set c.loop-j.invariant.1.0, bytes-more c.args.out.now c.loop-j.out _ [] c.args.to 0 c.loop-j.j c.loop-j.invariant.1.1 refl))
-
-pub shape_of-out : goal.shape_of-out
-shape_of-out c = c.loop-j.invariant.1.0
-
 pub returns : goal.returns
-returns c = let e : c.loop-j.j ≡ c.args.n = omega arith in c.loop-j.invariant.1.1 ∙ ap (λ (k : ℕ). bytes_written c.args.out.now c.args.to [] 0 k) e
+returns c =
+    let size : length (take (c.args.to + c.args.n - c.args.to) (drop c.args.to c.args.out.now)) ≡ c.args.n =
+    length-take-le _ _ (simp length-drop (omega arith)) ∙ omega arith in
+    let zeros : c.fill.new.self ≡ replicate c.args.n 0 = c.fill.ensures.after (λ y e. e) ∙ ap (λ (m : ℕ). replicate m 0) size in
+    bytes-put c.args.out.now [] _ c.args.to 0 c.args.n _ (omega arith) (omega arith) (omega (arith, c.fill.ensures.len))
+    (λ x l. rw zeros (get_or-replicate c.args.n x 0 0 l))

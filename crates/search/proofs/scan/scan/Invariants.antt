@@ -1,5 +1,4 @@
-use mathlib.Core.Path.{◌≡◌}
-use Prim.Native.Nat.{◌-◌, ◌≤◌}
+use Rattle.std.proofs.Common.{◌≡◌}
 use Rattle.text.specs.Text.{substring, leftmost}
 use Rattle.search.specs.FingerValues.{finger}
 use Rattle.search.proofs.ScanLaws.{ahead}
@@ -7,7 +6,4 @@ use Rattle.search.proofs.scan.scan.Given as goal
 
 abbrev pub invariant-loop-p : goal.invariant-loop-p
 invariant-loop-p l =
-    (l.p ≤ l.at.0) × (l.h ≡ finger l.by.base l.by.modulus (substring l.text l.p l.n)) × (ahead l.text l.at.0 l.n l.p ≡ leftmost l.text l.at.0 l.n)
-
-abbrev pub decreases-loop-p : goal.decreases-loop-p
-decreases-loop-p l = l.at.0 - l.p
+    (l.h ≡ finger l.by.base l.by.modulus (substring l.text l.p l.n)) × (ahead l.text l.at.0 l.n l.p ≡ leftmost l.text l.at.0 l.n)

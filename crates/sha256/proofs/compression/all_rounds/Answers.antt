@@ -1,47 +1,30 @@
-use mathlib.Core.Path.{◌≡◌, refl}
-use Prim.Native.Nat.{◌-◌}
-use native.Mathlib.Omega.{arith}
-use borrow.Author.Rules.{rules}
+use Rattle.std.proofs.Common.{◌≡◌, ◌+◌, [], ◌∷◌, ◌++◌, length, refl, arith}
+use Rattle.std.proofs.lemmas.Grind.{common_steps}
+use Rattle.std.proofs.lemmas.Slice.Zip.{zip_turn, zip_end}
+use Rattle.std.specs.Iterator.Adapters.{zip_first, zip_second}
+use Rattle.std.specs.Slice.Iter.{iter_rest}
 use Rattle.sha256.specs.Sha256.{rounds}
 use Rattle.sha256.proofs.CompressionLaws.{sixty-four, rounds-more}
 use Rattle.sha256.proofs.compression.all_rounds.Goals as goal
 
-pub loop-i-init : goal.loop-i-init
+pub loop-k-init : goal.loop-k-init
 unfolding rounds
-loop-i-init c = (omega arith, refl)
+loop-k-init c = refl
 
-pub offset_bounds-k-i : goal.offset_bounds-k-i
-unfolding rounds
-offset_bounds-k-i c = omega arith
-
-pub bounds-k-i : goal.bounds-k-i
-unfolding rounds
-bounds-k-i c = omega (arith, sixty-four _ c.requires.0)
-
-pub offset_bounds-words-i : goal.offset_bounds-words-i
-unfolding rounds
-offset_bounds-words-i c = omega arith
-
-pub bounds-words-i : goal.bounds-words-i
-unfolding rounds
-bounds-words-i c = omega (arith, c.requires.1)
-
-pub one_round-v-requires : goal.one_round-v-requires
-unfolding rounds
-one_round-v-requires c = search rules
-
-pub overflow_add-i : goal.overflow_add-i
-unfolding rounds
-overflow_add-i c = omega arith
-
-pub loop-i-smaller : goal.loop-i-smaller
-unfolding rounds
-loop-i-smaller c = omega arith
-
-pub loop-i-preserved : goal.loop-i-preserved
-unfolding rounds
-loop-i-preserved c = (omega arith, rounds-more _ _ _ _ _ _ c.requires.0 c.loop-i.invariant.1 c.one_round-v.ensures)
+pub loop-k-preserved : goal.loop-k-preserved
+loop-k-preserved c =
+    let first : iter_rest (zip_first c.into_iter-k-iterator.result) ≡ c.args.k.now = cc in
+    let second : iter_rest (zip_second c.into_iter-k-iterator.result) ≡ c.args.words.now = cc in
+    let turn = zip_turn c.args.k.now c.args.words.now c.loop-k.yielded c.into_iter-k-iterator.result c.loop-k.k-iterator c.next.new.self c.next.result first second c.loop-k.yielded_by (c.in-Some.k, c.in-Some.w)
+    c.in-Some.is c.next.ensures.steps in
+    let more : length (c.loop-k.yielded ++ ((c.in-Some.k, c.in-Some.w) ∷ [])) ≡ length c.loop-k.yielded + 1 = grind (arith, common_steps) in
+    rw more (rounds-more c.args.k.now c.args.words.now c.args.s c.loop-k.v _ (length c.loop-k.yielded) c.requires.0 c.loop-k.invariant
+    (rw (← turn.2 0, ← turn.3 0) c.one_round-v.ensures))
 
 pub returns : goal.returns
-unfolding rounds
-returns c = let e : c.loop-i.i ≡ 64 = omega arith in rw e at c.loop-i.invariant.1
+returns c =
+    let first : iter_rest (zip_first c.into_iter-k-iterator.result) ≡ c.args.k.now = cc in
+    let second : iter_rest (zip_second c.into_iter-k-iterator.result) ≡ c.args.words.now = cc in
+    let count = zip_end c.args.k.now c.args.words.now c.loop-k.yielded c.into_iter-k-iterator.result c.loop-k.k-iterator c.next.new.self c.next.result first second c.loop-k.yielded_by c.in-None.is c.next.ensures.steps in
+    let all : length c.loop-k.yielded ≡ 64 = omega (arith, count, sixty-four _ c.requires.0, c.requires.1) in
+    rw all at c.loop-k.invariant
