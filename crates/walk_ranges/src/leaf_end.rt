@@ -88,14 +88,13 @@ pub fn joined(t: &[u8], h: Header, end: LeafEnd, most: u32) -> u32
     ensures { Joined t.now end result }
 {
     let m = h.settings.leaf;
+    let count = record::level_count(t, h.settings.levels - 1) as u64;
     let mut n: u32 = m - end.place.0;
-    let mut next: u64 = end.block.0 as u64 + 1;
-    while n < most {
-        if !follows(t, h, next, end.leaf as u64 + n as u64) {
+    for next in end.block.0 as u64 + 1..count {
+        if most <= n || !follows(t, h, next, end.leaf as u64 + n as u64) {
             return n;
         }
         n += m;
-        next += 1;
     }
     n
 }
