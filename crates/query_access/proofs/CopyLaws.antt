@@ -10,7 +10,6 @@ use lib.ListN.{length, set, drop, replicate, length-set}
 use lib.Seq.{drop-set-lt}
 use Rattle.text.specs.Text.{tabulate}
 use Rattle.text.specs.ListLaws.{tab-none, tab-more}
-use Rattle.format.specs.Layout as at
 use Rattle.format.specs.Answers.{Answer, NeverZero, replied, byte_answer, paths_hold}
 use Rattle.layout.specs.declared.header.Header.{Header}
 use Rattle.layout.specs.HeaderFields.{HeaderOf}

@@ -4,7 +4,7 @@ use mathlib.Core.Path.{◌≡◌, refl, sym, ap, ◌∙◌}
 use Prim.Native.Nat.{ℕ, zero, suc, ◌+◌, ◌-◌, ◌≤◌, ◌<◌, min}
 use native.Mathlib.Omega.{arith}
 use native.Mathlib.Nat.{le_trans}
-use lib.ListN.{length, get_or, set}
+use lib.ListN.{length, get_or}
 use Rattle.format.specs.Layout.{max_text}
 use Rattle.format.specs.Layout as at
 use Rattle.format.specs.Answers.{Answer, refused, replied, byte_answer, run_answer}
@@ -18,7 +18,6 @@ use Rattle.walk_steps.specs.Steps.{OnLevel}
 use Rattle.walk_steps.proofs.NextLaws.{on-top}
 use Rattle.walk_path.specs.declared.TopLevel.{TopLevel}
 use Rattle.byte_slices.specs.ByteSlices.{bytes_written}
-use Rattle.byte_slices.proofs.ByteSliceLaws.{bytes-more}
 use Rattle.query_access.specs.declared.ByteAnswer.{ByteAnswer}
 use Rattle.query_access.specs.declared.ByteAnswer.TheVariants.{Byte, Refused}
 use Rattle.query_access.specs.declared.SpanAnswer.{SpanAnswer}
@@ -210,15 +209,6 @@ run-first-byte t p r k a e =
 -- No byte of a run is refused.
 pub run-not-refused : (a : ByteAnswer) (v n q : ℕ) → a ≡ Byte v n → a ≡ Refused q → ⊥
 run-not-refused a v n q e f = let z : ◌≡◌ {A = ℕ} 0 1 = cc in omega arith
-
--- A byte's answer is taken apart, and its byte written.
-value-is : (a : ByteAnswer) (v n u m : ℕ) → a ≡ Byte v n → a ≡ Byte u m → u ≡ v
-value-is a v n u m e f = cc
-
-pub byte-written : (d e t : List ℕ) (to from j : ℕ) → e ≡ bytes_written d to t from j
-    → (a : ByteAnswer) (n u m : ℕ) → a ≡ Byte (get_or t (from + j) 0) n → a ≡ Byte u m → set e (to + j) u ≡ bytes_written d to t from (j + 1)
-byte-written d e t to from j is a n u m given taken =
-    bytes-more d e _ t to from j is (ap (set e (to + j)) (value-is a (get_or t (from + j) 0) n u m given taken))
 
 -- No bytes, and those of a range.
 pub access-none-read : (t : List ℕ) (p : ℕ) (r : LeafRun) → r.length ≡ 0 → r.from ≡ 0 → ReadsFrom t p r

@@ -227,15 +227,12 @@ pub fn copy_range(t: &[u8], run: LeafRun, n: u32, buffer: &mut [u8], to: usize) 
     ensures value { result ≡ SpanAnswer.Bytes n 0 }
     ensures buffer_after { buffer.new ≡ bytes_written buffer.old to t.now run.from n }
 {
-    let size = n as usize;
-    let mut k: usize = 0;
-    while k < size {
+    for k in 0..n as usize {
         let answer = byte_on(t, run, k);
         let ByteAnswer::Byte(value, _) = answer else {
             return SpanAnswer::Refused(number(answer));
         };
         buffer[to + k] = value;
-        k += 1;
     }
     SpanAnswer::Bytes(n, 0)
 }
@@ -309,6 +306,7 @@ pub fn copy_on(
         return first;
     };
     let mut i: u32 = done;
+    // A `while`: how many bytes a walk copies is found in the loop's body, so there is no range to go over.
     while i < len {
         let copied = copy_run(t, h, TextPlace(at.0 + i), len - i, buffer, i as usize);
         let SpanAnswer::Bytes(n, _) = copied else {

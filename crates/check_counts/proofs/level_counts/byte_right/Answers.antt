@@ -19,7 +19,8 @@ block_right-requires c = (
 )
 
 pub returns-then-not-block_right : goal.returns-then-not-block_right
-returns-then-not-block_right c = laws.blocks-fail _ _ _ _ c.level_count-n.ensures c.loop-i.i c.loop-i-test.true (sym c.block_right.ensures ∙ c.if-not-block_right.true)
+returns-then-not-block_right c = laws.blocks-fail _ _ _ _ c.level_count-n.ensures c.loop-i.i c.loop-i-test.true
+    (sym c.block_right.ensures ∙ c.if-not-block_right.true)
 
 pub returns : goal.returns
 returns c = laws.blocks-done _ _ _ _ c.level_count-n.ensures _ c.loop-i.invariant (omega arith)

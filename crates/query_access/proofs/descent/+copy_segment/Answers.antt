@@ -1,8 +1,6 @@
 use mathlib.Core.Path.{refl, sym, ◌∙◌}
 use Prim.Native.Nat.{◌+◌, ◌-◌}
 use native.Mathlib.Omega.{arith}
-use borrow.Author.Rules.{rules}
-use borrow.Fn.PlainCycle.{is, falls}
 use Rattle.layout.proofs.ShapeLaws.{shapes}
 use Rattle.walk_ranges.specs.Segments.{NextAt}
 use Rattle.query_access.proofs.SegmentLaws as segments
