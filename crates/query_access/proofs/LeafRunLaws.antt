@@ -29,8 +29,7 @@ use Rattle.query_access.specs.declared.read_by_header.TreeRange.{TreeRange}
 use Rattle.query_access.specs.declared.read_by_header.RunRangeAnswer.{RunRangeAnswer}
 use Rattle.query_access.specs.declared.read_by_header.RunRangeAnswer.TheVariants as run
 use Rattle.walk_ranges.specs.declared.leaf_end.LeafEnd.{LeafEnd}
-use Rattle.walk_ranges.specs.declared.leaf_end.LeafEndAnswer.{LeafEndAnswer}
-use Rattle.walk_ranges.specs.declared.leaf_end.LeafEndAnswer.TheVariants as leaf-end
+use Rattle.std.specs.Prelude.{Option, Some, None}
 use Rattle.query_access.specs.ReadAnswers.{byte_reply, IsRunAnswer}
 use Rattle.walk_ranges.specs.LeafEnds.{LeafEndAt, LeafEndOf, Joined}
 use Rattle.query_access.specs.ReadByRuns.{ReadsOn, LeafRunAt, LeafRunOf, LeafRangeAt, ReadsFrom, LeafRangeOf, IsRangeAnswer, places_written, RunCopied}
@@ -46,11 +45,11 @@ walk-ready t h k p low top is =
     (rw is (on-top t h k), omega (arith, k.length_is), omega (arith, k.length_is, k.facts.bounds.text_high))
 
 -- The answer of `end_of`.
-module _ (t : List ℕ) (p : ℕ) (x : LeafEndAnswer) (x-is : LeafEndOf t p x) where
-  pub end-found : (r : LeafEnd) → x ≡ leaf-end.At r → LeafEndAt t p r
+module _ (t : List ℕ) (p : ℕ) (x : Option LeafEnd) (x-is : LeafEndOf t p x) where
+  pub end-found : (r : LeafEnd) → x ≡ Some r → LeafEndAt t p r
   end-found r e = rw e at x-is
 
-  pub end_refused : x ≡ leaf-end.Broken → byte_answer t p ≡ refused 14
+  pub end_refused : x ≡ None → byte_answer t p ≡ refused 14
   end_refused e = rw e at x-is
 
 -- A range has a byte.

@@ -13,7 +13,6 @@ use layout::place::{BlockNumber, BlockPlace, TextPlace};
 use layout::settings::Settings;
 use walk_path::TopLevel;
 use walk_ranges::leaf_end;
-use walk_ranges::leaf_end::LeafEndAnswer;
 use walk_ranges::segments::Rules;
 use walk_short::gather;
 use walk_short::gather::Gathered;
@@ -92,7 +91,7 @@ fn leaf_run(t: &&[u8], h: Header, at: TextPlace) -> LeafRunAnswer
     let tree = *t;
     let word = walk_path::walk(t, top_level(h), at, h.text_length - at.0);
     let found = leaf_end::end_of(tree, h, at, word);
-    let LeafEndAnswer::At(end) = found else {
+    let Some(end) = found else {
         return LeafRunAnswer::Broken;
     };
     let here = byte_slices::min(end.left, h.settings.leaf - end.place.0);
@@ -112,7 +111,7 @@ pub fn leaf_range(t: &&[u8], h: Header, at: TextPlace, most: u32) -> LeafRunAnsw
     let tree = *t;
     let word = walk_path::walk(t, top_level(h), at, h.text_length - at.0);
     let found = leaf_end::end_of(tree, h, at, word);
-    let LeafEndAnswer::At(end) = found else {
+    let Some(end) = found else {
         return LeafRunAnswer::Broken;
     };
     let within = byte_slices::min(end.left, most);

@@ -20,14 +20,14 @@ pub returns-in_default : goal.returns-in_default
 returns-in_default c = laws.end_refused _ _ _ c.end_of-found.ensures c.in_default.is
 
 pub joined-joined-requires : goal.joined-joined-requires
-joined-joined-requires c = let e = laws.end-found _ _ _ c.end_of-found.ensures _ c.in-At.is in
+joined-joined-requires c = let e = laws.end-found _ _ _ c.end_of-found.ensures _ c.in-Some.is in
     (c.requires.0, e.ends_in, omega (arith, c.min-within.ensures, end-left-small _ _ _ c.requires.0 _ e))
 
 pub overflow_sub-h-2 : goal.overflow_sub-h-2
-overflow_sub-h-2 c = let e = laws.end-found _ _ _ c.end_of-found.ensures _ c.in-At.is in
+overflow_sub-h-2 c = let e = laws.end-found _ _ _ c.end_of-found.ensures _ c.in-Some.is in
     omega (arith, e.ends_in.leaf-in, c.requires.0.count_is)
 
 pub returns : goal.returns
-returns c = let e = laws.end-found _ _ _ c.end_of-found.ensures _ c.in-At.is in
+returns c = let e = laws.end-found _ _ _ c.end_of-found.ensures _ c.in-Some.is in
     laws.leaf-range-reached _ _ _ c.requires.0 c.requires.1 _ e _ refl _ _ _ _ _ c.requires.2 c.min-within.ensures c.joined-joined.ensures
     c.min-size.ensures c.min.ensures

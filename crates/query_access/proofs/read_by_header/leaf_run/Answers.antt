@@ -19,13 +19,13 @@ pub returns-in_default : goal.returns-in_default
 returns-in_default c = laws.end_refused _ _ _ c.end_of-found.ensures c.in_default.is
 
 pub overflow_sub-h-2 : goal.overflow_sub-h-2
-overflow_sub-h-2 c = let e = laws.end-found _ _ _ c.end_of-found.ensures _ c.in-At.is in
+overflow_sub-h-2 c = let e = laws.end-found _ _ _ c.end_of-found.ensures _ c.in-Some.is in
     omega (arith, e.ends_in.place-in, c.requires.0.leaf_is)
 
 pub overflow_sub-h-3 : goal.overflow_sub-h-3
-overflow_sub-h-3 c = let e = laws.end-found _ _ _ c.end_of-found.ensures _ c.in-At.is in
+overflow_sub-h-3 c = let e = laws.end-found _ _ _ c.end_of-found.ensures _ c.in-Some.is in
     omega (arith, e.ends_in.leaf-in, c.requires.0.count_is)
 
 pub returns : goal.returns
-returns c = let e = laws.end-found _ _ _ c.end_of-found.ensures _ c.in-At.is in
+returns c = let e = laws.end-found _ _ _ c.end_of-found.ensures _ c.in-Some.is in
     laws.leaf-run-reached _ _ _ c.requires.0 c.requires.1 _ e _ refl _ _ c.min-here.ensures c.min.ensures
