@@ -23,15 +23,13 @@ use Rattle.query_access.specs.declared.ByteAnswer.TheVariants.{Byte, Refused}
 use Rattle.query_access.specs.declared.SpanAnswer.{SpanAnswer}
 use Rattle.query_access.specs.declared.SpanAnswer.TheVariants as span
 use Rattle.query_access.specs.declared.read_by_header.LeafRun.{LeafRun}
-use Rattle.query_access.specs.declared.read_by_header.LeafRunAnswer.{LeafRunAnswer}
-use Rattle.query_access.specs.declared.read_by_header.LeafRunAnswer.TheVariants as leaf-run
 use Rattle.query_access.specs.declared.read_by_header.TreeRange.{TreeRange}
 use Rattle.query_access.specs.declared.read_by_header.RunRangeAnswer.{RunRangeAnswer}
 use Rattle.query_access.specs.declared.read_by_header.RunRangeAnswer.TheVariants as run
 use Rattle.walk_ranges.specs.declared.leaf_end.LeafEnd.{LeafEnd}
 use Rattle.std.specs.Prelude.{Option, Some, None}
 use Rattle.query_access.specs.ReadAnswers.{byte_reply, IsRunAnswer}
-use Rattle.walk_ranges.specs.LeafEnds.{LeafEndAt, LeafEndOf, Joined}
+use Rattle.walk_ranges.specs.LeafEnds.{LeafEndAt, Joined}
 use Rattle.query_access.specs.ReadByRuns.{ReadsOn, LeafRunAt, LeafRunOf, LeafRangeAt, ReadsFrom, LeafRangeOf, IsRangeAnswer, places_written, RunCopied}
 use Rattle.query_access.proofs.ByteLaws as bytes
 use Rattle.query_access.proofs.RunLaws.{run-answers, run-from, run-size, run-some}
@@ -43,14 +41,6 @@ pub walk-ready : (t : List ℕ) (h : Header) → HeaderOf t h → (p : ℕ) → 
     → (OnLevel t top.size 0 top.b) × (p < at.text_length t) × (h.text_length - p ≤ max_text)
 walk-ready t h k p low top is =
     (rw is (on-top t h k), omega (arith, k.length_is), omega (arith, k.length_is, k.facts.bounds.text_high))
-
--- The answer of `end_of`.
-module _ (t : List ℕ) (p : ℕ) (x : Option LeafEnd) (x-is : LeafEndOf t p x) where
-  pub end-found : (r : LeafEnd) → x ≡ Some r → LeafEndAt t p r
-  end-found r e = rw e at x-is
-
-  pub end_refused : x ≡ None → byte_answer t p ≡ refused 14
-  end_refused e = rw e at x-is
 
 -- A range has a byte.
 range-some : (left most within n size leaves length : ℕ) → 1 ≤ left → 1 ≤ most → within ≡ min left most → 1 ≤ n → size ≡ min within n → 1 ≤ leaves
@@ -145,17 +135,17 @@ module _ (t : List ℕ) (p : ℕ) (h : Header) (k : HeaderOf t h) (low : p < h.t
         }
 
 -- The answer of `leaf_run`.
-module _ (t : List ℕ) (p : ℕ) (x : LeafRunAnswer) (x-is : LeafRunOf t p x) where
-  pub run-found : (r : LeafRun) → x ≡ leaf-run.At r → LeafRunAt t p r
+module _ (t : List ℕ) (p : ℕ) (x : Option LeafRun) (x-is : LeafRunOf t p x) where
+  pub run-found : (r : LeafRun) → x ≡ Some r → LeafRunAt t p r
   run-found r e = rw e at x-is
 
-  pub run-refused : x ≡ leaf-run.Broken → byte_answer t p ≡ refused 14
+  pub run-refused : x ≡ None → byte_answer t p ≡ refused 14
   run-refused e = rw e at x-is
 
-  pub broken-part : x ≡ leaf-run.Broken → IsRunAnswer t p (run.Refused 14)
+  pub broken-part : x ≡ None → IsRunAnswer t p (run.Refused 14)
   broken-part e = bytes.run_none t p 13 14 refl (sym (run-refused e))
 
-  pub found_part : (r : LeafRun) → x ≡ leaf-run.At r → IsRunAnswer t p (run.At (record { from = r.from; length = r.length }))
+  pub found_part : (r : LeafRun) → x ≡ Some r → IsRunAnswer t p (run.At (record { from = r.from; length = r.length }))
   found_part r e =
       let k = run-found r e in
       let z : p + 0 ≡ p = omega arith in record {
@@ -167,16 +157,16 @@ module _ (t : List ℕ) (p : ℕ) (x : LeafRunAnswer) (x-is : LeafRunOf t p x) w
       }
 
 -- The answer of `leaf_range`.
-module _ (t : List ℕ) (p most : ℕ) (x : LeafRunAnswer) (x-is : LeafRangeOf t p most x) where
-  pub range-found : (r : LeafRun) → x ≡ leaf-run.At r → LeafRangeAt t p most r
+module _ (t : List ℕ) (p most : ℕ) (x : Option LeafRun) (x-is : LeafRangeOf t p most x) where
+  pub range-found : (r : LeafRun) → x ≡ Some r → LeafRangeAt t p most r
   range-found r e = rw e at x-is
 
-  pub range-refused : x ≡ leaf-run.Broken → (byte_answer t p).number ≡ 14
+  pub range-refused : x ≡ None → (byte_answer t p).number ≡ 14
   range-refused e =
       let z : byte_answer t p ≡ refused 14 = rw e at x-is in
       ap (λ (s : Answer). s.number) z
 
-  pub found-range : header_result t ≡ 0 → (r : LeafRun) → x ≡ leaf-run.At r → IsRangeAnswer t p most (run.At (record { from = r.from; length = r.length }))
+  pub found-range : header_result t ≡ 0 → (r : LeafRun) → x ≡ Some r → IsRangeAnswer t p most (run.At (record { from = r.from; length = r.length }))
   found-range passes r e =
       let k = range-found r e in
       let number : (y : ℕ) → y < r.length → (byte_answer t (p + y)).number ≡ 0 = λ y l. ap (λ (s : Answer). s.number) (k.answers y l) in (

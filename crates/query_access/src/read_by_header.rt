@@ -40,12 +40,6 @@ pub struct LeafRun {
     pub entered: u32,
 }
 
-#[derive(Clone, Copy)]
-pub enum LeafRunAnswer {
-    At(LeafRun),
-    Broken,
-}
-
 // No bytes, as a run.
 pub fn no_run() -> LeafRun
     ensures length_value { result.length ≡ 0 }
@@ -67,7 +61,7 @@ pub fn byte_at(t: &[u8], h: Header, at: TextPlace) -> ByteAnswer
         return ByteAnswer::Refused(10);
     }
     let found = leaf_run(&t, h, at);
-    let LeafRunAnswer::At(run) = found else {
+    let Some(run) = found else {
         return ByteAnswer::Refused(14);
     };
     byte_on(t, run, 0)
@@ -84,18 +78,15 @@ fn top_level(h: Header) -> TopLevel
 }
 
 // The run of a place of the text, bounded by the number of leaf bytes: question 14.
-fn leaf_run(t: &&[u8], h: Header, at: TextPlace) -> LeafRunAnswer
+fn leaf_run(t: &&[u8], h: Header, at: TextPlace) -> Option<LeafRun>
     requires { (HeaderOf t.now.now h) × (at.0 < h.text_length) }
     ensures { LeafRunOf t.now.now at.0 result }
 {
     let tree = *t;
     let word = walk_path::walk(t, top_level(h), at, h.text_length - at.0);
-    let found = leaf_end::end_of(tree, h, at, word);
-    let Some(end) = found else {
-        return LeafRunAnswer::Broken;
-    };
+    let end = leaf_end::end_of(tree, h, at, word)?;
     let here = byte_slices::min(end.left, h.settings.leaf - end.place.0);
-    LeafRunAnswer::At(LeafRun {
+    Some(LeafRun {
         from: h.leaf_offset as usize + end.leaf as usize,
         length: byte_slices::min(here, h.leaf_count - end.leaf),
         entered: end.entered,
@@ -104,20 +95,17 @@ fn leaf_run(t: &&[u8], h: Header, at: TextPlace) -> LeafRunAnswer
 
 // At most `most` bytes from a place of the text that are contiguous in the tree, found by one walk: its run, and the leaf bytes of the blocks that follow,
 // inside every block above the last level. Question 14.
-pub fn leaf_range(t: &&[u8], h: Header, at: TextPlace, most: u32) -> LeafRunAnswer
+pub fn leaf_range(t: &&[u8], h: Header, at: TextPlace, most: u32) -> Option<LeafRun>
     requires { (HeaderOf t.now.now h) × (at.0 < h.text_length) × (1 ≤ most) }
     ensures { LeafRangeOf t.now.now at.0 most result }
 {
     let tree = *t;
     let word = walk_path::walk(t, top_level(h), at, h.text_length - at.0);
-    let found = leaf_end::end_of(tree, h, at, word);
-    let Some(end) = found else {
-        return LeafRunAnswer::Broken;
-    };
+    let end = leaf_end::end_of(tree, h, at, word)?;
     let within = byte_slices::min(end.left, most);
     let joined = leaf_end::joined(tree, h, end, within);
     let size = byte_slices::min(within, joined);
-    LeafRunAnswer::At(LeafRun {
+    Some(LeafRun {
         from: h.leaf_offset as usize + end.leaf as usize,
         length: byte_slices::min(size, h.leaf_count - end.leaf),
         entered: end.entered,
@@ -141,7 +129,7 @@ pub fn run_range_at(t: &[u8], h: Header, at: TextPlace) -> RunRangeAnswer
         return RunRangeAnswer::Refused(10);
     }
     let found = leaf_run(&t, h, at);
-    let LeafRunAnswer::At(run) = found else {
+    let Some(run) = found else {
         return RunRangeAnswer::Refused(14);
     };
     RunRangeAnswer::At(TreeRange {
@@ -156,7 +144,7 @@ pub fn range_at(t: &[u8], h: Header, at: TextPlace, most: u32) -> RunRangeAnswer
     ensures { IsRangeAnswer t.now at.0 most result }
 {
     let found = leaf_range(&t, h, at, most);
-    let LeafRunAnswer::At(run) = found else {
+    let Some(run) = found else {
         return RunRangeAnswer::Refused(14);
     };
     RunRangeAnswer::At(TreeRange {
@@ -249,7 +237,7 @@ fn copy_run(
     ensures { RunCopied t.now at.0 most to buffer.old buffer.new result }
 {
     let found = leaf_range(&t, h, at, most);
-    let LeafRunAnswer::At(run) = found else {
+    let Some(run) = found else {
         return SpanAnswer::Refused(14);
     };
     copy_range(t, run, run.length, buffer, to)

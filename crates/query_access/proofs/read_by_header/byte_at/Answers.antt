@@ -11,8 +11,8 @@ pub returns-in_default : goal.returns-in_default
 returns-in_default c = sym (laws.run-refused _ _ _ c.leaf_run-found.ensures c.in_default.is)
 
 pub byte_on-requires : goal.byte_on-requires
-byte_on-requires c = let r = laws.run-found _ _ _ c.leaf_run-found.ensures _ c.in-At.is in
+byte_on-requires c = let r = laws.run-found _ _ _ c.leaf_run-found.ensures _ c.in-Some.is in
     omega (arith, r.some_byte, r.in_tree)
 
 pub returns : goal.returns
-returns c = laws.run-first-byte _ _ _ (laws.run-found _ _ _ c.leaf_run-found.ensures _ c.in-At.is) _ c.byte_on.ensures
+returns c = laws.run-first-byte _ _ _ (laws.run-found _ _ _ c.leaf_run-found.ensures _ c.in-Some.is) _ c.byte_on.ensures

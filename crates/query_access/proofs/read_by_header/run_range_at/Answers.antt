@@ -9,4 +9,4 @@ pub returns-in_default : goal.returns-in_default
 returns-in_default c = laws.broken-part _ _ _ c.leaf_run-found.ensures c.in_default.is
 
 pub returns : goal.returns
-returns c = laws.found_part _ _ _ c.leaf_run-found.ensures _ c.in-At.is
+returns c = laws.found_part _ _ _ c.leaf_run-found.ensures _ c.in-Some.is
