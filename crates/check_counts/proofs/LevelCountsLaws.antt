@@ -1,11 +1,11 @@
 -- A level's counts, and those of all levels.
 use mathlib.Core.List.{List}
 use mathlib.Core.Bool.{true, false}
-use mathlib.Core.Path.{◌≡◌, refl, sym, ◌∙◌}
+use mathlib.Core.Path.{◌≡◌, refl, sym}
 use mathlib.Core.Logic.{◌⊎◌, inl, inr}
 use Prim.Native.Nat.{ℕ, zero, suc, ◌+◌, ◌-◌, ◌*◌, ◌/◌, ◌≤◌, ◌<◌}
 use native.Mathlib.Omega.{arith}
-use native.Mathlib.Nat.{pos_of_ne-zero, mul-le-mul}
+use native.Mathlib.Nat.{mul-le-mul}
 use native.Mathlib.Numerals.{add-one}
 use Rattle.text.specs.Text.{all_below}
 use Rattle.text.specs.ListLaws.{bool_cases, bool_clash, lt-or-ge, all_below-at, all_below-make, all_below-not}
@@ -70,22 +70,22 @@ module _ (t : List ℕ) (h : Header) (w : Linking t h) where
         go (inr n) = sym n
 
   -- The block length of the last level, and of the level above another.
-  pub last-length : (left : ℕ) → left ≡ h.settings.levels → (left ≡ 0 → ⊥) → h.settings.leaf ≡ at.full_length t (left - 1)
+  pub last-length : (left : ℕ) → left ≡ h.settings.levels → 0 < left → h.settings.leaf ≡ at.full_length t (left - 1)
   last-length left e n = rw (e, facts.levels_is t h w, facts.leaf_is t h w) (sym (full-last t w.header.facts))
 
-  pub above-length : (left b : ℕ) → left ≤ (at.settings t).levels → (left ≡ 0 → ⊥) → b ≡ at.full_length t (left - 1)
-      → (left - 1 ≡ 0 → ⊥) → b * h.settings.arity ≡ at.full_length t (left - 1 - 1)
+  pub above-length : (left b : ℕ) → left ≤ h.settings.levels → 0 < left → b ≡ at.full_length t (left - 1)
+      → 0 < left - 1 → b * h.settings.arity ≡ at.full_length t (left - 1 - 1)
   above-length left b low some e n =
-      let z : left - 1 ≡ left - 1 - 1 + 1 = omega (arith, pos_of_ne-zero n) in
-      rw (e, facts.arity_is t h w) (sym (rw (sym z) at (full-step t w.header.facts (left - 1 - 1) (omega (arith, pos_of_ne-zero n)))))
+      let z : left - 1 ≡ left - 1 - 1 + 1 = omega arith in
+      rw (e, facts.arity_is t h w) (sym (rw (sym z) at (full-step t w.header.facts (left - 1 - 1) (omega (arith, facts.levels_is t h w)))))
 
   -- All levels.
-  module _ (left : ℕ) (some : left ≡ 0 → ⊥) (low : left ≤ (at.settings t).levels) (f : (m : ℕ) → left ≤ m → m < (at.settings t).levels → Level t m) where
+  module _ (left : ℕ) (some : 0 < left) (low : left ≤ h.settings.levels) (f : (m : ℕ) → left ≤ m → m < (at.settings t).levels → Level t m) where
     pub below_left : TrueBelow t (left - 1)
     below_left m l hm = f m (omega arith) hm
 
     pub level_low : left - 1 < (at.settings t).levels
-    level_low = omega (arith, pos_of_ne-zero some)
+    level_low = omega (arith, facts.levels_is t h w)
 
     pub level-done : level_local t (left - 1) ≡ true → (m : ℕ) → left - 1 ≤ m → m < (at.settings t).levels → Level t m
     level-done e m l hm = go (lt-or-ge (left - 1) m)
@@ -106,7 +106,7 @@ module _ (t : List ℕ) (h : Header) (w : Linking t h) where
             (counts-facts t y (left - 1) level_low)) e
         go (inr n) = sym n
 
-  pub levels-done : (left : ℕ) → left ≡ 0 → ((m : ℕ) → left ≤ m → m < (at.settings t).levels → Level t m) → true ≡ counts_true (text_of t) t
+  pub levels-done : (left : ℕ) → left ≤ 0 → ((m : ℕ) → left ≤ m → m < (at.settings t).levels → Level t m) → true ≡ counts_true (text_of t) t
   levels-done left z f = sym (counts-make t (λ l hl. f l (omega arith) hl))
 
 -- One counted byte, all blocks of a level.

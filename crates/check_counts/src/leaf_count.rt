@@ -9,12 +9,10 @@ pub fn leaf_count(t: &[u8], from: usize, n: u32, byte: u8) -> u16
     ensures { (result ≡ count_in byte (substring t.now from n)) × (result ≤ n) }
 {
     let mut times: u16 = 0;
-    let mut i: u32 = 0;
-    while i < n {
-        if t[from + i as usize] == byte {
+    for x in &t[from..from + n as usize] {
+        if *x == byte {
             times += 1;
         }
-        i += 1;
     }
     times
 }

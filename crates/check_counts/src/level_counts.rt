@@ -19,8 +19,7 @@ fn byte_right(t: &[u8], h: Header, level: u32, b: u32, up: u32, c: u32) -> bool
 {
     let below = b / h.settings.arity;
     let n = record::level_count(t, level);
-    let mut i: u32 = 0;
-    while i < n {
+    for i in 0..n {
         if !block_counts::block_right(
             t,
             h.record_size,
@@ -32,7 +31,6 @@ fn byte_right(t: &[u8], h: Header, level: u32, b: u32, up: u32, c: u32) -> bool
         ) {
             return false;
         }
-        i += 1;
     }
     true
 }
@@ -54,13 +52,10 @@ pub fn level_right(t: &[u8], h: Header, level: u32, b: u32) -> bool
     ensures { result ≡ level_local t.now level }
 {
     let up = up_length(t, h, level, b);
-    let k = h.settings.counted;
-    let mut c: u32 = 0;
-    while c < k {
+    for c in 0..h.settings.counted {
         if !byte_right(t, h, level, b, up, c) {
             return false;
         }
-        c += 1;
     }
     true
 }

@@ -17,14 +17,12 @@ pub fn counts_right(t: &[u8], h: Header) -> bool
     requires { Linking t.now h }
     ensures { result ≡ counts_true (text_of t.now) t.now }
 {
-    let mut left = h.settings.levels;
     let mut b = h.settings.leaf;
-    while left != 0 {
-        if !level_counts::level_right(t, h, left - 1, b) {
+    for level in (0..h.settings.levels).rev() {
+        if !level_counts::level_right(t, h, level, b) {
             return false;
         }
-        b = b * h.settings.arity;
-        left = left - 1;
+        b *= h.settings.arity;
     }
     true
 }

@@ -98,6 +98,11 @@ module _ (t : List ℕ) (p q n o k a b : ℕ) (ea : a ≡ p + o) (eb : b ≡ q +
       go (inl e) = e ∙ sym (eq-same_list _ _ (substring-ext t t p q n hp hq (λ x l. byte (rw (ea, eb) at (same_list-true _ _ e)) x l (lt-or-ge x i))))
       go (inr e) = e ∙ part-differs (omega arith) e
 
+-- The k bytes after the first i.
+pub more_same : (t : List ℕ) (p q i k : ℕ) → p + (i + k) ≤ length t → q + (i + k) ≤ length t → same_list (substring t p i) (substring t q i) ≡ true
+    → same_list (substring t (p + i) k) (substring t (q + i) k) ≡ true → same_list (substring t p (i + k)) (substring t q (i + k)) ≡ true
+more_same t p q i k hp hq first next = sym (rest-decides t p q (i + k) i k (p + i) (q + i) refl refl hp hq i (omega arith) refl first) ∙ next
+
 -- Of no bytes all are equal.
 pub none_differ : (t : List ℕ) (p q : ℕ) → same_list (substring t p 0) (substring t q 0) ≡ true
 unfolding same_list substring

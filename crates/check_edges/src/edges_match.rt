@@ -149,12 +149,10 @@ fn level_right(t: &[u8], h: Header, level: u32) -> bool
 {
     let b = h.settings.block_length(level);
     let n = record::level_count(t, level);
-    let mut i: u32 = 0;
-    while i < n {
+    for i in 0..n {
         if !block_right(t, h, level, b, BlockNumber(i)) {
             return false;
         }
-        i += 1;
     }
     true
 }
@@ -167,12 +165,10 @@ pub fn edges_right(t: &[u8], h: Header) -> bool
     if h.layout != Settings::EDGED {
         return true;
     }
-    let mut l: u32 = 0;
-    while l < h.settings.levels {
+    for l in 0..h.settings.levels {
         if !level_right(t, h, l) {
             return false;
         }
-        l += 1;
     }
     true
 }

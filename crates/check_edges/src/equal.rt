@@ -69,12 +69,10 @@ pub fn equal_at(t: &[u8], p: usize, q: usize, n: usize) -> bool
         return medium_equal(t, p, q, n);
     }
     let last = n - 32;
-    let mut i: usize = 0;
-    while i < last {
+    for i in (0..last).step_by(32) {
         if !medium_equal(t, p + i, q + i, 32) {
             return false;
         }
-        i += 32;
     }
     medium_equal(t, p + last, q + last, 32)
 }

@@ -64,13 +64,11 @@ fn children_right(t: &[u8], v: Level, start: TextPlace, first: BlockNumber, widt
     requires { LevelOf t.now v × (v.number ≡ v.last → ⊥) × (first.0 + width ≤ v.room) }
     ensures { result ≡ all_below width (child_as_cut t.now v.number first.0 start.0) }
 {
-    let mut j: u32 = 0;
-    while j < width {
+    for j in 0..width {
         let child = record::start(t, v.size, v.number + 1, BlockNumber(first.0 + j));
         if child.0 as u64 != start.0 as u64 + j as u64 * v.part as u64 {
             return false;
         }
-        j += 1;
     }
     true
 }

@@ -24,13 +24,11 @@ pub fn links_right(t: &[u8], h: Header) -> bool
     if !starts_right(t, level_read::level_of(t, h, 0, full)) {
         return false;
     }
-    let mut l: u32 = 0;
-    while l < h.settings.levels {
+    for l in 0..h.settings.levels {
         if !level_right(t, level_read::level_of(t, h, l, full)) {
             return false;
         }
-        full = full / h.settings.arity;
-        l += 1;
+        full /= h.settings.arity;
     }
     true
 }
@@ -40,13 +38,11 @@ fn starts_right(t: &[u8], v: Level) -> bool
     requires { LevelOf t.now v × (v.number ≡ 0) }
     ensures { result ≡ all_below v.count (start_as_cut t.now) }
 {
-    let mut i: u32 = 0;
-    while i < v.count {
+    for i in 0..v.count {
         let start = record::start(t, v.size, 0, BlockNumber(i));
         if start.0 as u64 != i as u64 * v.full as u64 {
             return false;
         }
-        i += 1;
     }
     true
 }
@@ -58,8 +54,7 @@ fn level_right(t: &[u8], v: Level) -> bool
     ensures { result ≡ level_right t.now v.number }
 {
     let mut passed: u32 = 0;
-    let mut i: u32 = 0;
-    while i < v.count {
+    for i in 0..v.count {
         let width = block_links::width(t, v, BlockNumber(i));
         if v.room - passed < width {
             return false;
@@ -68,7 +63,6 @@ fn level_right(t: &[u8], v: Level) -> bool
             return false;
         }
         passed += width;
-        i += 1;
     }
     passed == v.room
 }

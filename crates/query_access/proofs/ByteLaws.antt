@@ -1,4 +1,4 @@
--- Ok (and, run,) where they are refused, and the part that a run is.
+-- Byte and run, where they are refused, and the part that a run is.
 use Rattle.std.specs.Prelude.{Result, Ok, Err}
 use Rattle.refusals.specs.declared.Refusal.{Refusal}
 use Rattle.refusals.specs.Refusals.{refusal_number}

@@ -8,7 +8,7 @@ use mathlib.Core.Path.{◌≡◌, refl, sym, ap, ◌∙◌}
 use Prim.Native.Nat.{ℕ, zero, suc, ◌+◌, ◌-◌, ◌≤◌, ◌<◌, min}
 use native.Mathlib.Omega.{arith}
 use native.Mathlib.Nat.{le_trans}
-use lib.ListN.{length, get_or, set}
+use lib.ListN.{length, get_or}
 use Rattle.format.specs.Layout.{max_text}
 use Rattle.format.specs.Layout as at
 use Rattle.format.specs.Answers.{Answer, refused, replied, byte_answer, run_answer}
@@ -22,16 +22,13 @@ use Rattle.walk_steps.specs.Steps.{OnLevel}
 use Rattle.walk_steps.proofs.NextLaws.{on-top}
 use Rattle.walk_path.specs.declared.TopLevel.{TopLevel}
 use Rattle.byte_slices.specs.ByteSlices.{bytes_written}
-use Rattle.byte_slices.proofs.ByteSliceLaws.{bytes-more}
 use Rattle.query_access.specs.declared.read_by_header.LeafRun.{LeafRun}
-use Rattle.query_access.specs.declared.read_by_header.LeafRunAnswer.{LeafRunAnswer}
-use Rattle.query_access.specs.declared.read_by_header.LeafRunAnswer.TheVariants as leaf-run
 use Rattle.query_access.specs.declared.read_by_header.TreeRange.{TreeRange}
 use Rattle.walk_ranges.specs.declared.leaf_end.LeafEnd.{LeafEnd}
-use Rattle.walk_ranges.specs.declared.leaf_end.LeafEndAnswer.{LeafEndAnswer}
-use Rattle.walk_ranges.specs.declared.leaf_end.LeafEndAnswer.TheVariants as leaf-end
+use Rattle.std.specs.Prelude.{Option, Some, None}
+use Rattle.std.specs.Option.{ok_or}
 use Rattle.query_access.specs.ReadAnswers.{byte_reply, IsRunAnswer}
-use Rattle.walk_ranges.specs.LeafEnds.{LeafEndAt, LeafEndOf, Joined}
+use Rattle.walk_ranges.specs.LeafEnds.{LeafEndAt, Joined}
 use Rattle.query_access.specs.ReadByRuns.{IsRunOfPlace, ReadsOn, LeafRunAt, LeafRunOf, LeafRangeAt, ReadsFrom, LeafRangeOf, IsRangeAnswer, places_written, RunCopied}
 use Rattle.query_access.proofs.RunLaws.{run-answers, run-from, run-size, run-some}
 use Rattle.walk_ranges.proofs.LeafEndLaws.{end_is, end-left, end-entered, left-min, joined-answers}
@@ -42,14 +39,6 @@ pub walk-ready : (t : List ℕ) (h : Header) → HeaderOf t h → (p : ℕ) → 
     → (OnLevel t top.size 0 top.b) × (p < at.text_length t) × (h.text_length - p ≤ max_text)
 walk-ready t h k p low top is =
     (rw is (on-top t h k), omega (arith, k.length_is), omega (arith, k.length_is, k.facts.bounds.text_high))
-
--- The answer of `end_of`.
-module _ (t : List ℕ) (p : ℕ) (x : LeafEndAnswer) (x-is : LeafEndOf t p x) where
-  pub end-found : (r : LeafEnd) → x ≡ leaf-end.At r → LeafEndAt t p r
-  end-found r e = rw e at x-is
-
-  pub end_refused : x ≡ leaf-end.Broken → byte_answer t p ≡ refused 14
-  end_refused e = rw e at x-is
 
 -- A range has a byte.
 range-some : (left most within n size leaves length : ℕ) → 1 ≤ left → 1 ≤ most → within ≡ min left most → 1 ≤ n → size ≡ min within n → 1 ≤ leaves
@@ -143,15 +132,11 @@ module _ (t : List ℕ) (p : ℕ) (h : Header) (k : HeaderOf t h) (low : p < h.t
               (in_count x long (at.leaf_count t) r.leaf l f.in_leaves) low-text from start;
         }
 
--- The answer of `leaf_run`.
-module _ (t : List ℕ) (p : ℕ) (x : LeafRunAnswer) (x-is : LeafRunOf t p x) where
-  pub run-found : (r : LeafRun) → x ≡ leaf-run.At r → LeafRunAt t p r
-  run-found r e = rw e at x-is
-
-  pub run-refused : x ≡ leaf-run.Broken → byte_answer t p ≡ refused 14
-  run-refused e = rw e at x-is
-
 -- The answer of `run_of_place`.
+pub run-or-broken : (t : List ℕ) (p : ℕ) (x : Option LeafRun) → LeafRunOf t p x → IsRunOfPlace t p (ok_or x PathBroken)
+run-or-broken t p (Some r) k = k
+run-or-broken t p None k = sym k
+
 module _ (t : List ℕ) (p : ℕ) (x : Result LeafRun Refusal) (x-is : IsRunOfPlace t p x) where
   pub place-found : (r : LeafRun) → x ≡ Ok r → LeafRunAt t p r
   place-found r e = rw e at x-is
@@ -171,16 +156,16 @@ module _ (t : List ℕ) (p : ℕ) (x : Result LeafRun Refusal) (x-is : IsRunOfPl
       }
 
 -- The answer of `leaf_range`.
-module _ (t : List ℕ) (p most : ℕ) (x : LeafRunAnswer) (x-is : LeafRangeOf t p most x) where
-  pub range-found : (r : LeafRun) → x ≡ leaf-run.At r → LeafRangeAt t p most r
+module _ (t : List ℕ) (p most : ℕ) (x : Option LeafRun) (x-is : LeafRangeOf t p most x) where
+  pub range-found : (r : LeafRun) → x ≡ Some r → LeafRangeAt t p most r
   range-found r e = rw e at x-is
 
-  pub range-refused : x ≡ leaf-run.Broken → (byte_answer t p).number ≡ 14
+  pub range-refused : x ≡ None → (byte_answer t p).number ≡ 14
   range-refused e =
       let z : byte_answer t p ≡ refused 14 = rw e at x-is in
       ap (λ (s : Answer). s.number) z
 
-  pub found-range : header_result t ≡ 0 → (r : LeafRun) → x ≡ leaf-run.At r → IsRangeAnswer t p most (Ok (record { from = r.from; length = r.length }))
+  pub found-range : header_result t ≡ 0 → (r : LeafRun) → x ≡ Some r → IsRangeAnswer t p most (Ok (record { from = r.from; length = r.length }))
   found-range passes r e =
       let k = range-found r e in
       let number : (y : ℕ) → y < r.length → (byte_answer t (p + y)).number ≡ 0 = λ y l. ap (λ (s : Answer). s.number) (k.answers y l) in (
@@ -212,15 +197,6 @@ run-first-byte t p r k a e =
 -- No byte of a run is refused.
 pub run-not-refused : (a : Result (ℕ × ℕ) Refusal) (v n : ℕ) (q : Refusal) → a ≡ Ok (v, n) → a ≡ Err q → ⊥
 run-not-refused a v n q e f = cc
-
--- A byte's answer is taken apart, and its byte written.
-value-is : (a : Result (ℕ × ℕ) Refusal) (v n u m : ℕ) → a ≡ Ok (v, n) → a ≡ Ok (u, m) → u ≡ v
-value-is a v n u m e f = let z : ◌≡◌ {A = ℕ × ℕ} (v, n) (u, m) = cc in sym (ap (λ (x : ℕ × ℕ). x.0) z)
-
-pub byte-written : (d e t : List ℕ) (to from j : ℕ) → e ≡ bytes_written d to t from j
-    → (a : Result (ℕ × ℕ) Refusal) (n u m : ℕ) → a ≡ Ok (get_or t (from + j) 0, n) → a ≡ Ok (u, m) → set e (to + j) u ≡ bytes_written d to t from (j + 1)
-byte-written d e t to from j is a n u m given taken =
-    bytes-more d e _ t to from j is (ap (set e (to + j)) (value-is a (get_or t (from + j) 0) n u m given taken))
 
 -- No bytes, and those of a range.
 pub access-none-read : (t : List ℕ) (p : ℕ) (r : LeafRun) → r.length ≡ 0 → r.from ≡ 0 → ReadsFrom t p r

@@ -1,5 +1,5 @@
 -- Reading by runs: a part of the tree's own bytes that are bytes of its text.
-use Rattle.std.specs.Prelude.{List, ◌≡◌, ℕ, zero, suc, ◌+◌, ◌≤◌, ◌<◌, length, get_or, set, Result, Ok, Err}
+use Rattle.std.specs.Prelude.{List, Option, Some, None, Result, Ok, Err, ◌≡◌, ℕ, zero, suc, ◌+◌, ◌≤◌, ◌<◌, length, get_or, set}
 use Rattle.refusals.specs.declared.Refusal.{Refusal}
 use Rattle.refusals.specs.declared.Refusal.TheVariants.{PathBroken}
 use Rattle.refusals.specs.Refusals.{refusal_number}
@@ -8,8 +8,6 @@ use Rattle.format.specs.TreeReading.{text_of}
 use Rattle.format.specs.Answers.{refused, Is, byte_answer, run_answer, copy_answer}
 use Rattle.query_access.specs.declared.read_by_header.TreeRange.{TreeRange}
 use Rattle.query_access.specs.declared.read_by_header.LeafRun.{LeafRun}
-use Rattle.query_access.specs.declared.read_by_header.LeafRunAnswer.{LeafRunAnswer}
-use Rattle.query_access.specs.declared.read_by_header.LeafRunAnswer.TheVariants as leaf-run
 use Rattle.query_access.specs.ReadAnswers.{span_reply}
 
 -- The same of bytes that are copied by their paths.
@@ -32,9 +30,9 @@ pub record LeafRunAt (t : List ℕ) (p : ℕ) (r : LeafRun) : Type 0 where
   pub answers : (x : ℕ) → x < r.length → byte_answer t (p + x) ≡ record { number = 0; value = get_or t (r.from + x) 0; entered = r.entered }
 
 -- The answer of `leaf_run`.
-abbrev pub LeafRunOf : List ℕ → ℕ → LeafRunAnswer → Type 0
-LeafRunOf t p (leaf-run.At r) = LeafRunAt t p r
-LeafRunOf t p leaf-run.Broken = byte_answer t p ≡ refused 14
+abbrev pub LeafRunOf : List ℕ → ℕ → Option LeafRun → Type 0
+LeafRunOf t p (Some r) = LeafRunAt t p r
+LeafRunOf t p None = byte_answer t p ≡ refused 14
 
 -- The run of place p, or the refusal of byte for that place.
 abbrev pub IsRunOfPlace : List ℕ → ℕ → Result LeafRun Refusal → Type 0
@@ -55,9 +53,9 @@ pub record ReadsFrom (t : List ℕ) (p : ℕ) (r : LeafRun) : Type 0 where
   pub answers : (x : ℕ) → x < r.length → byte_answer t (p + x) ≡ record { number = 0; value = get_or t (r.from + x) 0; entered = r.entered }
 
 -- The answer of `leaf_range`.
-abbrev pub LeafRangeOf : List ℕ → ℕ → ℕ → LeafRunAnswer → Type 0
-LeafRangeOf t p most (leaf-run.At r) = LeafRangeAt t p most r
-LeafRangeOf t p most leaf-run.Broken = byte_answer t p ≡ refused 14
+abbrev pub LeafRangeOf : List ℕ → ℕ → ℕ → Option LeafRun → Type 0
+LeafRangeOf t p most (Some r) = LeafRangeAt t p most r
+LeafRangeOf t p most None = byte_answer t p ≡ refused 14
 
 -- The answer of `range_at`: some bytes of the tree, at most `most`, that are those of its text from place p on; or 14, the refusal of byte.
 abbrev pub IsRangeAnswer : List ℕ → ℕ → ℕ → Result TreeRange Refusal → Type 0

@@ -68,6 +68,7 @@ pub fn copy_segment(
     }
     let block = from.block;
     let mut done: u32 = 0;
+    // A `while`: how many bytes the next segment has is found in the loop's body, so there is no range to go over.
     while done < part.size {
         let place = BlockPlace(from.place.0 + done);
         let rest = BlockPosition { block, place };

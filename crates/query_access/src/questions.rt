@@ -3,7 +3,7 @@ ghost use Rattle.layout.specs.HeaderFields.{HeaderOf};
 ghost use Rattle.query_access.specs.ReadByRuns.{IsRunOfPlace};
 
 use crate::read_by_header;
-use crate::read_by_header::{LeafRun, LeafRunAnswer};
+use crate::read_by_header::LeafRun;
 use layout::header::Header;
 use layout::place::TextPlace;
 use refusals::Refusal;
@@ -16,8 +16,5 @@ pub fn run_of_place(t: &[u8], h: Header, at: TextPlace) -> Result<LeafRun, Refus
     if h.text_length <= at.0 {
         return Err(Refusal::PastTheEnd);
     }
-    let LeafRunAnswer::At(run) = read_by_header::leaf_run(&t, h, at) else {
-        return Err(Refusal::PathBroken);
-    };
-    Ok(run)
+    read_by_header::leaf_run(&t, h, at).ok_or(Refusal::PathBroken)
 }

@@ -14,7 +14,6 @@ use layout::settings::Settings;
 use refusals::Refusal;
 use walk_path::TopLevel;
 use walk_ranges::leaf_end;
-use walk_ranges::leaf_end::LeafEndAnswer;
 use walk_ranges::segments::Rules;
 use walk_short::gather;
 use walk_short::gather::Gathered;
@@ -33,12 +32,6 @@ pub struct LeafRun {
     pub from: usize,
     pub length: u32,
     pub entered: u32,
-}
-
-#[derive(Clone, Copy)]
-pub enum LeafRunAnswer {
-    At(LeafRun),
-    Broken,
 }
 
 // No bytes, as a run.
@@ -73,18 +66,15 @@ fn top_level(h: Header) -> TopLevel
 }
 
 // The run of a place of the text, bounded by the number of leaf bytes: question 14.
-pub fn leaf_run(t: &&[u8], h: Header, at: TextPlace) -> LeafRunAnswer
+pub fn leaf_run(t: &&[u8], h: Header, at: TextPlace) -> Option<LeafRun>
     requires { (HeaderOf t.now.now h) × (at.0 < h.text_length) }
     ensures { LeafRunOf t.now.now at.0 result }
 {
     let tree = *t;
     let word = walk_path::walk(t, top_level(h), at, h.text_length - at.0);
-    let found = leaf_end::end_of(tree, h, at, word);
-    let LeafEndAnswer::At(end) = found else {
-        return LeafRunAnswer::Broken;
-    };
+    let end = leaf_end::end_of(tree, h, at, word)?;
     let here = byte_slices::min(end.left, h.settings.leaf - end.place.0);
-    LeafRunAnswer::At(LeafRun {
+    Some(LeafRun {
         from: h.leaf_offset as usize + end.leaf as usize,
         length: byte_slices::min(here, h.leaf_count - end.leaf),
         entered: end.entered,
@@ -93,20 +83,17 @@ pub fn leaf_run(t: &&[u8], h: Header, at: TextPlace) -> LeafRunAnswer
 
 // At most `most` bytes from a place of the text that are contiguous in the tree, found by one walk: its run, and the leaf bytes of the blocks that follow,
 // inside every block above the last level. Question 14.
-pub fn leaf_range(t: &&[u8], h: Header, at: TextPlace, most: u32) -> LeafRunAnswer
+pub fn leaf_range(t: &&[u8], h: Header, at: TextPlace, most: u32) -> Option<LeafRun>
     requires { (HeaderOf t.now.now h) × (at.0 < h.text_length) × (1 ≤ most) }
     ensures { LeafRangeOf t.now.now at.0 most result }
 {
     let tree = *t;
     let word = walk_path::walk(t, top_level(h), at, h.text_length - at.0);
-    let found = leaf_end::end_of(tree, h, at, word);
-    let LeafEndAnswer::At(end) = found else {
-        return LeafRunAnswer::Broken;
-    };
+    let end = leaf_end::end_of(tree, h, at, word)?;
     let within = byte_slices::min(end.left, most);
     let joined = leaf_end::joined(tree, h, end, within);
     let size = byte_slices::min(within, joined);
-    LeafRunAnswer::At(LeafRun {
+    Some(LeafRun {
         from: h.leaf_offset as usize + end.leaf as usize,
         length: byte_slices::min(size, h.leaf_count - end.leaf),
         entered: end.entered,
@@ -139,7 +126,7 @@ pub fn range_at(t: &[u8], h: Header, at: TextPlace, most: u32) -> Result<TreeRan
     ensures { IsRangeAnswer t.now at.0 most result }
 {
     let found = leaf_range(&t, h, at, most);
-    let LeafRunAnswer::At(run) = found else {
+    let Some(run) = found else {
         return Err(Refusal::PathBroken);
     };
     Ok(TreeRange {
@@ -227,15 +214,12 @@ pub fn copy_range(
     ensures value { result ≡ Ok (n, 0) }
     ensures buffer_after { buffer.new ≡ bytes_written buffer.old to t.now run.from n }
 {
-    let size = n as usize;
-    let mut k: usize = 0;
-    while k < size {
+    for k in 0..n as usize {
         let answer = byte_on(t, run, k);
         let Ok((value, _)) = answer else {
             return Err(answer.unwrap_err());
         };
         buffer[to + k] = value;
-        k += 1;
     }
     Ok((n, 0))
 }
@@ -253,7 +237,7 @@ fn copy_run(
     ensures { RunCopied t.now at.0 most to buffer.old buffer.new result }
 {
     let found = leaf_range(&t, h, at, most);
-    let LeafRunAnswer::At(run) = found else {
+    let Some(run) = found else {
         return Err(Refusal::PathBroken);
     };
     copy_range(t, run, run.length, buffer, to)
@@ -315,6 +299,7 @@ pub fn copy_on(
         return first;
     };
     let mut i: u32 = done;
+    // A `while`: how many bytes a walk copies is found in the loop's body, so there is no range to go over.
     while i < len {
         let copied = copy_run(t, h, TextPlace(at.0 + i), len - i, buffer, i as usize);
         let Ok((n, _)) = copied else {

@@ -37,10 +37,8 @@ pub fn copy_short(out: &mut [u8], to: usize, text: &[u8], from: usize, n: usize)
         copy_word(out, to + (n - 4), text, from + (n - 4));
         return;
     }
-    let mut j: usize = 0;
-    while j + 8 < n {
+    for j in (0..n - 8).step_by(8) {
         copy_pair(out, to + j, text, from + j);
-        j += 8;
     }
     copy_pair(out, to + (n - 8), text, from + (n - 8));
 }

@@ -23,8 +23,7 @@ use Rattle.layout.specs.declared.header.Header.{Header}
 use Rattle.layout.specs.HeaderFields.{HeaderOf}
 use Rattle.byte_slices.specs.ByteSlices.{HasBytes}
 use Rattle.query_access.specs.declared.read_by_header.LeafRun.{LeafRun}
-use Rattle.query_access.specs.declared.read_by_header.LeafRunAnswer.{LeafRunAnswer}
-use Rattle.query_access.specs.declared.read_by_header.LeafRunAnswer.TheVariants as answer
+use Rattle.std.specs.Prelude.{Option, Some}
 use Rattle.query_access.specs.ReadByRuns.{ReadsOn, LeafRangeAt, ReadsFrom, LeafRangeOf}
 use Rattle.query_access.proofs.LeafRunLaws.{access-none-read, range-found, range-read, found-range}
 use Rattle.query_rows.specs.declared.next_newline.Newline.{Newline}
@@ -152,8 +151,8 @@ first-kept t p place most first next r f k r-is = go (eqb first.length 0) refl
         rw z (f.reads, omega (arith, some))
 
 -- The range at a place, as the text's bytes.
-pub range-there : (t : List ℕ) (h : Header) (k : HeaderOf t h) (place most : ℕ) (x : LeafRunAnswer) → LeafRangeOf t place most x
-    → (r : LeafRun) → x ≡ answer.At r → (ReadsOn t place r.from r.length) × (LeafRangeAt t place most r)
+pub range-there : (t : List ℕ) (h : Header) (k : HeaderOf t h) (place most : ℕ) (x : Option LeafRun) → LeafRangeOf t place most x
+    → (r : LeafRun) → x ≡ Some r → (ReadsOn t place r.from r.length) × (LeafRangeAt t place most r)
 range-there t h k place most x x-is r e = ((found-range t place most x x-is k.passes r e).0, range-found t place most x x-is r e)
 
 -- The byte before a place of a run.

@@ -6,7 +6,7 @@ ghost use Rattle.query_rows.specs.RowEnds.{NewlineIs};
 use layout::header::Header;
 use layout::place::TextPlace;
 use query_access::read_by_header;
-use query_access::read_by_header::{LeafRun, LeafRunAnswer};
+use query_access::read_by_header::LeafRun;
 
 // The place of the first newline from a place on, the byte before it, if one was read, and the range that was read first; or none, because a path
 // breaks or the text ends before it.
@@ -31,7 +31,7 @@ pub fn next_newline(t: &&[u8], h: Header, from: TextPlace) -> Newline
     // A `while`: each part's length is found when it is read, so there is no range to go over.
     while at < h.text_length {
         let found = read_by_header::leaf_range(t, h, TextPlace(at), MOST);
-        let LeafRunAnswer::At(part) = found else {
+        let Some(part) = found else {
             return Newline::Missing;
         };
         let size = part.length;

@@ -7,7 +7,7 @@ use Prim.Native.Nat.{ℕ, zero, suc, ◌+◌, ◌-◌, ◌*◌, ◌/◌, ◌%◌
 use native.Mathlib.Omega.{arith}
 use native.Mathlib.Nat.{mod-lt}
 use lib.ListN.{get_or, set, length, drop, length-set}
-use lib.Seq.{get_or-set_same, get_or-set_other, drop-set-lt}
+use lib.Seq.{drop-set-lt}
 use borrow.Author.Count.{below_more}
 use borrow.Author.Tests.{lt-ltb}
 use Rattle.format.specs.Layout as at
@@ -120,24 +120,6 @@ module _ (p s b : ℕ) where
     pub same_places : length os ≡ length os₀
     pub tops : AtTop p s k b is os
 
-  pub top_start : (is os : List ℕ) → TopUpTo is os is os 0
-  top_start is os = record { same_blocks = refl; same_places = refl; tops = λ k less. absurd (let z : ⊥ = omega arith in z) }
-
-  pub top-more : (is₀ os₀ is os : List ℕ) (k : ℕ) → TopUpTo is₀ os₀ is os k → k < length is₀ → k < length os₀
-      → TopUpTo is₀ os₀ (set is k ((p + k * s) / b)) (set os k ((p + k * s) % b)) (k + 1)
-  top-more is₀ os₀ is os k c low low₂ =
-      let i = (p + k * s) / b in
-      let o = (p + k * s) % b in record {
-        same_blocks = simp length-set c.same_blocks;
-        same_places = simp length-set c.same_places;
-        tops = below_more (λ j. (get_or (set is k i) j 0 ≡ (p + j * s) / b) × (get_or (set os k o) j 0 ≡ (p + j * s) % b)) k
-            (λ j less. (
-              get_or-set_other is k j i 0 (λ e. omega arith) ∙ (c.tops j less).0,
-              get_or-set_other os k j o 0 (λ e. omega arith) ∙ (c.tops j less).1,
-            ))
-            (get_or-set_same is k i 0 (omega (arith, c.same_blocks)), get_or-set_same os k o 0 (omega (arith, c.same_places)));
-      }
-
 -- One step of each path.
 module _ (t : List ℕ) (l : ℕ) (is₀ os₀ : List ℕ) where
   -- The first k paths went on to the next level; the others are where they were.
@@ -147,42 +129,11 @@ module _ (t : List ℕ) (l : ℕ) (is₀ os₀ : List ℕ) where
     pub moved : (j : ℕ) → j < k → GoesTo t l (get_or is₀ j 0) (get_or os₀ j 0) (l + 1) (get_or is j 0) (get_or os j 0)
     pub others : (j : ℕ) → k ≤ j → (get_or is j 0 ≡ get_or is₀ j 0) × (get_or os j 0 ≡ get_or os₀ j 0)
 
-  pub steps-start : StepsUpTo is₀ os₀ 0
-  steps-start = record {
-    same_blocks = refl;
-    same_places = refl;
-    moved = λ j less. absurd (let z : ⊥ = omega arith in z);
-    others = λ j less. (refl, refl);
-  }
-
   module _ (is os : List ℕ) (k : ℕ) (c : StepsUpTo is os k) where
-    pub steps-here : (n : ℕ) → GroupAt t l n is₀ os₀ → k < n → InBlock t l (get_or is k 0) (get_or os k 0)
-    steps-here n at-l less = let z = c.others k (omega arith) in rw (z.0, z.1) (at-l k less)
-
     module _ (x : BlockAt) (x-is : StepAnswer t l (get_or is k 0) (get_or os k 0) x) where
       pub steps-off : (n : ℕ) → k < n → x ≡ block_at.Off → WalkedTo t l (l + 1) n is₀ os₀ is os false
       unfolding group_leaf
       steps-off n less e = let z = c.others k (omega arith) in (k, less, rw (z.0, z.1) at (rw e at x-is))
-
-      pub steps-more : (j : BlockNumber) (q : BlockPlace) → x ≡ block_at.At j q → k < length is₀ → k < length os₀
-          → StepsUpTo (set is k j.0) (set os k q.0) (k + 1)
-      steps-more j q e low low₂ =
-          let z = c.others k (omega arith) in
-          let js = set is k j.0 in
-          let qs = set os k q.0 in
-          let far : (m : ℕ) → (m ≡ k → ⊥) → (get_or js m 0 ≡ get_or is m 0) × (get_or qs m 0 ≡ get_or os m 0) =
-          λ m apart. (get_or-set_other is k m j.0 0 apart, get_or-set_other os k m q.0 0 apart) in
-          let new : (get_or js k 0 ≡ j.0) × (get_or qs k 0 ≡ q.0) =
-          (get_or-set_same is k j.0 0 (omega (arith, c.same_blocks)), get_or-set_same os k q.0 0 (omega (arith, c.same_places))) in
-          let here : GoesTo t l (get_or is₀ k 0) (get_or os₀ k 0) (l + 1) j.0 q.0 = rw (z.0, z.1) at (rw e at x-is) in record {
-            same_blocks = simp length-set c.same_blocks;
-            same_places = simp length-set c.same_places;
-            moved = below_more (λ m. GoesTo t l (get_or is₀ m 0) (get_or os₀ m 0) (l + 1) (get_or js m 0) (get_or qs m 0)) k
-                (λ m less. (let y = far m (λ u. omega arith) in rw (y.0, y.1) (c.moved m less)))
-                (rw (new.0, new.1) here);
-            others = λ m past. (let y = far m (λ u. omega arith) in
-                let w = c.others m (omega arith) in (y.0 ∙ w.0, y.1 ∙ w.1));
-          }
 
 -- Level by level.
 module _ (t : List ℕ) (n : ℕ) (is₀ os₀ : List ℕ) where
@@ -191,9 +142,6 @@ module _ (t : List ℕ) (n : ℕ) (is₀ os₀ : List ℕ) where
     pub same_blocks : length is ≡ length is₀
     pub same_places : length os ≡ length os₀
     pub moved : WalkedTo t 0 l n is₀ os₀ is os true
-
-  pub levels-start : GroupAt t 0 n is₀ os₀ → LevelsUpTo is₀ os₀ 0
-  levels-start top = record { same_blocks = refl; same_places = refl; moved = λ k less. record { there = top k less; same_leaf = refl } }
 
   module _ (is os : List ℕ) (l : ℕ) (c : LevelsUpTo is os l) where
     pub levels-here : GroupAt t l n is os
@@ -211,9 +159,6 @@ module _ (t : List ℕ) (n : ℕ) (is₀ os₀ : List ℕ) where
             same_places = same₂ ∙ c.same_places;
             moved = λ k less. record { there = (z k less).there; same_leaf = (z k less).same_leaf ∙ (c.moved k less).same_leaf };
           }
-
-    pub levels-all : (m : ℕ) → l ≡ m → WalkedTo t 0 m n is₀ os₀ is os true
-    levels-all m e = rw e at c.moved
 
 -- The leaf byte of a place of the last level.
 module _ (t : List ℕ) (h : Header) (k : HeaderOf t h) (i o : ℕ) (here : InBlock t (last_level t) i o) where
@@ -254,9 +199,6 @@ module _ (t is os : List ℕ) (to : ℕ) (d : List ℕ) where
     pub bytes : e ≡ leaves_written t d to leaf k
     pub found : (x : ℕ) → x < k → has_leaf (leaf x) ≡ true
     pub past : (j : ℕ) → to + k ≤ j → drop j e ≡ drop j d
-
-  pub bytes-start : BytesUpTo d 0
-  bytes-start = record { same_length = refl; bytes = refl; found = λ x less. absurd (let z : ⊥ = omega arith in z); past = λ j far. refl }
 
   module _ (e : List ℕ) (k : ℕ) (c : BytesUpTo e k) where
     module _ (x : LeafByte) (x-is : LeafByteAnswer t (get_or is k 0) (get_or os k 0) x) where

@@ -54,12 +54,10 @@ fn top_positions(p: Places, b: u32, blocks: &mut [u32], places: &mut [u32])
     requires { (0 < b) × (p.count ≤ length blocks.old) × (p.count ≤ length places.old) × (PlacesBelow p.first p.stride p.count 4294967296) }
     ensures { AtTop p.first p.stride p.count b blocks.new places.new }
 {
-    let mut k: u32 = 0;
-    while k < p.count {
+    for k in 0..p.count {
         let place = p.first + k * p.stride;
         blocks[k as usize] = place / b;
         places[k as usize] = place % b;
-        k += 1;
     }
 }
 
@@ -90,17 +88,15 @@ fn step_all(t: &[u8], on: UpperLevel, n: u32, blocks: &mut [u32], places: &mut [
     ensures { WalkedTo t.now on.level (on.level + 1) n
         blocks.old places.old blocks.new places.new result }
 {
-    let mut k: u32 = 0;
-    while k < n {
-        let block = BlockNumber(blocks[k as usize]);
-        let place = BlockPlace(places[k as usize]);
+    for k in 0..n as usize {
+        let block = BlockNumber(blocks[k]);
+        let place = BlockPlace(places[k]);
         let next = step(t, on, block, place);
         let BlockAt::At(i, p) = next else {
             return false;
         };
-        blocks[k as usize] = i.0;
-        places[k as usize] = p.0;
-        k += 1;
+        blocks[k] = i.0;
+        places[k] = p.0;
     }
     true
 }
@@ -112,9 +108,8 @@ fn walk_all(t: &[u8], h: Header, n: u32, blocks: &mut [u32], places: &mut [u32])
         blocks.old places.old blocks.new places.new result }
 {
     let size = h.record_size;
-    let mut level: u32 = 0;
     let mut b: u32 = h.top_length;
-    while level + 1 < h.settings.levels {
+    for level in 0..h.settings.levels - 1 {
         let below = b / h.settings.arity;
         let on = UpperLevel {
             size,
@@ -126,7 +121,6 @@ fn walk_all(t: &[u8], h: Header, n: u32, blocks: &mut [u32], places: &mut [u32])
             return false;
         }
         b = below;
-        level += 1;
     }
     true
 }
@@ -163,16 +157,14 @@ fn copy_bytes(
     ensures { Copied t.now (group_leaf t.now ((at.settings t.now).levels - 1) blocks.now places.now)
         part.count part.to buffer.old buffer.new result }
 {
-    let mut k: u32 = 0;
-    while k < part.count {
-        let block = BlockNumber(blocks[k as usize]);
-        let place = BlockPlace(places[k as usize]);
+    for k in 0..part.count as usize {
+        let block = BlockNumber(blocks[k]);
+        let place = BlockPlace(places[k]);
         let found = leaf_byte(t, h, block, place);
         let LeafByte::At(value) = found else {
             return 14;
         };
-        buffer[part.to + k as usize] = value;
-        k += 1;
+        buffer[part.to + k] = value;
     }
     0
 }

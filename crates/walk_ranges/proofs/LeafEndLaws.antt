@@ -1,13 +1,13 @@
 -- The end of a path among the leaf bytes, from the walk down to the last level; and the blocks that continue it.
 use mathlib.Core.List.{List, [], ◌∷◌, ◌++◌}
-use mathlib.Core.Option.{Option, none, some}
+use mathlib.Core.Option.{none, some}
 use mathlib.Core.Bool.{Bool, true, false, ◌&&◌}
 use mathlib.Core.Logic.{◌⊎◌, inl, inr}
 use mathlib.Core.Path.{◌≡◌, refl, sym, ap, ◌∙◌}
-use Prim.Native.Nat.{ℕ, suc, ◌+◌, ◌-◌, ◌*◌, ◌/◌, ◌%◌, ◌≤◌, ◌<◌, min}
+use Prim.Native.Nat.{ℕ, ◌+◌, ◌-◌, ◌*◌, ◌/◌, ◌%◌, ◌≤◌, ◌<◌, min}
 use native.Mathlib.Omega.{arith}
-use native.Mathlib.Nat.{div-eq_of_lt, mod-eq_of_lt, mul-le-mul_left, mul-one, one-mul, add-mul}
-use borrow.Author.Tests.{lt-ltb, le-ltb, eq-eqb, ne_eqb, eqb-true}
+use native.Mathlib.Nat.{div-eq_of_lt, mod-eq_of_lt, one-mul, add-mul}
+use borrow.Author.Tests.{lt-ltb, le-ltb, ne_eqb, eqb-true}
 use lib.Arith.{digits_div, digits_mod}
 use lib.Dec.{eqb}
 use lib.ListN.{length, get_or}
@@ -16,7 +16,7 @@ use Rattle.format.specs.Layout.{max_text, plain_words}
 use Rattle.format.specs.Layout as at
 use Rattle.format.specs.LayoutLaws.{full-last}
 use Rattle.format.specs.TreeReading.{Path, Visit, visit, entered, is_kept_block, path_from, path_of}
-use Rattle.format.specs.Answers.{Answer, refused, byte_answer, byte_of, left_over}
+use Rattle.format.specs.Answers.{refused, byte_answer, byte_of, left_over}
 use Rattle.theory_paths.specs.PlaceBytes.{byte-path}
 use Rattle.theory_paths.specs.Visits.{goes, goes-short}
 use Rattle.theory_paths.specs.PlacesResolved.{from_last}
@@ -240,19 +240,16 @@ module _ (t : List ℕ) (h : Header) (k : HeaderOf t h) (r : LeafEnd) (e : EndsI
           eqb-true _ _ (and_right (is_kept_block t (last_level t) i) (eqb (at.link t (last_level t) i) (r.leaf + n)) next) in
           rw (z, o, is-next) (omega arith)
 
--- The number of the next block is not far from the first one.
-pub next-near : (c w n : ℕ) → 1 ≤ w → n ≡ c * w → c ≤ n
-next-near c w n low e = omega (arith, mul-le-mul_left c low, mul-one c)
+-- A number that grows by w with each block from block i on.
+pub steps-one : (i w : ℕ) → (i + 1 - i) * w ≡ w
+steps-one i w =
+    let s : i + 1 - i ≡ 1 = omega arith in
+    rw s (one-mul w)
 
-pub next_more : (i next w n o : ℕ) → i < next → n + o ≡ (next - i) * w → n + w + o ≡ (next + 1 - i) * w
-next_more i next w n o after e =
+pub steps-more : (i next w : ℕ) → i ≤ next → (next + 1 - i) * w ≡ (next - i) * w + w
+steps-more i next w after =
     let s : next + 1 - i ≡ next - i + 1 = omega arith in
     rw s (omega (arith, add-mul (next - i) 1 w, one-mul w))
-
-pub next-first : (i w n o : ℕ) → o ≤ w → n ≡ w - o → n + o ≡ (i + 1 - i) * w
-next-first i w n o low e =
-    let s : i + 1 - i ≡ 1 = omega arith in
-    rw s (omega (arith, one-mul w))
 
 -- byte's answers from an end on
 

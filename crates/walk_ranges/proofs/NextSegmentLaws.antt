@@ -6,8 +6,8 @@ use mathlib.Core.Logic.{◌⊎◌, inl, inr}
 use mathlib.Core.Path.{◌≡◌, refl, sym, ap, ◌∙◌}
 use Prim.Native.Nat.{ℕ, zero, suc, ◌+◌, ◌-◌, ◌*◌, ◌/◌, ◌%◌, ◌≤◌, ◌<◌, min}
 use native.Mathlib.Omega.{arith}
-use native.Mathlib.Nat.{add_assoc, div-add-mod', div-eq_of_lt, mod-eq_of_lt, mod-lt, mod-le, mul_comm, mul_assoc, mul-le-mul_left, mul-le-mul_right}
-use native.Mathlib.Nat.{add-mul-mod_self_left, add-mul-div_left, add-mul, one-mul, mul-one, zero-mul}
+use native.Mathlib.Nat.{add_assoc, div-add-mod', div-eq_of_lt, mod-eq_of_lt, mod-lt, mod-le, mul_comm, mul_assoc, mul-le-mul_right}
+use native.Mathlib.Nat.{add-mul-mod_self_left, add-mul-div_left, one-mul, zero-mul}
 use borrow.Author.Tests.{eq-eqb, ne_eqb, eqb-true}
 use lib.Arith.{digits_div, digits_mod}
 use lib.Dec.{ltb, eqb}
@@ -387,32 +387,3 @@ module _ (t : List ℕ) (k : Readable t) (l : ℕ) (low : l < H t) (i o : ℕ) (
       link_at x less (inl old) = on.links x old
       link_at x less (inr new) =
           rw (block x less new, ← j-is, ← link_is) (eqb-true _ _ (and_right (is_kept_block t l j) (eqb (at.link t l j) link) next))
-
-  -- The same, by what is counted from the first block on.
-  pub kept_again : (c w n₀ next₀ link₀ n next link : ℕ) → c ≡ b t l → w ≡ full_width t l → KeptOn t l i o n
-      → next₀ ≡ i + 1 → n₀ ≡ c - o → link₀ ≡ at.link t l i + w → next₀ ≤ next → n ≡ n₀ + (next - next₀) * c → link ≡ link₀ + (next - next₀) * w
-      → (f : Bool) → f ≡ (is_kept_block t l next && eqb (at.link t l next) link) → f ≡ true → KeptOn t l i o (n + c)
-  kept_again c w n₀ next₀ link₀ n next link c_is w-is on next₀-is n₀-is link₀-is after n-is link_is f f-is true-is =
-      let x = next - next₀ in
-      let whole : n + o ≡ (x + 1) * b t l = omega (arith, add-mul x 1 (b t l), one-mul (b t l), ap (λ (y : ℕ). x * y) c_is) in
-      let first : link ≡ at.link t l i + (x + 1) * full_width t l =
-      omega (arith, add-mul x 1 (full_width t l), one-mul (full_width t l), ap (λ (y : ℕ). x * y) w-is) in
-      let j-is : next ≡ i + (x + 1) = omega arith in
-      rw c_is (kept_more n (x + 1) next link on whole j-is first f f-is true-is)
-
--- The counts of the loop stay near its first ones.
-pub counts-near : (x c w n₀ n : ℕ) → 1 ≤ c → w ≤ c → n ≡ n₀ + x * c → (x ≤ n) × (x * w ≤ n)
-counts-near x c w n₀ n low small n-is =
-    let far : x * 1 ≤ x * c = mul-le-mul_left x low in
-    let near : x * w ≤ x * c = mul-le-mul_left x small in
-    (omega (arith, mul-one x), omega arith)
-
-pub counts-more : (next next₀ c n₀ n : ℕ) → next₀ ≤ next → n ≡ n₀ + (next - next₀) * c → n + c ≡ n₀ + (next + 1 - next₀) * c
-counts-more next next₀ c n₀ n after n-is =
-    let s : next + 1 - next₀ ≡ next - next₀ + 1 = omega arith in
-    rw s (omega (arith, add-mul (next - next₀) 1 c, one-mul c))
-
-pub counts-none : (next₀ c n₀ : ℕ) → n₀ ≡ n₀ + (next₀ - next₀) * c
-counts-none next₀ c n₀ =
-    let s : next₀ - next₀ ≡ 0 = omega arith in
-    rw s (omega (arith, zero-mul c))

@@ -1,13 +1,11 @@
 -- The end of a path among the leaf bytes, and the blocks of the last level that continue it.
-use Rattle.std.specs.Prelude.{List, true, ◌≡◌, ℕ, ◌+◌, ◌-◌, ◌/◌, ◌%◌, ◌≤◌, ◌<◌, length}
+use Rattle.std.specs.Prelude.{List, Option, Some, None, true, ◌≡◌, ℕ, ◌+◌, ◌-◌, ◌/◌, ◌%◌, ◌≤◌, ◌<◌, length}
 use Rattle.std.proofs.Math.Option.{some}
 use Rattle.format.specs.Layout as at
 use Rattle.format.specs.TreeReading.{is_kept_block}
 use Rattle.format.specs.Answers.{refused, byte_answer, left_over}
 use Rattle.walk_path.specs.Above.{Above, above_of}
 use Rattle.walk_ranges.specs.declared.leaf_end.LeafEnd.{LeafEnd}
-use Rattle.walk_ranges.specs.declared.leaf_end.LeafEndAnswer.{LeafEndAnswer}
-use Rattle.walk_ranges.specs.declared.leaf_end.LeafEndAnswer.TheVariants as leaf-end
 
 module _ (t : List ℕ) where
   abbrev pub last_level : ℕ
@@ -31,9 +29,9 @@ module _ (t : List ℕ) where
     pub entered_is : r.entered ≡ length above.visits + 1
 
   -- The answer of `end_of`.
-  abbrev pub LeafEndOf : ℕ → LeafEndAnswer → Type 0
-  LeafEndOf p (leaf-end.At r) = LeafEndAt p r
-  LeafEndOf p leaf-end.Broken = byte_answer t p ≡ refused 14
+  abbrev pub LeafEndOf : ℕ → Option LeafEnd → Type 0
+  LeafEndOf p (Some r) = LeafEndAt p r
+  LeafEndOf p None = byte_answer t p ≡ refused 14
 
   -- The n places from r on are in kept blocks that follow each other, and so are their leaf bytes.
   pub record Joined (r : LeafEnd) (n : ℕ) : Type 0 where

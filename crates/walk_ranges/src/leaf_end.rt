@@ -24,35 +24,29 @@ pub struct LeafEnd {
     pub entered: u32,
 }
 
-#[derive(Clone, Copy)]
-pub enum LeafEndAnswer {
-    At(LeafEnd),
-    Broken,
-}
-
 // The end of the path of a place of the text, from the word of its walk: question 14.
-pub fn end_of(t: &[u8], h: Header, p: TextPlace, word: u64) -> LeafEndAnswer
+pub fn end_of(t: &[u8], h: Header, p: TextPlace, word: u64) -> Option<LeafEnd>
     requires { (HeaderOf t.now h) × (p.0 < h.text_length)
         × (walked_in word ≡ walked t.now (record { entered = 0; left = h.text_length - p.0 }) (above_of t.now p.0)) }
     ensures { LeafEndOf t.now p.0 result }
 {
     let walked = walk_path::unpacked(word);
     let WalkAnswer::At(reached) = walked else {
-        return LeafEndAnswer::Broken;
+        return None;
     };
     let block = reached.block;
     let place = reached.place;
     let last = h.settings.levels - 1;
     let kind = record::kind(t, h.record_size, last, block);
     if kind != 0 {
-        return LeafEndAnswer::Broken;
+        return None;
     }
     let link = record::link(t, h.record_size, last, block);
     let leaf = link.0 as u64 + place.0 as u64;
     if h.leaf_count as u64 <= leaf {
-        return LeafEndAnswer::Broken;
+        return None;
     }
-    LeafEndAnswer::At(LeafEnd {
+    Some(LeafEnd {
         block,
         place,
         leaf: leaf as u32,
@@ -88,14 +82,13 @@ pub fn joined(t: &[u8], h: Header, end: LeafEnd, most: u32) -> u32
     ensures { Joined t.now end result }
 {
     let m = h.settings.leaf;
+    let count = record::level_count(t, h.settings.levels - 1) as u64;
     let mut n: u32 = m - end.place.0;
-    let mut next: u64 = end.block.0 as u64 + 1;
-    while n < most {
-        if !follows(t, h, next, end.leaf as u64 + n as u64) {
+    for next in end.block.0 as u64 + 1..count {
+        if most <= n || !follows(t, h, next, end.leaf as u64 + n as u64) {
             return n;
         }
         n += m;
-        next += 1;
     }
     n
 }

@@ -73,15 +73,14 @@ fn kept_size(t: &[u8], size: u32, on: LevelAt, from: BlockPosition, most: u32) -
 {
     let step = width(t, on) as u64;
     let first = record::link(t, size, on.level, from.block);
+    let count = record::level_count(t, on.level) as u64;
     let mut n: u32 = on.b - from.place.0;
-    let mut next: u64 = from.block.0 as u64 + 1;
     let mut link: u64 = first.0 as u64 + step;
-    while n < most {
-        if !continues(t, size, on, next, link) {
+    for next in from.block.0 as u64 + 1..count {
+        if most <= n || !continues(t, size, on, next, link) {
             return n;
         }
         n += on.b;
-        next += 1;
         link += step;
     }
     n

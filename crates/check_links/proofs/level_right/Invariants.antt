@@ -1,4 +1,4 @@
-use Prim.Native.Nat.{◌-◌, ◌≤◌}
+use Prim.Native.Nat.{◌≤◌}
 use mathlib.Core.Bool.{true}
 use mathlib.Core.Path.{◌≡◌}
 use Rattle.format.specs.TreeReading.{width_at, block_right}
@@ -6,8 +6,8 @@ use Rattle.text.specs.Text.{all_below, sum_below}
 use Rattle.check_links.proofs.level_right.Given as goal
 
 abbrev pub invariant-loop-i : goal.invariant-loop-i
-invariant-loop-i l =
-    (l.i ≤ l.v.count) × (l.passed ≤ l.v.room) × (l.passed ≡ sum_below l.i (width_at l.t l.v.number)) × (all_below l.i (block_right l.t l.v.number) ≡ true)
-
-abbrev pub decreases-loop-i : goal.decreases-loop-i
-decreases-loop-i l = l.v.count - l.i
+invariant-loop-i l = record {
+  room : l.passed ≤ l.v.room;
+  sum : l.passed ≡ sum_below l.i (width_at l.t l.v.number);
+  checked : all_below l.i (block_right l.t l.v.number) ≡ true;
+}

@@ -1,4 +1,4 @@
-use Prim.Native.Nat.{◌-◌, ◌≤◌, ◌<◌}
+use Prim.Native.Nat.{◌<◌}
 use mathlib.Core.Bool.{true}
 use mathlib.Core.Path.{◌≡◌}
 use Rattle.format.specs.Layout as at
@@ -7,8 +7,7 @@ use Rattle.text.specs.Text.{all_below}
 use Rattle.check_links.proofs.links_right.Given as goal
 
 abbrev pub invariant-loop-l : goal.invariant-loop-l
-invariant-loop-l l =
-    (l.l ≤ l.h.settings.levels) × (all_below l.l (level_right l.t) ≡ true) × (l.l < l.h.settings.levels → l.full ≡ at.full_length l.t l.l)
-
-abbrev pub decreases-loop-l : goal.decreases-loop-l
-decreases-loop-l l = l.h.settings.levels - l.l
+invariant-loop-l l = record {
+  checked : all_below l.l (level_right l.t) ≡ true;
+  full_is : l.l < l.h.settings.levels → l.full ≡ at.full_length l.t l.l;
+}

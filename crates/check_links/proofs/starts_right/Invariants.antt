@@ -1,4 +1,3 @@
-use Prim.Native.Nat.{◌-◌, ◌≤◌}
 use mathlib.Core.Bool.{true}
 use mathlib.Core.Path.{◌≡◌}
 use Rattle.check_links.specs.LevelAsked.{start_as_cut}
@@ -6,7 +5,4 @@ use Rattle.text.specs.Text.{all_below}
 use Rattle.check_links.proofs.starts_right.Given as goal
 
 abbrev pub invariant-loop-i : goal.invariant-loop-i
-invariant-loop-i l = (l.i ≤ l.v.count) × (all_below l.i (start_as_cut l.t) ≡ true)
-
-abbrev pub decreases-loop-i : goal.decreases-loop-i
-decreases-loop-i l = l.v.count - l.i
+invariant-loop-i l = (all_below l.i (start_as_cut l.t) ≡ true)

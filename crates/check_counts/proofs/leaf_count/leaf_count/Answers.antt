@@ -1,27 +1,25 @@
-use Prim.Native.Nat.{◌-◌}
-use mathlib.Core.Path.{◌≡◌, sym}
+use mathlib.Core.Path.{sym}
+use Prim.Native.Nat.{◌+◌, ◌-◌, ◌<◌}
 use native.Mathlib.Omega.{arith}
+use lib.Seq.{get_or-take, get_or-drop}
 use Rattle.text.proofs.CountTheorems.{count_none, count-next-same, count-next-other}
 use Rattle.check_counts.proofs.leaf_count.leaf_count.Goals as goal
-use Rattle.check_counts.proofs.leaf_count.leaf_count.Goals.{then-t-from, else-t-from}
+use Rattle.check_counts.proofs.leaf_count.leaf_count.Goals.{then-x-byte, else-x-byte}
 
-pub loop-i-init : goal.loop-i-init
-loop-i-init c = (omega arith, sym (count_none _ _ _), omega arith)
+pub loop-x-init : goal.loop-x-init
+loop-x-init c = (sym (count_none _ _ _), omega arith)
 
-pub loop-i-preserved : goal.loop-i-preserved
-loop-i-preserved c =
-    elim c.if-t-from.branch [
-      | then-t-from w ↦ (
-        omega arith,
-        omega (arith, count-next-same c.args.byte c.args.t.now c.args.from c.loop-i.i (omega arith) w.if-t-from.true),
+pub loop-x-preserved : goal.loop-x-preserved
+loop-x-preserved c =
+    let i = c.loop-x.x-index in
+    let low : i < c.args.from + c.args.n - c.args.from = omega arith in
+    elim c.if-x-byte.branch [
+      | then-x-byte w ↦ (
+        omega (arith, count-next-same c.args.byte c.args.t.now c.args.from i (omega arith) (rw (get_or-take, get_or-drop) at w.if-x-byte.true)),
         omega arith,
       )
-      | else-t-from w ↦ (
-        omega arith,
-        omega (arith, count-next-other c.args.byte c.args.t.now c.args.from c.loop-i.i (omega arith) w.if-t-from.false),
+      | else-x-byte w ↦ (
+        omega (arith, count-next-other c.args.byte c.args.t.now c.args.from i (omega arith) (rw (get_or-take, get_or-drop) at w.if-x-byte.false)),
         omega arith,
       )
     ]
-
-pub returns : goal.returns
-returns c = ((let e : c.loop-i.i ≡ c.args.n = omega arith in rw e at c.loop-i.invariant.1), omega arith)

@@ -1,11 +1,7 @@
-use Prim.Native.Nat.{◌-◌, ◌≤◌}
 use mathlib.Core.Bool.{true}
 use mathlib.Core.Path.{◌≡◌}
 use Rattle.text.specs.Text.{same_list, substring}
 use Rattle.check_edges.proofs.equal.equal_at.Given as goal
 
 abbrev pub invariant-loop-i : goal.invariant-loop-i
-invariant-loop-i l = (l.i ≤ l.n) × (same_list (substring l.t l.p l.i) (substring l.t l.q l.i) ≡ true)
-
-abbrev pub decreases-loop-i : goal.decreases-loop-i
-decreases-loop-i l = l.n - l.i
+invariant-loop-i l = same_list (substring l.t l.p l.i) (substring l.t l.q l.i) ≡ true

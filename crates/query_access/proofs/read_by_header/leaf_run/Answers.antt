@@ -1,31 +1,9 @@
 use mathlib.Core.Path.{refl}
-use native.Mathlib.Omega.{arith}
 use Rattle.query_access.proofs.LeafRunLaws as laws
 use Rattle.query_access.proofs.read_by_header.leaf_run.Goals as goal
-
-pub top_level-requires : goal.top_level-requires
-top_level-requires c = tt
-
-pub overflow_sub-h : goal.overflow_sub-h
-overflow_sub-h c = omega (arith, c.requires.1)
 
 pub walk-word-requires : goal.walk-word-requires
 walk-word-requires c = laws.walk-ready _ _ c.requires.0 _ c.requires.1 _ c.top_level.ensures
 
-pub end_of-found-requires : goal.end_of-found-requires
-end_of-found-requires c = (c.requires.0, c.requires.1, c.walk-word.ensures)
-
-pub returns-in_default : goal.returns-in_default
-returns-in_default c = laws.end_refused _ _ _ c.end_of-found.ensures c.in_default.is
-
-pub overflow_sub-h-2 : goal.overflow_sub-h-2
-overflow_sub-h-2 c = let e = laws.end-found _ _ _ c.end_of-found.ensures _ c.in-At.is in
-    omega (arith, e.ends_in.place-in, c.requires.0.leaf_is)
-
-pub overflow_sub-h-3 : goal.overflow_sub-h-3
-overflow_sub-h-3 c = let e = laws.end-found _ _ _ c.end_of-found.ensures _ c.in-At.is in
-    omega (arith, e.ends_in.leaf-in, c.requires.0.count_is)
-
 pub returns : goal.returns
-returns c = let e = laws.end-found _ _ _ c.end_of-found.ensures _ c.in-At.is in
-    laws.leaf-run-reached _ _ _ c.requires.0 c.requires.1 _ e _ refl _ _ c.min-here.ensures c.min.ensures
+returns c = laws.leaf-run-reached _ _ _ c.requires.0 c.requires.1 _ c.in_ok-end.ensures _ refl _ _ c.min-here.ensures c.min.ensures

@@ -6,4 +6,4 @@ pub returns-in_default : goal.returns-in_default
 returns-in_default c = (refl, laws.range-refused _ _ _ _ c.leaf_range-found.ensures c.in_default.is)
 
 pub returns : goal.returns
-returns c = laws.found-range _ _ _ _ c.leaf_range-found.ensures c.requires.0.passes _ c.in-At.is
+returns c = laws.found-range _ _ _ _ c.leaf_range-found.ensures c.requires.0.passes _ c.in-Some.is
