@@ -1,7 +1,7 @@
 -- The statements of docs/FORMAT.md, "Guides", about a guide, as theorems over the contracts of the calls, for any bytes.
 use mathlib.Core.List.{List}
 use mathlib.Core.Path.{◌≡◌, refl, sym, ap, ◌∙◌}
-use Prim.Native.Nat.{ℕ, suc, ◌+◌, ◌*◌, ◌/◌, ◌≤◌, ◌<◌}
+use Prim.Native.Nat.{ℕ, suc, ◌+◌, ◌*◌, ◌/◌, ◌<◌}
 use native.Mathlib.Omega.{arith}
 use contract.Lifetimes.{Lfts}
 use denote.Ref.{Bor}
@@ -16,25 +16,26 @@ use Rattle.theory_paths.specs.Links.{linked-facts}
 use Rattle.theory_counts.specs.Finds as finds
 use Rattle.theory_counts.specs.CountsLocal.{byte_of}
 use Rattle.theory_counts.specs.Theorems as counts
-use Rattle.query_guide.specs.declared.GuideWordsAnswer.{GuideWordsAnswer}
-use Rattle.query_guide.specs.declared.GuideWordsAnswer.TheVariants.{Words, Refused}
+use Rattle.std.specs.Prelude.{Result, Ok, Err}
+use Rattle.refusals.specs.declared.Refusal.{Refusal}
+use Rattle.refusals.specs.Refusals.{result_refusal}
 use Rattle.query_guide.specs.Guides.{listed_every, block_of, entries_of, entries_before, guide_words, guide_bytes, guide_words_reply}
 use Rattle.query_guide.proofs.GuideList.{guide-entry, entry-below, entry-word, guide-size-is, size-unread}
 use Rattle.query_guide.proofs.guide_words.Reads as words-reads
 
 -- r is an answer that the contract of the call allows with this argument
-abbrev pub GuideWords : (κs : Lfts 1) → Bor (List ℕ) → GuideWordsAnswer → Type 0
+abbrev pub GuideWords : (κs : Lfts 1) → Bor (List ℕ) → Result ℕ Refusal → Type 0
 GuideWords κs t r = words-reads.Post κs (t, tt) r (t, tt)
 
 -- The answer in each case.
-pub words-is : (r : GuideWordsAnswer) (n : ℕ) → NeverZero (guide_words_reply r) → replied (guide_words_reply r) ≡ record { number = 0; value = n; entered = 0 }
-    → r ≡ Words n
-words-is (Words m) n k e = ap Words (ap (λ (s : Answer). s.value) e)
-words-is (Refused q) n k e = absurd (let z : ⊥ = omega (arith, ap (λ (s : Answer). s.number) e) in z)
+pub words-is : (r : Result ℕ Refusal) (n : ℕ) → NeverZero (guide_words_reply r) → replied (guide_words_reply r) ≡ record { number = 0; value = n; entered = 0 }
+    → r ≡ Ok n
+words-is (Ok m) n k e = ap Ok (ap (λ (s : Answer). s.value) e)
+words-is (Err q) n k e = absurd (let z : ⊥ = omega (arith, ap (λ (s : Answer). s.number) e) in z)
 
-pub guide-refused-is : (r : GuideWordsAnswer) (q : ℕ) → 1 ≤ q → replied (guide_words_reply r) ≡ refused q → r ≡ Refused q
-guide-refused-is (Words m) q l e = absurd (let z : ⊥ = omega (arith, ap (λ (s : Answer). s.number) e) in z)
-guide-refused-is (Refused p) q l e = ap Refused (ap (λ (s : Answer). s.number) e)
+pub guide-refused-is : (r : Result ℕ Refusal) (q : ℕ) → replied (guide_words_reply r) ≡ refused q → result_refusal r ≡ q
+guide-refused-is (Ok m) q e = ap (λ (s : Answer). s.number) e
+guide-refused-is (Err d) q e = ap (λ (s : Answer). s.number) e
 
 -- Request 113, the guide of an accepted tree: for each counted byte it has total / 64 words, rounded up; word i is the block of level 0 that contains
 -- occurrence 64 i + 1.
@@ -50,9 +51,9 @@ module _ (t : List ℕ) (v : check_result t ≡ 0) (c : ℕ) (hc : c < at.counte
   guide-holds e he = entry-word t v (entries_before t c + e) (entry-below t c e hc he) ∙ guide-entry t c e hc he
 
 -- The size is the words that a guide of this tree has: the number that making gives, and four bytes for each are enough.
-module _ (κs : Lfts 1) (t : Bor (List ℕ)) (r : GuideWordsAnswer) (a : GuideWords κs t r) where
-  pub size-of-guide : header_result t.now ≡ 0 → r ≡ Words (guide_words t.now)
+module _ (κs : Lfts 1) (t : Bor (List ℕ)) (r : Result ℕ Refusal) (a : GuideWords κs t r) where
+  pub size-of-guide : header_result t.now ≡ 0 → r ≡ Ok (guide_words t.now)
   size-of-guide e = words-is r (guide_words t.now) a.1 (a.0 ∙ sym (guide-size-is t.now (guide_words t.now) e refl))
 
-  pub size-refused : (k : ℕ) → header_result t.now ≡ suc k → r ≡ Refused (suc k)
-  size-refused k e = guide-refused-is r (suc k) (omega arith) (a.0 ∙ sym (size-unread t.now k (suc k) e refl))
+  pub size-refused : (k : ℕ) → header_result t.now ≡ suc k → result_refusal r ≡ suc k
+  size-refused k e = guide-refused-is r (suc k) (a.0 ∙ sym (size-unread t.now k (suc k) e refl))

@@ -1,13 +1,13 @@
 -- Guides, and what their calls return.
 -- docs/FORMAT.md: "Guides".
-use Rattle.std.specs.Prelude.{List, [], ◌∷◌, ◌++◌, cond, ℕ, ◌+◌, ◌-◌, ◌*◌, ◌/◌, length, get_or, drop, leb, eqb}
+use Rattle.std.specs.Prelude.{List, [], ◌∷◌, ◌++◌, cond, ℕ, ◌+◌, ◌-◌, ◌*◌, ◌/◌, length, get_or, drop, leb, eqb, Result, Ok, Err}
 use Rattle.text.specs.Text.{tabulate, concat, sum_below, same_list, place_of}
 use Rattle.format.specs.Layout.{words_bytes, pieces}
 use Rattle.format.specs.Layout as at
 use Rattle.format.specs.TreeReading.{text_of, asks, or_next, header_result, check_result}
 use Rattle.format.specs.Answers.{Answer, unless, Reply, figures, refusal, total}
-use Rattle.query_guide.specs.declared.GuideWordsAnswer.{GuideWordsAnswer}
-use Rattle.query_guide.specs.declared.GuideWordsAnswer.TheVariants.{Words, Refused}
+use Rattle.refusals.specs.declared.Refusal.{Refusal}
+use Rattle.refusals.specs.Refusals.{refusal_number}
 
 -- Guides (sampled select directories): for each counted byte one word for every 64 occurrences, the number of the level 0 block that contains the first of
 -- them. And what the calls return that check a guide, make one and give its size.
@@ -75,6 +75,6 @@ module _ (t : List ℕ) where
 -- The answers of the calls on guides by their refusals and figures.
 
 -- How many words, or the number of the question that refuses.
-abbrev pub guide_words_reply : GuideWordsAnswer → Reply
-guide_words_reply (Words n) = figures n 0
-guide_words_reply (Refused number) = refusal number
+abbrev pub guide_words_reply : Result ℕ Refusal → Reply
+guide_words_reply (Ok n) = figures n 0
+guide_words_reply (Err e) = refusal (refusal_number e)

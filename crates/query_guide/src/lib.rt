@@ -9,26 +9,12 @@ ghost use Rattle.format.specs.Answers.{NeverZero, replied};
 ghost use Rattle.query_guide.specs.Guides.{guide_words_answer, guide_words_reply};
 
 use layout::header;
-use layout::header::HeaderAnswer;
-
-// The number of words of a guide, or the refusal.
-#[derive(Clone, Copy)]
-pub enum GuideWordsAnswer {
-    Words(u64),
-    Refused(u32),
-}
+use refusals::Refusal;
 
 // The number of words of the guide of a tree. Any bytes may be given as a tree: questions 5 to 7.
-pub fn guide_words(t: &[u8]) -> GuideWordsAnswer
+pub fn guide_words(t: &[u8]) -> Result<u64, Refusal>
     ensures { (replied (guide_words_reply result) ≡ guide_words_answer t.now) × (NeverZero (guide_words_reply result)) }
 {
-    let read = header::read_header(t);
-    match read {
-        HeaderAnswer::Good(h) => GuideWordsAnswer::Words(entry_words::entries_before(
-            t,
-            h,
-            h.settings.counted,
-        )),
-        HeaderAnswer::Refused(number) => GuideWordsAnswer::Refused(number),
-    }
+    let h = header::read_header(t)?;
+    Ok(entry_words::entries_before(t, h, h.settings.counted))
 }

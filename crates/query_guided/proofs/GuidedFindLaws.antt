@@ -9,8 +9,11 @@ use Rattle.format.specs.Layout.{word_at}
 use Rattle.format.specs.Layout as at
 use Rattle.format.specs.TreeReading.{check_result}
 use Rattle.format.specs.Answers.{Answer, refused, NeverZero, replied, number_of_byte, total, find_refusal, found}
-use Rattle.query_select.specs.declared.FindAnswer.{FindAnswer}
-use Rattle.query_select.specs.declared.FindAnswer.TheVariants as find
+use Rattle.std.specs.Prelude.{Result, Ok, Err}
+use Rattle.text.specs.declared.TextPlace.{TextPlace}
+use Rattle.refusals.specs.declared.Refusal.{Refusal}
+use Rattle.refusals.specs.Refusals.{refusal_number}
+use Rattle.refusals.specs.RefusalsLaws.{number-above}
 use Rattle.query_select.specs.Found as select
 use Rattle.query_select.specs.SoughtPlaces as sought
 use Rattle.query_select.specs.Seeks.{LastBefore}
@@ -18,37 +21,22 @@ use Rattle.query_select.proofs.SeekLaws.{last-here}
 use Rattle.query_guide.specs.Guides.{last_entry, last_listed, block_of, entries_of, entries_before, guide_of, guide_refusal}
 use Rattle.query_guide.proofs.Holders.{block_in, block-low, block_is}
 use Rattle.query_guide.proofs.GuideList.{guide-length, guide-size, guide-entry, entry-below, entry-word, listed, guide-checked, guide-same}
-use Rattle.query_guided.specs.declared.FindGuidedAnswer.{FindGuidedAnswer}
-use Rattle.query_guided.specs.declared.FindGuidedAnswer.TheVariants as guided
 use Rattle.query_guided.specs.Guided.{steps_to, find_guided_reply, steps_of, IsFindGuidedAnswer}
 use Rattle.query_guided.specs.GuidedWalk.{stepped, found_of, SoughtBy}
 
--- Steps put beside what was found, and taken away.
-pub with_at : (f : FindAnswer) (steps : ℕ) → (p : _) (e : ℕ) → f ≡ find.At p e → stepped (find.At p e) steps ≡ stepped f steps
-with_at f steps p e q = rw q
+answer-same : (f : Result (TextPlace × ℕ) Refusal) (steps : ℕ) → replied (find_guided_reply (stepped f steps)) ≡ replied (select.find_reply f)
+answer-same (Ok x) steps = refl
+answer-same (Err n) steps = refl
 
-pub with-refused : (f : FindAnswer) (steps n : ℕ) → f ≡ find.Refused n → stepped (find.Refused n) steps ≡ stepped f steps
-with-refused f steps n q = rw q
-
-pub without_at : (g : FindGuidedAnswer) (p : _) (e steps : ℕ) → g ≡ guided.At p e steps → find.At p e ≡ found_of g
-without_at g p e steps q = rw q
-
-pub without-refused : (g : FindGuidedAnswer) (n : ℕ) → g ≡ guided.Refused n → find.Refused n ≡ found_of g
-without-refused g n q = rw q
-
-answer-same : (f : FindAnswer) (steps : ℕ) → replied (find_guided_reply (stepped f steps)) ≡ replied (select.find_reply f)
-answer-same (find.At p e) steps = refl
-answer-same (find.Refused n) steps = refl
-
-pub numbered-same : (f : FindAnswer) (steps : ℕ) → NeverZero (select.find_reply f) → NeverZero (find_guided_reply (stepped f steps))
-numbered-same (find.At p e) steps h = tt
-numbered-same (find.Refused n) steps h = h
+pub numbered-same : (f : Result (TextPlace × ℕ) Refusal) (steps : ℕ) → NeverZero (select.find_reply f) → NeverZero (find_guided_reply (stepped f steps))
+numbered-same (Ok x) steps h = tt
+numbered-same (Err n) steps h = h
 
 -- Without its steps it is settled by the guide's number.
-pub found-by : (t guide : List ℕ) (byte j : ℕ) (g : FindGuidedAnswer) → IsFindGuidedAnswer t guide byte j g
+pub found-by : (t guide : List ℕ) (byte j : ℕ) (g : Result (TextPlace × ℕ × ℕ) Refusal) → IsFindGuidedAnswer t guide byte j g
     → select.FoundBy t (guide_refusal t guide) byte j (found_of g)
-found-by t guide byte j (guided.At p e steps) a = record { answers = a.answers.finds; numbered = tt }
-found-by t guide byte j (guided.Refused n) a = record { answers = a.answers.finds; numbered = a.numbered }
+found-by t guide byte j (Ok x) a = record { answers = a.answers.finds; numbered = tt }
+found-by t guide byte j (Err n) a = record { answers = a.answers.finds; numbered = a.numbered }
 
 module _ (t guide : List ℕ) (byte c j : ℕ)
     (hc : c < at.counted_count t) (low : 1 ≤ j) (high : j ≤ total t c) (place : ℕ) (place_is : place ≡ entries_before t c + last_entry j) where
@@ -104,7 +92,7 @@ module _ (t guide : List ℕ) (byte c j : ℕ)
         let b = block_is t (v g) c hc j low high block last.high under last.next in
         (under, omega (arith, steps-are, b, entry_read, entry-is g))
 
-    pub sought-by : (f : FindAnswer) → NeverZero (select.find_reply f)
+    pub sought-by : (f : Result (TextPlace × ℕ) Refusal) → NeverZero (select.find_reply f)
         → sought.SoughtIn t byte c j block (replied (select.find_reply f))
         → SoughtBy t guide byte c j (replied (find_guided_reply (stepped f steps))) (steps_of (stepped f steps))
     unfolding found
@@ -116,34 +104,37 @@ module _ (t guide : List ℕ) (byte c j : ℕ)
       free = free_of f nb z.free;
     }
       where
-        steps-right : (f : FindAnswer) → NeverZero (select.find_reply f) → replied (select.find_reply f) ≡ found t byte j → steps ≡ steps_to t c j
-            → steps_of (stepped f steps) ≡ steps_to t c j
-        steps-right (find.At p e) nb r k = k
-        steps-right (find.Refused n) nb r k = absurd (let z : n ≡ 0 = ap (λ (s : Answer). s.number) r in let y : ⊥ = omega arith in y)
+        steps-right : (f : Result (TextPlace × ℕ) Refusal) → NeverZero (select.find_reply f)
+            → replied (select.find_reply f) ≡ found t byte j → steps ≡ steps_to t c j → steps_of (stepped f steps) ≡ steps_to t c j
+        steps-right (Ok x) nb r k = k
+        steps-right (Err n) nb r k = absurd (let z : refusal_number n ≡ 0 = ap (λ (s : Answer). s.number) r in let y : ⊥ = omega arith in y)
 
-        free_of : (f : FindAnswer) → NeverZero (select.find_reply f)
+        free_of : (f : Result (TextPlace × ℕ) Refusal) → NeverZero (select.find_reply f)
             → (replied (select.find_reply f) ≡ refused 14)
             ⊎ (((replied (select.find_reply f)).number ≡ 0) × ((replied (select.find_reply f)).value < at.text_length t))
             → ((replied (find_guided_reply (stepped f steps)) ≡ refused 14) × (steps_of (stepped f steps) ≡ 0))
             ⊎ (((replied (find_guided_reply (stepped f steps))).number ≡ 0) × ((replied (find_guided_reply (stepped f steps))).value < at.text_length t))
-        free_of (find.At p e) nb (inl r) = absurd (let z : ◌≡◌ {A = ℕ} 0 14 = ap (λ (s : Answer). s.number) r in let y : ⊥ = omega arith in y)
-        free_of (find.At p e) nb (inr r) = inr r
-        free_of (find.Refused n) nb (inl r) = inl (r, refl)
-        free_of (find.Refused n) nb (inr r) = absurd (let y : ⊥ = omega (arith, r.0) in y)
+        free_of (Ok x) nb (inl r) = absurd (let z : ◌≡◌ {A = ℕ} 0 14 = ap (λ (s : Answer). s.number) r in let y : ⊥ = omega arith in y)
+        free_of (Ok x) nb (inr r) = inr r
+        free_of (Err n) nb (inl r) = inl (r, refl)
+        free_of (Err n) nb (inr r) = absurd (let y : ⊥ = omega (arith, r.0) in y)
 
 module _ (t guide : List ℕ) (byte j : ℕ) where
   -- A question before the walk refuses.
-  pub guided-refused : (q : ℕ) → find_refusal t byte j ≡ q → 1 ≤ q → IsFindGuidedAnswer t guide byte j (guided.Refused q)
-  guided-refused q e l = record {
+  pub guided-refused : (q : Refusal) → find_refusal t byte j ≡ refusal_number q → IsFindGuidedAnswer t guide byte j (Err q)
+  guided-refused q e = record {
     answers = record {
-      finds = record { asked = λ m. rw e; accepted = λ z g. absurd (let y : ⊥ = omega arith in y); free = λ z g. absurd (let y : ⊥ = omega arith in y) };
+      finds = record { asked = λ m. rw e; accepted = λ z g. absurd (none z); free = λ z g. absurd (none z) };
       absent = λ m. refl;
-      counted = λ z g. absurd (let y : ⊥ = omega arith in y);
+      counted = λ z g. absurd (none z);
     };
-    numbered = l;
+    numbered = number-above q;
   }
+    where
+      none : find_refusal t byte j ≡ 0 → ⊥
+      none z = omega (arith, number-above q)
 
-  pub guided-sought : (c : ℕ) (r : FindGuidedAnswer) → c ≡ number_of_byte t byte
+  pub guided-sought : (c : ℕ) (r : Result (TextPlace × ℕ × ℕ) Refusal) → c ≡ number_of_byte t byte
       → find_refusal t byte j ≡ 0 → SoughtBy t guide byte c j (replied (find_guided_reply r)) (steps_of r) → NeverZero (find_guided_reply r)
       → IsFindGuidedAnswer t guide byte j r
   guided-sought c r e n z nb = record {
@@ -161,6 +152,6 @@ module _ (t guide : List ℕ) (byte j : ℕ) where
       free_of (inl x) = inl x.0
       free_of (inr x) = inr x
 
-      nothing : (r : FindGuidedAnswer) → 0 < (replied (find_guided_reply r)).number → steps_of r ≡ 0
-      nothing (guided.At p e steps) m = absurd (let y : ⊥ = omega arith in y)
-      nothing (guided.Refused n) m = refl
+      nothing : (r : Result (TextPlace × ℕ × ℕ) Refusal) → 0 < (replied (find_guided_reply r)).number → steps_of r ≡ 0
+      nothing (Ok x) m = absurd (let y : ⊥ = omega arith in y)
+      nothing (Err n) m = refl

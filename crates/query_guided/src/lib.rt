@@ -6,23 +6,18 @@ pub mod guided_find;
 ghost use Rattle.query_guided.specs.Guided.{IsFindGuidedAnswer};
 
 use layout::header;
-use layout::header::HeaderAnswer;
 use layout::place::TextPlace;
+use refusals::Refusal;
 
-// A place of the text with the number of blocks on its path and the steps on level 0, or the refusal.
-#[derive(Clone, Copy)]
-pub enum FindGuidedAnswer {
-    At(TextPlace, u32, u32),
-    Refused(u32),
-}
-
-// The place of the j-th occurrence of a counted byte, with a guide, which may be any bytes.
-pub fn find_guided(t: &[u8], guide: &[u8], byte: u8, j: u32) -> FindGuidedAnswer
+// The place of the j-th occurrence of a counted byte, with the number of blocks on its path and the steps on level 0. The guide may be any bytes.
+pub fn find_guided(
+    t: &[u8],
+    guide: &[u8],
+    byte: u8,
+    j: u32,
+) -> Result<(TextPlace, u32, u32), Refusal>
     ensures { IsFindGuidedAnswer t.now guide.now byte j result }
 {
-    let read = header::read_header(t);
-    match read {
-        HeaderAnswer::Good(h) => guided_find::find_guided_at(t, h, guide, byte, j),
-        HeaderAnswer::Refused(number) => FindGuidedAnswer::Refused(number),
-    }
+    let h = header::read_header(t)?;
+    guided_find::find_guided_at(t, h, guide, byte, j)
 }
