@@ -99,6 +99,7 @@ fn guide_of(listed: &[u8], out: &mut [u8]) -> Made
     }
     let mut n: usize = 0;
     let mut at: usize = 0;
+    // A `while`: an entry starts where the one before it ends, and `past` finds that place in the body.
     while at < listed.len() {
         if out.len() - n < 4 {
             return Made::Wrong(Fault::Room);

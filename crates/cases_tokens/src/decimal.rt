@@ -37,14 +37,12 @@ pub fn read_number(word: &[u8]) -> Number
         return Number::Nothing;
     }
     let mut value: u32 = 0;
-    let mut i: usize = 0;
-    while i < word.len() {
-        let next = more(value, word[i]);
+    for digit in word {
+        let next = more(value, *digit);
         let Number::Is(v) = next else {
             return Number::Nothing;
         };
         value = v;
-        i += 1;
     }
     Number::Is(value)
 }
@@ -75,12 +73,10 @@ fn is_number(line: &[u8], k: u32) -> bool
 pub fn figures(line: &[u8], from: u32, to: u32) -> bool
     ensures { result ≡ figures_right line.now from to }
 {
-    let mut k: u32 = from;
-    while k < to {
+    for k in from..to {
         if !is_number(line, k) {
             return false;
         }
-        k += 1;
     }
     true
 }
