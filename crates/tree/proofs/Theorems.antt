@@ -67,7 +67,8 @@ module _ (S : Settings) (T out : List ℕ) (passed : build_refusal S T out ≡ 0
   leaves-tree = rw passed (take-append_seam (tree_of S T) (drop (length (tree_of S T)) out))
 
 -- r is an answer that the contract of `build` allows to a call with these arguments, which leaves the buffer `out` as `after`
-abbrev pub Build : (κs : Lfts 3) (text : Bor (List ℕ)) (leaf arity levels : ℕ) (counted : Bor (List ℕ)) (out after : MutBor (List ℕ)) → Result ℕ Refusal → Type 0
+abbrev pub Build : (κs : Lfts 3) (text : Bor (List ℕ)) (leaf arity levels : ℕ) (counted : Bor (List ℕ)) (out after : MutBor (List ℕ))
+    → Result ℕ Refusal → Type 0
 Build κs text leaf arity levels counted out after r =
     build-reads.Post κs (text, (leaf, (arity, (levels, (counted, (out, tt)))))) r (text, (leaf, (arity, (levels, (counted, (after, tt))))))
 
@@ -120,7 +121,8 @@ module _ (κs : Lfts 3) (text : Bor (List ℕ)) (leaf arity levels : ℕ) (count
   )
 
 -- The contract determines the result and the buffer, so they cannot depend on the base or the modulus that a builder uses.
-pub build-settled : (κs : Lfts 3) (text : Bor (List ℕ)) (leaf arity levels : ℕ) (counted : Bor (List ℕ)) (out one other : MutBor (List ℕ)) (r s : Result ℕ Refusal)
+pub build-settled : (κs : Lfts 3) (text : Bor (List ℕ)) (leaf arity levels : ℕ) (counted : Bor (List ℕ)) (out one other : MutBor (List ℕ))
+    (r s : Result ℕ Refusal)
     → Build κs text leaf arity levels counted out one r → Build κs text leaf arity levels counted out other s
     → ((replied (build_reply r)).number ≡ (replied (build_reply s)).number) × ((replied (build_reply r)).value ≡ (replied (build_reply s)).value)
     × (one.now ≡ other.now)
