@@ -13,7 +13,7 @@ returns-in_err-check_input c =
 
 pub returns-then-out-size : goal.returns-then-out-size
 returns-then-out-size c =
-    let both = laws.list-tight _ _ (sym c.check_input.ensures ∙ ap result_refusal c.in_ok-check_input.was)
+    let both = laws.list-tight c.args.tree.now c.args.out.now (sym c.check_input.ensures ∙ ap result_refusal c.in_ok-check_input.was)
     _ _ _ c.level_lines-size.ensures c.if-out-size.true in
     record { list_answer = both.0; out_after = both.1 }
 
