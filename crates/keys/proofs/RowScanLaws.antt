@@ -1,7 +1,7 @@
 -- A part of the text scanned byte by byte, or row by row.
 use mathlib.Core.List.{List, ◌∷◌}
 use mathlib.Core.Bool.{Bool, true, false}
-use mathlib.Core.Path.{◌≡◌, refl, sym, ap, ◌∙◌}
+use mathlib.Core.Path.{◌≡◌, refl, ap, ◌∙◌}
 use Prim.Native.Nat.{ℕ, zero, suc, ◌+◌, ◌-◌, ◌/◌, ◌≤◌, ◌<◌}
 use native.Mathlib.Omega.{arith}
 use native.Mathlib.Numerals.{add-one}
@@ -10,10 +10,9 @@ use lib.Seq.{drop-cons}
 use Rattle.text.specs.ListLaws.{bool_clash}
 use Rattle.text.specs.Text.{substring}
 use Rattle.text.specs.TextLaws.{length-substring, get_or-substring}
-use Rattle.text.specs.RowLaws.{trimmed}
 use Rattle.text.proofs.RowTheorems.{trimmed-none, trimmed-mark, trimmed-plain}
 use Rattle.search_byte.specs.FirstByte.{Without}
-use Rattle.row_filter.specs.RowAutomaton.{Automaton, Scan, found, on, RowBetween, run_from, scan_byte, scan_bytes}
+use Rattle.row_filter.specs.RowAutomaton.{Automaton, Scan, found, on, run_from, scan_byte, scan_bytes}
 use Rattle.row_filter.specs.RowAutomatonLaws.{byte_step, byte_next, scan-on, scan-found, on-next, found-next}
 use Rattle.keys.specs.declared.key_state.KeyState.{KeyState}
 use Rattle.keys.specs.declared.key_state.KeyState.TheVariants.{Code}
@@ -22,7 +21,7 @@ use Rattle.keys.specs.declared.row_scan.RowScanAnswer.TheVariants.{Found, On}
 use Rattle.keys.specs.declared.row_scan.Turned.{Turned}
 use Rattle.keys.specs.declared.row_scan.Turned.TheVariants as turned
 use Rattle.keys.specs.Keys.{cut_count}
-use Rattle.keys.specs.KeyStates.{cut_fits, is_done, is_whole, is_none, key_automaton}
+use Rattle.keys.specs.KeyStates.{cut_fits, is_whole, is_none, key_automaton}
 use Rattle.keys.specs.RowScanned.{as_scan, BytesEnd, Misfit, CutsFit, MayMatch, RowPassed, TurnedOn}
 use Rattle.keys.proofs.FormLaws.{none_read}
 use Rattle.keys.proofs.RowKeyStates.{done-whole, too_short, not-fitting}

@@ -48,13 +48,11 @@ fn cuts_fit(ranges: &[u8], part: &[u8], at: usize) -> bool
     requires { at + length ranges.now / 2 ≤ length part.now }
     ensures { CutsFit ranges.now part.now at result }
 {
-    let cuts = ranges.len() / 2;
-    let mut k: usize = 0;
-    while k < cuts {
-        if !key_state::cut_fits(ranges, k, part[at + k]) {
+    let end = at + ranges.len() / 2;
+    for (k, byte) in part[at..end].iter().enumerate() {
+        if !key_state::cut_fits(ranges, k, *byte) {
             return false;
         }
-        k += 1;
     }
     true
 }
@@ -122,6 +120,7 @@ pub fn scan(ranges: &[u8], part: &[u8], form: KeyState, row: u32) -> RowScanAnsw
     let mut so_far = form;
     let mut q = row;
     let mut i = 0;
+    // A `while`: where the scan goes on is found in the body, past a row that cannot match.
     while i < part.len() {
         let next = advance(ranges, part, so_far, q, i);
         match next {

@@ -48,6 +48,7 @@ pub fn scan(prefix: &[u8], part: &[u8], state: PrefixState, row: u32) -> PrefixS
     let mut so_far = state;
     let mut q = row;
     let mut i = 0;
+    // A `while`: the next place is found in the body, past the rest of a row that does not match.
     while i < part.len() {
         let next = scan_byte(prefix, so_far, q, part[i]);
         let PrefixScan::On(after, number) = next else {

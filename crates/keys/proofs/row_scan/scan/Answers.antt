@@ -1,5 +1,4 @@
 use mathlib.Core.Path.{refl, ◌∙◌}
-use Prim.Native.Nat.{◌-◌}
 use native.Mathlib.Omega.{arith}
 use Rattle.row_filter.specs.RowAutomatonLaws.{scan-end}
 use Rattle.keys.specs.KeyStates.{key_automaton}
