@@ -10,7 +10,7 @@ use crate::{SpanAnswer, read_by_header};
 use layout::fields;
 use layout::place::BlockPlace;
 use walk_ranges::segments;
-use walk_ranges::segments::{Piece, Rules};
+use walk_ranges::segments::Rules;
 use walk_steps::position::{BlockPosition, LevelAt};
 
 // A part of the buffer.
@@ -69,18 +69,19 @@ pub fn copy_segment(
         let place = BlockPlace(from.place.0 + done);
         let rest = BlockPosition { block, place };
         let found = segments::next_segment(tree, rules, on, rest, part.size - done);
-        let Piece::At(next, n) = found else {
+        let Some(next) = found else {
             return 14;
         };
         let piece = BufferPart {
             to: part.to + done,
-            size: n,
+            size: next.size,
         };
-        let refused = copy_segment(t, next.rules, next.on, next.from, piece, buffer);
+        let below = next.segment;
+        let refused = copy_segment(t, below.rules, below.on, below.from, piece, buffer);
         if refused != 0 {
             return refused;
         }
-        done += n;
+        done += next.size;
     }
     0
 }

@@ -51,7 +51,7 @@ overflow_add-piece t c = record { fits = omega (arith, c.requires.1, c.loop-done
 pub copy_segment-refused-requires : goal.copy_segment-refused-requires
 copy_segment-refused-requires t c =
     let next : NextAt c.args.t.now.now c.args.rules.pointers c.args.on.level c.args.from.block.0
-    (c.args.from.place.0 + c.loop-done.done) (c.args.part.size - c.loop-done.done) c.in-At.next c.in-At.n = segments.next-at _ _ _ _ _ _ _ c.next_segment-found.ensures _ _ c.in-At.is in
+    (c.args.from.place.0 + c.loop-done.done) (c.args.part.size - c.loop-done.done) c.in-Some.next.segment c.in-Some.next.size = segments.next-at _ _ _ _ _ _ _ c.next_segment-found.ensures _ c.in-Some.is in
     let s = next in (
       omega (arith, c.decreases, s.falls),
       (s.segment, omega (arith, c.requires.1, s.at_most, c.loop-done-test.true), omega (arith, c.requires.2, s.at_most, c.loop-done-test.true, c.loop-done.invariant.1)),
@@ -63,26 +63,26 @@ shape_of-buffer-then-refused-ne0 t c = c.copy_segment-refused.auto.buffer ∙ c.
 pub returns-then-refused-ne0 : goal.returns-then-refused-ne0
 returns-then-refused-ne0 t c =
     let next : NextAt c.args.t.now.now c.args.rules.pointers c.args.on.level c.args.from.block.0
-    (c.args.from.place.0 + c.loop-done.done) (c.args.part.size - c.loop-done.done) c.in-At.next c.in-At.n = segments.next-at _ _ _ _ _ _ _ c.next_segment-found.ensures _ _ c.in-At.is in
+    (c.args.from.place.0 + c.loop-done.done) (c.args.part.size - c.loop-done.done) c.in-Some.next.segment c.in-Some.next.size = segments.next-at _ _ _ _ _ _ _ c.next_segment-found.ensures _ c.in-Some.is in
     segments.go-broken _ _ _ _ _ _ _ _ _ c.loop-done.invariant.2 _ _ _ next _ _ c.copy_segment-refused.ensures
     c.if-refused-ne0.true _ (omega (arith, c.loop-done-test.true))
 
 pub overflow_add-done : goal.overflow_add-done
 overflow_add-done t c =
     let next : NextAt c.args.t.now.now c.args.rules.pointers c.args.on.level c.args.from.block.0
-    (c.args.from.place.0 + c.loop-done.done) (c.args.part.size - c.loop-done.done) c.in-At.next c.in-At.n = segments.next-at _ _ _ _ _ _ _ c.next_segment-found.ensures _ _ c.in-At.is in
+    (c.args.from.place.0 + c.loop-done.done) (c.args.part.size - c.loop-done.done) c.in-Some.next.segment c.in-Some.next.size = segments.next-at _ _ _ _ _ _ _ c.next_segment-found.ensures _ c.in-Some.is in
     record { fits = omega (arith, c.requires.1, next.at_most, c.loop-done-test.true) }
 
 pub loop-done-smaller : goal.loop-done-smaller
 loop-done-smaller t c =
     let next : NextAt c.args.t.now.now c.args.rules.pointers c.args.on.level c.args.from.block.0
-    (c.args.from.place.0 + c.loop-done.done) (c.args.part.size - c.loop-done.done) c.in-At.next c.in-At.n = segments.next-at _ _ _ _ _ _ _ c.next_segment-found.ensures _ _ c.in-At.is in
+    (c.args.from.place.0 + c.loop-done.done) (c.args.part.size - c.loop-done.done) c.in-Some.next.segment c.in-Some.next.size = segments.next-at _ _ _ _ _ _ _ c.next_segment-found.ensures _ c.in-Some.is in
     omega (arith, next.some_byte, c.loop-done-test.true)
 
 pub loop-done-preserved : goal.loop-done-preserved
 loop-done-preserved t c =
     let next : NextAt c.args.t.now.now c.args.rules.pointers c.args.on.level c.args.from.block.0
-    (c.args.from.place.0 + c.loop-done.done) (c.args.part.size - c.loop-done.done) c.in-At.next c.in-At.n = segments.next-at _ _ _ _ _ _ _ c.next_segment-found.ensures _ _ c.in-At.is in (
+    (c.args.from.place.0 + c.loop-done.done) (c.args.part.size - c.loop-done.done) c.in-Some.next.segment c.in-Some.next.size = segments.next-at _ _ _ _ _ _ _ c.next_segment-found.ensures _ c.in-Some.is in (
       omega (arith, next.at_most, c.loop-done-test.true),
       c.copy_segment-refused.auto.buffer ∙ c.loop-done.invariant.1,
       segments.go-more _ _ _ _ _ _ _ _ _ c.loop-done.invariant.2 _ _ _ next _ _ c.copy_segment-refused.ensures c.if-refused-ne0.false,
