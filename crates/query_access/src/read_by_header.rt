@@ -15,7 +15,6 @@ use walk_path::TopLevel;
 use walk_ranges::leaf_end;
 use walk_ranges::segments::Rules;
 use walk_short::gather;
-use walk_short::gather::Gathered;
 use walk_steps::position::{BlockPosition, LevelAt};
 
 // A range of the bytes of the tree.
@@ -198,7 +197,7 @@ fn short_span(t: &[u8], h: Header, at: TextPlace, len: u32, buffer: &mut [u8]) -
     ensures buffer_after { buffer.new ≡ span_buffer t.now at.0 len buffer.old }
 {
     let found = gather::from_text(t, h, at, len);
-    let Gathered::At(q) = found else {
+    let Some(q) = found else {
         byte_slices::clear(buffer, len as usize);
         return SpanAnswer::Refused(14);
     };

@@ -273,7 +273,8 @@ module _ (t : List ℕ) (k : Readable t) (l : ℕ) (low : l < H t) where
       in-none p i o (rw (left_here, div-eq_of_lt small, mod-eq_of_lt small, z) (ap leaf_number (from-off t (H t - (l + 1)) l i o unkept apart)))
 
   -- The answer for a block and a place in it is that for a place of the segment.
-  pub next-from : (p first o most j q : ℕ) → j ≡ first + o / b t l → q ≡ o % b t l → (r : prelude.Option Piece) → IsNext t p l j q most r → IsNext t p l first o most r
+  pub next-from : (p first o most j q : ℕ) → j ≡ first + o / b t l → q ≡ o % b t l → (r : prelude.Option Piece) → IsNext t p l j q most r
+      → IsNext t p l first o most r
   next-from p first o most j q j-is q-is (Some x) e = record {
     some_byte = e.some_byte;
     at_most = e.at_most;
