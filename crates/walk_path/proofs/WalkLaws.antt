@@ -24,8 +24,9 @@ use Rattle.walk_steps.specs.declared.position.BlockPosition.{BlockPosition}
 use Rattle.walk_steps.specs.declared.BlockAt.{BlockAt}
 use Rattle.walk_steps.specs.declared.BlockAt.TheVariants as arrived
 use Rattle.walk_path.specs.declared.WalkState.{WalkState}
-use Rattle.walk_path.specs.declared.WalkAnswer.{WalkAnswer}
-use Rattle.walk_path.specs.declared.WalkAnswer.TheVariants.{At, Broken}
+use Rattle.std.specs.Prelude.{Some, None}
+use Rattle.std.specs.Prelude as prelude
+use Rattle.walk_path.specs.declared.PathEnd.{PathEnd}
 use Rattle.walk_steps.specs.Steps.{OnLevel, Pointing, block_kind_at, child_at, resolved_target}
 use Rattle.walk_steps.proofs.NextLaws.{next-kept, next-points, next-off, level-below, child-at, child-off, resolved-at, resolved-off}
 use Rattle.walk_steps.proofs.StepLaws.{b-pos, b-small, first-there, kept_in}
@@ -49,7 +50,7 @@ walked-enter t state l i o none = refl
 walked-enter t state l i o (some a) =
     let left = left_over t a.visits (min state.left (at.full_length t l - o)) in
     let e : state.entered + 1 + length a.visits ≡ state.entered + length (visit l i o ∷ a.visits) = omega arith in
-    ap (λ (n : ℕ). At (record { block = record { 0 = a.block }; place = record { 0 = a.place }; state = record { entered = n; left = left } })) e
+    ap (λ (n : ℕ). Some (record { block = record { 0 = a.block }; place = record { 0 = a.place }; state = record { entered = n; left = left } })) e
 
 -- Paths that break.
 
@@ -86,13 +87,13 @@ module _ (t : List ℕ) where
 
 -- A step's word.
 
-pub broken-word : Broken ≡ walked_in 18446744073709551615
+pub broken-word : None ≡ walked_in 18446744073709551615
 unfolding walked_in
 broken-word = refl
 
 pub packed-word : (i o entered left : ℕ) → i < 268435456 → o < 256 → entered < 16 → left ≤ max_text
     → walked_in (i + 268435456 * (o + 256 * (entered + 16 * left)))
-    ≡ At (record { block = record { 0 = i }; place = record { 0 = o }; state = record { entered = entered; left = left } })
+    ≡ Some (record { block = record { 0 = i }; place = record { 0 = o }; state = record { entered = entered; left = left } })
 unfolding walked_in
 packed-word i o entered left small low few short =
     let w = i + 268435456 * (o + 256 * (entered + 16 * left)) in
@@ -107,7 +108,7 @@ packed-word i o entered left small low few short =
     rw (ne_eqb w 18446744073709551615 (λ z. omega arith), a, p, e, c)
 
 pub unpacked-word : (w : ℕ) → (w ≡ 18446744073709551615 → ⊥)
-    → At (record {
+    → Some (record {
       block = record { 0 = w % 268435456 };
       place = record { 0 = w / 268435456 % 256 };
       state = record { entered = w / 68719476736 % 16; left = w / 1099511627776 };
@@ -141,7 +142,7 @@ module _ (t : List ℕ) (size level b i o : ℕ) (state : WalkState) (k : KeptAt
     lower = (asks-child t size level b i o state.entered k down below b_is).0
 
     -- The path goes on with the child.
-    kept-down : (r : WalkAnswer) → r ≡ walked t on (above_from t ((at.settings t).levels - 1 - (level + 1)) (level + 1) (at.link t level i + o / below)
+    kept-down : (r : prelude.Option PathEnd) → r ≡ walked t on (above_from t ((at.settings t).levels - 1 - (level + 1)) (level + 1) (at.link t level i + o / below)
         (o % below))
         → r ≡ walked t state (above_from t ((at.settings t).levels - 1 - level) level i o)
     kept-down r e =
@@ -162,21 +163,21 @@ module _ (t : List ℕ) (size level b i o : ℕ) (state : WalkState) (k : KeptAt
           few = omega (arith, k.few);
         }
 
-    pub child-by : (r : WalkAnswer) (j : BlockNumber) (p : BlockPlace) → x ≡ arrived.At j p
+    pub child-by : (r : prelude.Option PathEnd) (j : BlockNumber) (p : BlockPlace) → x ≡ arrived.At j p
         → r ≡ walked t on (above_from t ((at.settings t).levels - 1 - (level + 1)) (level + 1) j.0 p.0)
         → r ≡ walked t state (above_from t ((at.settings t).levels - 1 - level) level i o)
     child-by r j p e f =
         let z = child-at t (level + 1) (at.link t level i + o / below) (o % below) x x-is j p e in
         kept-down r (rw (z.1, z.2) at f)
 
-    pub child-none : x ≡ arrived.Off → Broken ≡ walked t state (above_from t ((at.settings t).levels - 1 - level) level i o)
+    pub child-none : x ≡ arrived.Off → None ≡ walked t state (above_from t ((at.settings t).levels - 1 - level) level i o)
     unfolding walked
     child-none e =
         let n = (at.settings t).levels - 1 - (level + 1) in
         let j = at.link t level i + o / below in
-        let f : Broken ≡ walked t on (above_from t n (level + 1) j (o % below)) =
+        let f : None ≡ walked t on (above_from t n (level + 1) j (o % below)) =
         rw (above-past t n (level + 1) j (o % below) (child-off t (level + 1) j (o % below) x x-is e)) in
-        kept-down Broken f
+        kept-down None f
 
 module _ (t : List ℕ) (size level b i o entered : ℕ) (k : MayPoint t size level b i o entered) where
   pub may-enter : entered ≤ 2 * max_levels
@@ -293,7 +294,7 @@ module _ (t : List ℕ) (size level b i o : ℕ) (state : WalkState) (k : MayPoi
       )
 
   pub last-walked : level + 1 ≡ (at.settings t).levels
-      → (r : WalkAnswer) → r ≡ At (record { block = record { 0 = i }; place = record { 0 = o }; state = state })
+      → (r : prelude.Option PathEnd) → r ≡ Some (record { block = record { 0 = i }; place = record { 0 = o }; state = state })
       → r ≡ walked t state (above_from t ((at.settings t).levels - 1 - level) level i o)
   unfolding walked left_over
   last-walked last r e =
@@ -308,7 +309,7 @@ module _ (t : List ℕ) (size level b i o : ℕ) (state : WalkState) (k : MayPoi
     steps : (at.settings t).levels - 1 - level ≡ suc ((at.settings t).levels - 1 - (level + 1))
     steps = omega arith
 
-    pub landed-off : y ≡ landed.Off → Broken ≡ walked t state (above_from t ((at.settings t).levels - 1 - level) level i o)
+    pub landed-off : y ≡ landed.Off → None ≡ walked t state (above_from t ((at.settings t).levels - 1 - level) level i o)
     unfolding walked landing_at
     landed-off e =
         let z = cases-off (is_kept_block t level i) both i o _ _ state _ (sym e ∙ y-is) in
@@ -340,7 +341,7 @@ module _ (t : List ℕ) (size level b i o : ℕ) (state : WalkState) (k : MayPoi
                 few = omega (arith, k.few);
               })
 
-      pub landed-by : (r : WalkAnswer) → r ≡ walked t on (above_from t ((at.settings t).levels - 1 - level) level j.0 p.0)
+      pub landed-by : (r : prelude.Option PathEnd) → r ≡ walked t on (above_from t ((at.settings t).levels - 1 - level) level j.0 p.0)
           → r ≡ walked t state (above_from t ((at.settings t).levels - 1 - level) level i o)
       landed-by r f = go landed-cases
         where
@@ -368,7 +369,7 @@ module _ (t : List ℕ) (size b p : ℕ) (on : OnLevel t size 0 b) (x : BlockPos
         few = omega arith;
       })
 
-  pub top-by : (state : WalkState) (r : WalkAnswer)
+  pub top-by : (state : WalkState) (r : prelude.Option PathEnd)
       → r ≡ walked t state (above_from t ((at.settings t).levels - 1 - 0) 0 x.block.0 x.place.0) → r ≡ walked t state (above_of t p)
   unfolding above_of
   top-by state r e =

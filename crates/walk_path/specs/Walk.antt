@@ -1,12 +1,12 @@
 -- The result of a walk down a path, and the preconditions of its steps.
-use Rattle.std.specs.Prelude.{List, true, cond, ◌&&◌, ◌≡◌, ℕ, ◌+◌, ◌-◌, ◌*◌, ◌/◌, ◌%◌, ◌≤◌, ◌<◌, min, eqb, length}
+use Rattle.std.specs.Prelude.{List, Some, None, true, cond, ◌&&◌, ◌≡◌, ℕ, ◌+◌, ◌-◌, ◌*◌, ◌/◌, ◌%◌, ◌≤◌, ◌<◌, min, eqb, length}
+use Rattle.std.specs.Prelude as prelude
 use Rattle.std.proofs.Math.Option.{Option, none, some}
 use Rattle.format.specs.Layout as at
 use Rattle.format.specs.TreeReading.{is_kept_block, pointing_block, target_block, target_place}
 use Rattle.format.specs.Answers.{left_over}
 use Rattle.walk_path.specs.declared.WalkState.{WalkState}
-use Rattle.walk_path.specs.declared.WalkAnswer.{WalkAnswer}
-use Rattle.walk_path.specs.declared.WalkAnswer.TheVariants.{At, Broken}
+use Rattle.walk_path.specs.declared.PathEnd.{PathEnd}
 use Rattle.walk_path.specs.declared.Landing.{Landing}
 use Rattle.walk_path.specs.declared.Landing.TheVariants as landed
 use Rattle.walk_steps.specs.Steps.{OnLevel}
@@ -17,9 +17,9 @@ unfoldable pub onward : WalkState → ℕ → WalkState
 onward state here = record { entered = state.entered + 1; left = min state.left here }
 
 -- The result of a walk: the block and the place on the last level, the number of blocks entered above it, and the bytes left in each of them, at the least.
-unfoldable pub walked : List ℕ → WalkState → Option Above → WalkAnswer
-walked t state none = Broken
-walked t state (some a) = At (record {
+unfoldable pub walked : List ℕ → WalkState → Option Above → prelude.Option PathEnd
+walked t state none = None
+walked t state (some a) = Some (record {
   block = record { 0 = a.block };
   place = record { 0 = a.place };
   state = record { entered = state.entered + length a.visits; left = left_over t a.visits state.left };
@@ -27,10 +27,10 @@ walked t state (some a) = At (record {
 
 -- The result that the word of a step represents: the block + 2^28 × the place + 2^36 × the blocks entered + 2^40 × the bytes left; all ones if the path
 -- breaks.
-unfoldable pub walked_in : ℕ → WalkAnswer
+unfoldable pub walked_in : ℕ → prelude.Option PathEnd
 walked_in w =
-    cond (eqb w 18446744073709551615) Broken
-    (At (record {
+    cond (eqb w 18446744073709551615) None
+    (Some (record {
       block = record { 0 = w % 268435456 };
       place = record { 0 = w / 268435456 % 256 };
       state = record { entered = w / 68719476736 % 16; left = w / 1099511627776 };

@@ -2,7 +2,7 @@
 // while a pointer can be followed. A step carries no header and returns one word.
 #![tactic(auto)]
 
-ghost use Rattle.std.specs.Prelude.{◌≡◌, ◌+◌, ◌-◌, ◌*◌, ◌/◌, ◌≤◌, ◌<◌};
+ghost use Rattle.std.specs.Prelude.{Some, ◌≡◌, ◌+◌, ◌-◌, ◌*◌, ◌/◌, ◌≤◌, ◌<◌};
 ghost use Rattle.format.specs.Layout as at;
 ghost use Rattle.walk_steps.specs.Steps.{OnLevel};
 ghost use Rattle.format.specs.Layout.{max_text, max_levels};
@@ -26,12 +26,6 @@ pub struct PathEnd {
     pub block: BlockNumber,
     pub place: BlockPlace,
     pub state: WalkState,
-}
-
-#[derive(Clone, Copy)]
-pub enum WalkAnswer {
-    At(PathEnd),
-    Broken,
 }
 
 // The kept block that contains a place, the place in it, and what is carried there.
@@ -60,20 +54,20 @@ const BROKEN: u64 = 18446744073709551615;
 // The result of a walk in one word: the block + 2^28 × the place + 2^36 × the blocks entered + 2^40 × the bytes left.
 fn packed(block: BlockNumber, place: BlockPlace, state: WalkState) -> u64
     requires { (block.0 < 268435456) × (place.0 < 256) × (state.entered < 16) × (state.left ≤ max_text) }
-    ensures { walked_in result ≡ WalkAnswer.At (record { block = block; place = place; state = state }) }
+    ensures { walked_in result ≡ Some (record { block = block; place = place; state = state }) }
 {
     let carried = state.entered as u64 + 16 * state.left as u64;
     block.0 as u64 + 268435456 * (place.0 as u64 + 256 * carried)
 }
 
 // The walk that such a word represents.
-pub fn unpacked(word: u64) -> WalkAnswer
+pub fn unpacked(word: u64) -> Option<PathEnd>
     ensures { result ≡ walked_in word }
 {
     if word == BROKEN {
-        return WalkAnswer::Broken;
+        return None;
     }
-    WalkAnswer::At(PathEnd {
+    Some(PathEnd {
         block: BlockNumber((word % 268435456) as u32),
         place: BlockPlace((word / 268435456 % 256) as u32),
         state: WalkState {
