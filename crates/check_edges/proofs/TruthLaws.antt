@@ -112,7 +112,8 @@ module _ (t : List ℕ) (h : Header) (level b i : ℕ) (k : Edged t h level b i)
     back_in = omega (arith, own_is)
 
     -- What a walk from the block gives.
-    module _ (o : ℕ) (ho : o + own ≤ long) (r : prelude.Option Parts) (r-is : r ≡ gathered 0 (short_from t ((at.settings t).levels - 1 - level) level (i + 0) o own)) where
+    module _ (o : ℕ) (ho : o + own ≤ long) (r : prelude.Option Parts)
+        (r-is : r ≡ gathered 0 (short_from t ((at.settings t).levels - 1 - level) level (i + 0) o own)) where
       r-right : r ≡ gathered 0 (short_from t ((at.settings t).levels - 1 - level) level i o own)
       r-right = r-is ∙ rw (add-zero i)
 

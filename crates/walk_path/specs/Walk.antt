@@ -8,7 +8,6 @@ use Rattle.format.specs.Answers.{left_over}
 use Rattle.walk_path.specs.declared.WalkState.{WalkState}
 use Rattle.walk_path.specs.declared.PathEnd.{PathEnd}
 use Rattle.walk_path.specs.declared.Landing.{Landing}
-use Rattle.walk_path.specs.declared.Landing.TheVariants as landed
 use Rattle.walk_steps.specs.Steps.{OnLevel}
 use Rattle.walk_path.specs.Above.{Above}
 
@@ -37,11 +36,15 @@ walked_in w =
     }))
 
 -- The kept block for a place of a block above the last level: the block itself if it is kept, else its kept target, with one more block entered.
-unfoldable pub landing_at : List ℕ → WalkState → ℕ → ℕ → ℕ → Landing
+unfoldable pub landing_at : List ℕ → WalkState → ℕ → ℕ → ℕ → prelude.Option Landing
 landing_at t state l i o =
-    cond (is_kept_block t l i) (landed.At (record { 0 = i }) (record { 0 = o }) state)
+    cond (is_kept_block t l i) (Some (record { block = record { 0 = i }; place = record { 0 = o }; state = state }))
     (cond (pointing_block t l i && is_kept_block t l (target_block t l i o))
-    (landed.At (record { 0 = target_block t l i o }) (record { 0 = target_place t l i o }) (onward state (at.full_length t l - o))) landed.Off)
+    (Some (record {
+      block = record { 0 = target_block t l i o };
+      place = record { 0 = target_place t l i o };
+      state = onward state (at.full_length t l - o);
+    })) None)
 
 -- A kept block of a level, a place in it, and the number of blocks entered before it: at most two on each level above, and the one that points to it.
 pub record KeptAt (t : List ℕ) (size level b i o entered : ℕ) : Type 0 where

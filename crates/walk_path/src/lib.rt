@@ -30,9 +30,10 @@ pub struct PathEnd {
 
 // The kept block that contains a place, the place in it, and what is carried there.
 #[derive(Clone, Copy)]
-pub enum Landing {
-    At(BlockNumber, BlockPlace, WalkState),
-    Off,
+pub struct Landing {
+    pub block: BlockNumber,
+    pub place: BlockPlace,
+    pub state: WalkState,
 }
 
 impl WalkState {
@@ -87,23 +88,31 @@ fn to_kept(
     place: BlockPlace,
     entered: u32,
     left: u32,
-) -> Landing
+) -> Option<Landing>
     requires { (MayPoint t.now size level b block.0 place.0 entered) × (level + 1 < (at.settings t.now).levels) }
     ensures { result ≡ landing_at t.now (record { entered = entered; left = left }) level block.0 place.0 }
 {
     let state = WalkState { entered, left };
     let here = walk_steps::classify_block(t, size, level, b, block, place);
     match here {
-        BlockKind::Kept(_, _) => Landing::At(block, place, state),
+        BlockKind::Kept(_, _) => Some(Landing {
+            block,
+            place,
+            state,
+        }),
         BlockKind::Points(_, _) => {
             let further = state.enter(b, place);
             let there = walk_steps::resolve_target(t, size, level, b, block, place);
             let BlockAt::At(i, p) = there else {
-                return Landing::Off;
+                return None;
             };
-            Landing::At(i, p, further)
+            Some(Landing {
+                block: i,
+                place: p,
+                state: further,
+            })
         }
-        BlockKind::Off => Landing::Off,
+        BlockKind::Off => None,
     }
 }
 
@@ -162,8 +171,8 @@ fn pointing_step(
     let tree = *t;
     let shape = fields::shape_of(tree);
     let below = walk_steps::quotient(b, shape.arity);
-    let there = to_kept(tree, size, level, b, block, place, entered, left);
-    let Landing::At(i, p, further) = there else {
+    let landing = to_kept(tree, size, level, b, block, place, entered, left);
+    let Some(there) = landing else {
         return BROKEN;
     };
     kept_step(
@@ -172,10 +181,10 @@ fn pointing_step(
         level,
         b,
         below,
-        i,
-        p,
-        further.entered,
-        further.left,
+        there.block,
+        there.place,
+        there.state.entered,
+        there.state.left,
     )
 }
 
