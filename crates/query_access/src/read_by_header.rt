@@ -84,10 +84,10 @@ fn leaf_run(t: &&[u8], h: Header, at: TextPlace) -> Option<LeafRun>
     let tree = *t;
     let word = walk_path::walk(t, top_level(h), at, h.text_length - at.0);
     let end = leaf_end::end_of(tree, h, at, word)?;
-    let here = byte_slices::min(end.left, h.settings.leaf - end.place.0);
+    let here = end.left.min(h.settings.leaf - end.place.0);
     Some(LeafRun {
         from: h.leaf_offset as usize + end.leaf as usize,
-        length: byte_slices::min(here, h.leaf_count - end.leaf),
+        length: here.min(h.leaf_count - end.leaf),
         entered: end.entered,
     })
 }
@@ -101,12 +101,12 @@ pub fn leaf_range(t: &&[u8], h: Header, at: TextPlace, most: u32) -> Option<Leaf
     let tree = *t;
     let word = walk_path::walk(t, top_level(h), at, h.text_length - at.0);
     let end = leaf_end::end_of(tree, h, at, word)?;
-    let within = byte_slices::min(end.left, most);
+    let within = end.left.min(most);
     let joined = leaf_end::joined(tree, h, end, within);
-    let size = byte_slices::min(within, joined);
+    let size = within.min(joined);
     Some(LeafRun {
         from: h.leaf_offset as usize + end.leaf as usize,
-        length: byte_slices::min(size, h.leaf_count - end.leaf),
+        length: size.min(h.leaf_count - end.leaf),
         entered: end.entered,
     })
 }
