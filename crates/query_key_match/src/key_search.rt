@@ -41,6 +41,7 @@ fn from(t: &[u8], h: Header, question: &[u8], place: TextPlace, q: u32) -> NextR
     let mut so_far = KeyState::Code(0);
     let mut row = q;
     let mut at = place.0;
+    // A `while`: each part's length is found when it is read, so there is no range to go over.
     while at < h.text_length {
         let range = rows_after::next_part(t, h, at);
         let RunRangeAnswer::At(part) = range else {

@@ -55,6 +55,7 @@ fn from(t: &[u8], h: Header, prefix: &[u8], place: TextPlace, q: u32) -> NextRow
     let mut so_far = PrefixState::Matched(0);
     let mut row = q;
     let mut at = place.0;
+    // A `while`: each part's length is found when it is read, so there is no range to go over.
     while at < h.text_length {
         let range = rows_after::next_part(t, h, at);
         let RunRangeAnswer::At(part) = range else {
