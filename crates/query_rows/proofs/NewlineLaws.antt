@@ -49,7 +49,7 @@ none-at-start t p h =
     }
 
 module _ (t : List ℕ) (p : ℕ) where
-  found-is : (n : Newline) → (EndsRow t p n.place.0 n.before) × (ReadsFrom t p n.run) → NewlineIs t p (Some n)
+  found-is : (n : Newline) → (EndsRow t p n.0.0 n.1) × (ReadsFrom t p n.2) → NewlineIs t p (Some n)
   found-is n r = record {
     found = λ m is. (let e : n ≡ m = cc in rw (← e) r);
     missing = λ is. absurd (let z : ◌≡◌ {A = ℕ} 0 1 = cc in omega arith);
@@ -93,9 +93,9 @@ module _ (t : List ℕ) (p : ℕ) where
               let f : suc y - 1 ≡ y = omega arith in
               rw (ne_eqb (suc y) 0 (λ z. omega arith), e, f) (reads.bytes y (omega arith))
 
-      pub newline-in-run : x < size → (run : LeafRun) → ReadsFrom t p run → NewlineIs t p (Some (record { place = record { 0 = place + x }; before = before; run = run }))
+      pub newline-in-run : x < size → (run : LeafRun) → ReadsFrom t p run → NewlineIs t p (Some (record { 0 = record { 0 = place + x }; 1 = before; 2 = run }))
       newline-in-run l run reads-run =
-          found-is (record { place = record { 0 = place + x }; before = before; run = run }) (record { past = omega (arith, i.past); first = first; before-is = before-x }, reads-run)
+          found-is (record { 0 = record { 0 = place + x }; 1 = before; 2 = run }) (record { past = omega (arith, i.past); first = first; before-is = before-x }, reads-run)
         where
           o : place + x - p ≡ place - p + x
           o = omega (arith, i.past)

@@ -303,15 +303,15 @@ module _ (t : List ℕ) (ok : ℕ) (sound : ok ≡ 0 → check_result t ≡ 0) (
           in-walk t ok (number t ok q) (row t ok q) end_most asked 14 (λ v. ends.missing none (sound v) o (there v)) refl
 
       module _ (e : Newline) (at-e : y ≡ Some e) where
-        end : EndsRow t p.0 e.place.0 e.before
+        end : EndsRow t p.0 e.0.0 e.1
         end = (ends.found e at-e).0
 
-        pub end-past : p.0 ≤ e.place.0
+        pub end-past : p.0 ≤ e.0.0
         end-past = end.past
 
         -- The bytes up to it.
         abbrev len : ℕ
-        len = e.place.0 - p.0
+        len = e.0.0 - p.0
 
         in_text : p.0 + len < length (text_of t)
         in_text = omega (arith, end.first.within)
@@ -320,12 +320,12 @@ module _ (t : List ℕ) (ok : ℕ) (sound : ok ≡ 0 → check_result t ≡ 0) (
         unfolding between
         whole v =
             let s = starts.accepted p is v in
-            let f = row-end (text_of t) q chosen.low (in-book v) e.place.0 (rw s at end-past) (rw s at end.first) in
+            let f = row-end (text_of t) q chosen.low (in-book v) e.0.0 (rw s at end-past) (rw s at end.first) in
             rw (s, f)
 
-        pub edges-trimmed : (n : ℕ) → n ≡ cond (ltb 0 len && eqb 13 e.before) (len - 1) len
-            → EdgesOf t ok (number t ok q) (row t ok q) end_most (edges.At p n e.run)
-        edges-trimmed n n-is = spans-at t ok (number t ok q) (row t ok q) end_most p.0 n e.run (record {
+        pub edges-trimmed : (n : ℕ) → n ≡ cond (ltb 0 len && eqb 13 e.1) (len - 1) len
+            → EdgesOf t ok (number t ok q) (row t ok q) end_most (edges.At p n e.2)
+        edges-trimmed n n-is = spans-at t ok (number t ok q) (row t ok q) end_most p.0 n e.2 (record {
           asked = asked;
           within = omega (arith, at_most, in_text, text-length t);
           short = omega (arith, at_most, in_text, text-length t);
@@ -334,24 +334,24 @@ module _ (t : List ℕ) (ok : ℕ) (sound : ok ≡ 0 → check_result t ≡ 0) (
         })
           where
             at_most : n ≤ len
-            at_most = rw n-is (less (ltb 0 len && eqb 13 e.before))
+            at_most = rw n-is (less (ltb 0 len && eqb 13 e.1))
               where
                 less : (b : Bool) → cond b (len - 1) len ≤ len
                 less true = omega arith
                 less false = omega arith
 
             cut : (0 < len) ⊎ (len ≤ 0)
-                → substring (text_of t) p.0 (cond (ltb 0 len && eqb 13 e.before) (len - 1) len) ≡ trimmed (substring (text_of t) p.0 len)
+                → substring (text_of t) p.0 (cond (ltb 0 len && eqb 13 e.1) (len - 1) len) ≡ trimmed (substring (text_of t) p.0 len)
             cut (inr none) = let z : len ≡ 0 = omega arith in rw z (sym (trimmed-none (text_of t) p.0))
-            cut (inl some) = rw (lt-ltb 0 len some) (go (eqb 13 e.before) refl)
+            cut (inl some) = rw (lt-ltb 0 len some) (go (eqb 13 e.1) refl)
               where
-                byte : get_or (text_of t) (p.0 + (len - 1)) 0 ≡ e.before
-                byte = let z : p.0 + (len - 1) ≡ e.place.0 - 1 = omega (arith, end-past) in rw z (sym (end.before-is (omega arith)))
+                byte : get_or (text_of t) (p.0 + (len - 1)) 0 ≡ e.1
+                byte = let z : p.0 + (len - 1) ≡ e.0.0 - 1 = omega (arith, end-past) in rw z (sym (end.before-is (omega arith)))
 
-                go : (b : Bool) → eqb 13 e.before ≡ b → substring (text_of t) p.0 (cond b (len - 1) len) ≡ trimmed (substring (text_of t) p.0 len)
-                go true f = sym (trimmed-mark (text_of t) p.0 len some (omega (arith, in_text)) (byte ∙ sym (eqb-true 13 e.before f)))
+                go : (b : Bool) → eqb 13 e.1 ≡ b → substring (text_of t) p.0 (cond b (len - 1) len) ≡ trimmed (substring (text_of t) p.0 len)
+                go true f = sym (trimmed-mark (text_of t) p.0 len some (omega (arith, in_text)) (byte ∙ sym (eqb-true 13 e.1 f)))
                 go false f = sym (trimmed-plain (text_of t) p.0 len some (omega (arith, in_text))
-                    (λ z. bool_clash (eqb 13 e.before) (eq-eqb 13 e.before (sym (sym byte ∙ z))) f))
+                    (λ z. bool_clash (eqb 13 e.1) (eq-eqb 13 e.1 (sym (sym byte ∙ z))) f))
 
 -- Whether q is the row after the last byte 10.
 module _ (t : List ℕ) (h : Header) (k : HeaderOf t h) (q number : ℕ) (is : number ≡ number_of_byte t 10) where

@@ -19,7 +19,7 @@ pub record EndsRow (t : List ℕ) (p e before : ℕ) : Type 0 where
   pub before-is : p < e → before ≡ get_or (text_of t) (e - 1) 0
 
 pub record NewlineIs (t : List ℕ) (p : ℕ) (r : Option Newline) : Type 0 where
-  pub found : (n : Newline) → r ≡ Some n → (EndsRow t p n.place.0 n.before) × (ReadsFrom t p n.run)
+  pub found : (n : Newline) → r ≡ Some n → (EndsRow t p n.0.0 n.1) × (ReadsFrom t p n.2)
   pub missing : r ≡ None → check_result t ≡ 0 → (o : ℕ) → Nth 10 1 (text_of t) p o → ⊥
 
 -- The refusal of a start, 0 for none.

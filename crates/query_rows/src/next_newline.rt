@@ -10,11 +10,7 @@ use query_access::read_by_header::{LeafRun, LeafRunAnswer};
 
 // The place of the first newline from a place on, the byte before it, if one was read, and the range that was read first.
 #[derive(Clone, Copy)]
-pub struct Newline {
-    pub place: TextPlace,
-    pub before: u8,
-    pub run: LeafRun,
-}
+pub struct Newline(pub TextPlace, pub u8, pub LeafRun);
 
 // The most bytes that are read at once: few rows are longer.
 const MOST: u32 = 32;
@@ -39,11 +35,7 @@ pub fn next_newline(t: &&[u8], h: Header, from: TextPlace) -> Option<Newline>
         let before = byte_before(tree, part.from, i, earlier);
         first = first_of(first, part);
         if i < size {
-            return Some(Newline {
-                place: TextPlace(at + i),
-                before,
-                run: first,
-            });
+            return Some(Newline(TextPlace(at + i), before, first));
         }
         earlier = before;
         at += size;

@@ -11,6 +11,7 @@ ghost use Rattle.query_rows.specs.RowSpans.{settled_by, bounds_refusal, EdgesOf}
 ghost use Rattle.query_rows.specs.RowEnds.{start_refusal, StartIs};
 
 use crate::next_newline;
+use crate::next_newline::Newline;
 use layout::header::Header;
 use layout::place::TextPlace;
 use query_access::read_by_header::LeafRun;
@@ -98,11 +99,10 @@ fn terminated_row(t: &[u8], h: Header, guide: &[u8], used: bool, number: u32, q:
         return RowBounds::Refused(start_number(found));
     };
     let end = next_newline::next_newline(&t, h, start);
-    let Some(newline) = end else {
+    let Some(Newline(place, before, run)) = end else {
         return RowBounds::Refused(14);
     };
-    let len = strip_cr(newline.place.0 - start.0, newline.before);
-    RowBounds::At(start, len, newline.run)
+    RowBounds::At(start, strip_cr(place.0 - start.0, before), run)
 }
 
 // The start of row q, if it ends in a newline. Questions 11, 12 and 14.

@@ -20,8 +20,8 @@ returns-in_default-end c =
     laws.edges-no-end _ _ (laws.settled-sound _ _ _) _ _ c.row_start-found.ensures _ c.in-At.is
     _ c.next_newline-end.ensures c.in_default-end.is
 
-pub overflow_sub-newline : goal.overflow_sub-newline
-overflow_sub-newline c =
+pub overflow_sub-place : goal.overflow_sub-place
+overflow_sub-place c =
     omega (
       arith,
       laws.end-past _ _ (laws.settled-sound _ _ _) _ _ c.row_start-found.ensures _ c.in-At.is
@@ -31,4 +31,4 @@ overflow_sub-newline c =
 pub returns : goal.returns
 returns c =
     laws.edges-trimmed _ _ (laws.settled-sound _ _ _) _ _ c.row_start-found.ensures _ c.in-At.is
-    _ c.next_newline-end.ensures _ c.in-Some.is _ c.strip_cr-len.ensures
+    _ c.next_newline-end.ensures _ c.in-Some.is _ c.strip_cr.ensures
