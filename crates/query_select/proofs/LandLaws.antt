@@ -37,7 +37,7 @@ use Rattle.theory_counts.specs.CountedSubstrings.{leaves-end, leaves-tally}
 use Rattle.theory_counts.specs.Finds as finds
 use Rattle.theory_counts.specs.Theorems as demands
 use Rattle.query_select.specs.declared.seek.CountField.{CountField}
-use Rattle.query_select.specs.declared.seek.Child.TheVariants as child
+use Rattle.std.proofs.Common.{Some, None}
 use Rattle.query_select.specs.declared.seek.Target.{Target}
 use Rattle.query_select.specs.declared.seek.Target.TheVariants as target
 use Rattle.query_select.specs.declared.seek.Landing.{Landing}
@@ -91,12 +91,6 @@ is-kept t l i h = and_right (ltb i (N t l)) (at.is_kept t l i) h
 
 -- The child that is chosen.
 
-case-child : (n y : BlockNumber) (o p : BlockPlace) (r q : ℕ) → child.At n o r ≡ child.At y p q → (y.0 ≡ n.0) × (p.0 ≡ o.0) × (q ≡ r)
-case-child n y o p r q e =
-    let f : y ≡ n = cc in
-    let g : p ≡ o = cc in
-    (ap (λ (z : BlockNumber). z.0) f, ap (λ (z : BlockPlace). z.0) g, cc)
-
 -- A kept block, with the number of its first child and how many children it has.
 pub record Family (t : List ℕ) (field : CountField) (level b i below j link count : ℕ) : Type 0 where
   pub kept : KeptIn t field.size level b i
@@ -113,14 +107,14 @@ module _ (t : List ℕ) (field : CountField) (level b i below j link count : ℕ
   hi : i < N t level
   hi = kept_in t level i f.kept.kept
 
-  nothing : (check_result t ≡ 0 → ⊥) → ChildWith t c level i below j child.Off
-  nothing never = record { chosen = λ x o r e. absurd (let z : ◌≡◌ {A = ℕ} 0 1 = cc in omega arith); off = λ e. never }
+  nothing : (check_result t ≡ 0 → ⊥) → ChildWith t c level i below j None
+  nothing never = record { chosen = λ x e. absurd (let z : ◌≡◌ {A = ℕ} 0 1 = cc in omega arith); off = λ e. never }
 
-  pub child-past : at.level_count t (level + 1) < link + count → ChildWith t c level i below j child.Off
+  pub child-past : at.level_count t (level + 1) < link + count → ChildWith t c level i below j None
   child-past past = nothing (λ v. (let e = children-end t v c f.number_in level i f.lower.level_in hi (is-kept t level i f.kept.kept) in
       let g = rw (← f.lower.b_is, ← f.count_is, ← f.link_is) at e in omega arith))
 
-  pub child-none : count ≡ 0 → ChildWith t c level i below j child.Off
+  pub child-none : count ≡ 0 → ChildWith t c level i below j None
   child-none none = nothing (λ v. (let e = some-child t v c f.number_in level i f.lower.level_in hi (is-kept t level i f.kept.kept) in
       let g = rw (← f.lower.b_is, ← f.count_is) at e in omega arith))
 
@@ -157,7 +151,7 @@ module _ (t : List ℕ) (field : CountField) (level b i below j link count : ℕ
     child-place-small = omega (arith, child-place, len-small t level i, f.kept.on.b_is, b-small t field.size level b f.kept.on)
 
     module _ (rest : ℕ) (rest_is : rest ≡ j - at.before t (level + 1) x c) where
-      pub child-without : rest ≡ 0 → ChildWith t c level i below j child.Off
+      pub child-without : rest ≡ 0 → ChildWith t c level i below j None
       child-without none = nothing (λ v. (let low = last-here t c (level + 1) link (link + count) j x last
           (rw f.link_is (omega (arith, f.low, first-none t v c f.number_in level i f.lower.level_in hi (is-kept t level i f.kept.kept)))) in
           omega arith))
@@ -175,10 +169,10 @@ module _ (t : List ℕ) (field : CountField) (level b i below j link count : ℕ
       }
 
       pub child-chosen : (n : BlockNumber) → n.0 ≡ x → (rest ≡ 0 → ⊥)
-          → ChildWith t c level i below j (child.At n (record { 0 = (x - link) * below }) rest)
+          → ChildWith t c level i below j (Some (record { block = n; start = record { 0 = (x - link) * below }; rest = rest }))
       child-chosen n n-is some = record {
-        chosen = λ y p q e. (let z = case-child n y (record { 0 = (x - link) * below }) p rest q e in
-            rw (z.0, n-is, z.1, z.2) (chosen some));
+        chosen = λ y e. (let z : (record { block = n; start = record { 0 = (x - link) * below }; rest = rest }) ≡ y = cc in
+            rw (← z, n-is) (chosen some));
         off = λ e. absurd (let z : ◌≡◌ {A = ℕ} 0 1 = cc in omega arith);
       }
 

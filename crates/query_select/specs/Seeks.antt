@@ -1,5 +1,5 @@
 -- The preconditions and results of the steps to the j-th occurrence.
-use Rattle.std.specs.Prelude.{List, true, cond, ◌≡◌, ◌⊎◌, ℕ, ◌+◌, ◌-◌, ◌*◌, ◌≤◌, ◌<◌}
+use Rattle.std.specs.Prelude.{List, Option, Some, None, true, cond, ◌≡◌, ◌⊎◌, ℕ, ◌+◌, ◌-◌, ◌*◌, ◌≤◌, ◌<◌}
 use Rattle.format.specs.Layout.{pieces, max_text}
 use Rattle.format.specs.Layout as at
 use Rattle.format.specs.TreeReading.{is_kept_block, pointing_block, check_result}
@@ -13,7 +13,6 @@ use Rattle.format.specs.CheckResultLaws.{accepted-header, accepted-links}
 use Rattle.theory_paths.specs.Links.{linked-facts}
 use Rattle.query_select.specs.declared.seek.CountField.{CountField}
 use Rattle.query_select.specs.declared.seek.Child.{Child}
-use Rattle.query_select.specs.declared.seek.Child.TheVariants as child
 use Rattle.query_select.specs.declared.seek.Target.{Target}
 use Rattle.query_select.specs.declared.seek.Target.TheVariants as target
 use Rattle.query_select.specs.declared.seek.Landing.{Landing}
@@ -67,9 +66,9 @@ module _ (t : List ℕ) where
     pub next : x - at.link t level i + 1 < pieces (at.block_length_at t level i) below → j ≤ at.before t (level + 1) (x + 1) c
 
   -- The child is kept or it points; on an accepted tree there is one.
-  pub record ChildWith (c level i below j : ℕ) (r : Child) : Type 0 where
-    pub chosen : (x : BlockNumber) (o : BlockPlace) (rest : ℕ) → r ≡ child.At x o rest → Chosen c level i below j x.0 o.0 rest
-    pub off : r ≡ child.Off → check_result t ≡ 0 → ⊥
+  pub record ChildWith (c level i below j : ℕ) (r : Option Child) : Type 0 where
+    pub chosen : (x : Child) → r ≡ Some x → Chosen c level i below j x.block.0 x.start.0 x.rest
+    pub off : r ≡ None → check_result t ≡ 0 → ⊥
 
   -- The target of pointing block i that contains the j-th occurrence: the first with j + skip, or the second with the rest.
   pub record Aimed (c level i b j : ℕ) (x forward rest : ℕ) : Type 0 where

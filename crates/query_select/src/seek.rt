@@ -51,9 +51,10 @@ struct Parent {
 
 // A block, its start in its parent, and the remaining j.
 #[derive(Clone, Copy)]
-pub enum Child {
-    At(BlockNumber, BlockPlace, u64),
-    Off,
+pub struct Child {
+    pub block: BlockNumber,
+    pub start: BlockPlace,
+    pub rest: u64,
 }
 
 // A kept block, its start relative to that of the first target, and the remaining j.
@@ -201,7 +202,7 @@ fn children(bytes: u32, b: u32, below: u32, arity: u32) -> u32
 }
 
 // The child of a kept block that contains the j-th occurrence.
-fn child_with(t: &[u8], field: CountField, on: LevelAt, parent: Parent, j: u64) -> Child
+fn child_with(t: &[u8], field: CountField, on: LevelAt, parent: Parent, j: u64) -> Option<Child>
     requires { (KeptIn t.now field.size on.level on.b parent.block.0)
         × (OnLevel t.now field.size (on.level + 1) parent.below) × (field.number < at.counted_count t.now) × (1 ≤ j) }
     ensures { ChildWith t.now field.number on.level parent.block.0 parent.below j result }
@@ -212,10 +213,10 @@ fn child_with(t: &[u8], field: CountField, on: LevelAt, parent: Parent, j: u64) 
     let count = children(bytes, on.b, parent.below, shape.arity);
     let table = record::level_count(t, on.level + 1) as u64;
     if table < link.0 as u64 + count as u64 {
-        return Child::Off;
+        return None;
     }
     if count == 0 {
-        return Child::Off;
+        return None;
     }
     let all = Blocks {
         first: BlockNumber(link.0),
@@ -224,9 +225,13 @@ fn child_with(t: &[u8], field: CountField, on: LevelAt, parent: Parent, j: u64) 
     let i = last_child(t, field, on.level + 1, all, j);
     let rest = rest_in(t, field, on.level + 1, i, j);
     if rest == 0 {
-        return Child::Off;
+        return None;
     }
-    Child::At(i, BlockPlace((i.0 - link.0) * parent.below), rest)
+    Some(Child {
+        block: i,
+        start: BlockPlace((i.0 - link.0) * parent.below),
+        rest,
+    })
 }
 
 // A linked block, which must be kept.
@@ -367,15 +372,15 @@ fn kept_step(t: &&[u8], field: CountField, on: LevelAt, block: BlockNumber, j: u
     }
     let below = walk_steps::quotient(on.b, shape.arity);
     let next = child_with(tree, field, on, Parent { block, below }, j);
-    let Child::At(i, o, rest) = next else {
+    let Some(child) = next else {
         return BROKEN;
     };
-    let further = enter(way, o, BlockPlace(0));
+    let further = enter(way, child.start, BlockPlace(0));
     let under = LevelAt {
         level: down,
         b: below,
     };
-    pointing_step(t, field, under, i, rest, further)
+    pointing_step(t, field, under, child.block, child.rest, further)
 }
 
 // From a pointing block to the target that contains its j-th occurrence; on the last level no block points.

@@ -31,14 +31,14 @@ kept_step-enter-further-requires t c = (omega (arith, c.requires.1.near, c.requi
 
 pub kept_step-pointing_step-requires : goal.kept_step-pointing_step-requires
 kept_step-pointing_step-requires t c = let low = laws.lower-level _ _ _ _ _ _ c.requires.0.on (shapes _ _ c.shape_of-shape.ensures) c.if-down-shape.false c.quotient-below.ensures in
-    let z = c.child_with-next.ensures.chosen _ _ _ c.in-At.is in (
+    let z = c.child_with-next.ensures.chosen _ c.in-Some.is in (
       omega (arith, c.decreases, low.level_in),
       (record { on = low; block_in = z.in_table }, laws.to-child _ _ _ _ _ _ _ _ c.requires.0 c.requires.1 low _ _ _ _ z c.enter-further.ensures),
     )
 
 pub kept_step-returns : goal.kept_step-returns
 kept_step-returns t c = let low = laws.lower-level _ _ _ _ _ _ c.requires.0.on (shapes _ _ c.shape_of-shape.ensures) c.if-down-shape.false c.quotient-below.ensures in
-    let z = c.child_with-next.ensures.chosen _ _ _ c.in-At.is in
+    let z = c.child_with-next.ensures.chosen _ c.in-Some.is in
     laws.by-child _ _ _ _ _ _ _ _ c.requires.0 c.requires.1 low _ _ _ _ z c.enter-further.ensures _ c.pointing_step.ensures
 
 pub pointing_step-to_kept-there-requires : goal.pointing_step-to_kept-there-requires
