@@ -37,9 +37,8 @@ use Rattle.theory_counts.specs.CountedSubstrings.{leaves-end, leaves-tally}
 use Rattle.theory_counts.specs.Finds as finds
 use Rattle.theory_counts.specs.Theorems as demands
 use Rattle.query_select.specs.declared.seek.CountField.{CountField}
-use Rattle.std.proofs.Common.{Some, None}
+use Rattle.std.proofs.Common.{Option, Some, None}
 use Rattle.query_select.specs.declared.seek.Target.{Target}
-use Rattle.query_select.specs.declared.seek.Target.TheVariants as target
 use Rattle.query_select.specs.declared.seek.Landing.{Landing}
 use Rattle.query_select.specs.declared.seek.Landing.TheVariants as landing
 use Rattle.byte_slices.specs.ByteSlices.{HasBytes}
@@ -178,22 +177,24 @@ module _ (t : List ℕ) (field : CountField) (level b i below j link count : ℕ
 
 -- The target that is chosen.
 
-case-target : (kept : Bool) (i f r : ℕ) (x : BlockNumber) (g : BlockPlace) (q : ℕ)
-    → cond kept (target.Kept (record { 0 = i }) (record { 0 = f }) r) target.Off ≡ target.Kept x g q
-    → (kept ≡ true) × (x ≡ record { 0 = i }) × (g.0 ≡ f) × (q ≡ r)
-case-target true i f r x g q e = let y : g ≡ record { 0 = f } = cc in (refl, cc, ap (λ (n : BlockPlace). n.0) y, cc)
-case-target false i f r x g q e = absurd (let z : ◌≡◌ {A = ℕ} 0 1 = cc in omega arith)
+case-target : (kept : Bool) (i f r : ℕ) (x : Target)
+    → cond kept (Some (record { block = record { 0 = i }; forward = record { 0 = f }; rest = r })) None ≡ Some x
+    → (kept ≡ true) × (x.block.0 ≡ i) × (x.forward.0 ≡ f) × (x.rest ≡ r)
+case-target true i f r x e =
+    let y : (record { block = record { 0 = i }; forward = record { 0 = f }; rest = r }) ≡ x = cc in
+    (refl, sym (ap (λ (n : Target). n.block.0) y), sym (ap (λ (n : Target). n.forward.0) y), sym (ap (λ (n : Target). n.rest) y))
+case-target false i f r x e = absurd (let z : ◌≡◌ {A = ℕ} 0 1 = cc in omega arith)
 
-case-no-target : (kept : Bool) (i f r : ℕ) → cond kept (target.Kept (record { 0 = i }) (record { 0 = f }) r) target.Off ≡ target.Off → kept ≡ true → ⊥
-case-no-target true i f r e k = let z : ◌≡◌ {A = ℕ} 0 1 = cc in omega arith
-case-no-target false i f r e k = bool_clash false k refl
+case-no-target : (kept : Bool) (x : Target) → cond kept (Some x) None ≡ None → kept ≡ true → ⊥
+case-no-target true x e k = let z : ◌≡◌ {A = ℕ} 0 1 = cc in omega arith
+case-no-target false x e k = bool_clash false k refl
 
 pub target_kept : (t : List ℕ) (level i f r kind : ℕ)
-    → i < N t level → kind ≡ at.kind t level i → kind ≡ 0 → target.Kept (record { 0 = i }) (record { 0 = f }) r ≡ target_at t level i f r
+    → i < N t level → kind ≡ at.kind t level i → kind ≡ 0 → Some (record { block = record { 0 = i }; forward = record { 0 = f }; rest = r }) ≡ target_at t level i f r
 unfolding target_at is_kept_block at.is_kept
 target_kept t level i f r kind hi is z = rw (lt-ltb _ _ hi, ← is, z)
 
-pub target-other : (t : List ℕ) (level i f r kind : ℕ) → i < N t level → kind ≡ at.kind t level i → (kind ≡ 0 → ⊥) → target.Off ≡ target_at t level i f r
+pub target-other : (t : List ℕ) (level i f r kind : ℕ) → i < N t level → kind ≡ at.kind t level i → (kind ≡ 0 → ⊥) → None ≡ target_at t level i f r
 unfolding target_at is_kept_block at.is_kept
 target-other t level i f r kind hi is z = rw (lt-ltb _ _ hi, ← is, ne_eqb kind 0 z)
 
@@ -209,14 +210,14 @@ module _ (t : List ℕ) (size c level b i j link : ℕ)
   at_block : i < N t level
   at_block = pointing-in t level i p.points
 
-  no-aim : (check_result t ≡ 0 → j ≤ at.inside t level i c → ⊥) → TargetWith t c level i b j target.Off
-  no-aim never = record { kept = λ x f r e. absurd (let z : ◌≡◌ {A = ℕ} 0 1 = cc in omega arith); off = λ e. never }
+  no-aim : (check_result t ≡ 0 → j ≤ at.inside t level i c → ⊥) → TargetWith t c level i b j None
+  no-aim never = record { kept = λ x e. absurd (let z : ◌≡◌ {A = ℕ} 0 1 = cc in omega arith); off = λ e. never }
 
   module _ (v : check_result t ≡ 0) where
     points-at : links.Pointing t level i
     points-at = (d t v).points level i p.on.level_in at_block (not-kept t level i p.points)
 
-  pub aim-past : at.level_count t level ≤ link → TargetWith t c level i b j target.Off
+  pub aim-past : at.level_count t level ≤ link → TargetWith t c level i b j None
   aim-past past = no-aim (λ v high. omega (arith, (points-at v).target_below))
 
   module _ (skip inside rank : ℕ) (skip_is : skip ≡ at.skip t level i c)
@@ -224,13 +225,13 @@ module _ (t : List ℕ) (size c level b i j link : ℕ)
     inside-link : inside ≡ at.inside t level (at.link t level i) c
     inside-link = rw link_is at inside_is
 
-    pub aim-first : (r : Target) → rank ≤ inside → r ≡ target_at t level link 0 rank → TargetWith t c level i b j r
+    pub aim-first : (r : Option Target) → rank ≤ inside → r ≡ target_at t level link 0 rank → TargetWith t c level i b j r
     unfolding target_at
     aim-first r within r-is = record {
-      kept = λ x f q e.
-          (let z = case-target (is_kept_block t level link) link 0 rank x f q (sym r-is ∙ e) in
-          let same : x.0 ≡ link = ap (λ (n : BlockNumber). n.0) z.1 in
-          let kept : is_kept_block t level x.0 ≡ true = rw same z.0 in
+      kept = λ x e.
+          (let z = case-target (is_kept_block t level link) link 0 rank x (sym r-is ∙ e) in
+          let same : x.block.0 ≡ link = z.1 in
+          let kept : is_kept_block t level x.block.0 ≡ true = rw same z.0 in
           record {
             kept = kept;
             rest_low = omega (arith, z.3);
@@ -239,8 +240,7 @@ module _ (t : List ℕ) (size c level b i j link : ℕ)
             either = inl (same ∙ link_is, z.2, z.3 ∙ rank_is ∙ ap (λ (n : ℕ). j + n) skip_is, omega (arith, z.3, inside-link));
           });
       off = λ e v high.
-          case-no-target (is_kept_block t level link)
-          link 0 rank (sym r-is ∙ e) (rw link_is (kept_block t level (at.link t level i) (points-at v).target_below (points-at v).target_kept));
+          case-no-target (is_kept_block t level link) _ (sym r-is ∙ e) (rw link_is (kept_block t level (at.link t level i) (points-at v).target_below (points-at v).target_kept));
     }
 
     module _ (past : inside < rank) where
@@ -249,16 +249,16 @@ module _ (t : List ℕ) (size c level b i j link : ℕ)
           (finds.second_holds t (k t v)
           (d t v) (a t v) c hc level i j p.on.level_in at_block (not-kept t level i p.points) low high (omega (arith, inside-link))).0
 
-      pub aim-no-second : link < at.level_count t level → at.level_count t level - link ≡ 1 → TargetWith t c level i b j target.Off
+      pub aim-no-second : link < at.level_count t level → at.level_count t level - link ≡ 1 → TargetWith t c level i b j None
       aim-no-second within one = no-aim (λ v high. omega (arith, (follows v high).below))
 
-      pub aim-second : (r : Target) → r ≡ target_at t level (link + 1) b (rank - inside) → TargetWith t c level i b j r
+      pub aim-second : (r : Option Target) → r ≡ target_at t level (link + 1) b (rank - inside) → TargetWith t c level i b j r
       unfolding target_at
       aim-second r r-is = record {
-        kept = λ x f q e.
-            (let z = case-target (is_kept_block t level (link + 1)) (link + 1) b (rank - inside) x f q (sym r-is ∙ e) in
-            let same : x.0 ≡ link + 1 = ap (λ (n : BlockNumber). n.0) z.1 in
-            let kept : is_kept_block t level x.0 ≡ true = rw same z.0 in
+        kept = λ x e.
+            (let z = case-target (is_kept_block t level (link + 1)) (link + 1) b (rank - inside) x (sym r-is ∙ e) in
+            let same : x.block.0 ≡ link + 1 = z.1 in
+            let kept : is_kept_block t level x.block.0 ≡ true = rw same z.0 in
             record {
               kept = kept;
               rest_low = omega (arith, z.3);
@@ -267,7 +267,7 @@ module _ (t : List ℕ) (size c level b i j link : ℕ)
               either = inr (omega (arith, same), z.2, omega (arith, inside-link), omega (arith, z.3, inside-link));
             });
         off = λ e v high.
-            case-no-target (is_kept_block t level (link + 1)) (link + 1) b (rank - inside) (sym r-is ∙ e)
+            case-no-target (is_kept_block t level (link + 1)) _ (sym r-is ∙ e)
             (rw link_is (kept_block t level (at.link t level i + 1) (follows v high).below (follows v high).kept));
       }
 
@@ -482,15 +482,14 @@ module _ (t : List ℕ) (field : CountField) (level b i j way : ℕ) (points : P
     pub aimed : HandedTo t field level b i j way x rest further
     aimed = record { kept = record { on = points.on; kept = am.kept }; seeks = to-aimed; found = by-aimed }
 
-  module _ (r : Target) (r-is : TargetWith t c₂ level i b j r) where
-    pub pointer-to : (x : BlockNumber) (forward : BlockPlace) (rest gap further : ℕ)
-        → r ≡ target.Kept x forward rest → gap ≡ at.gap t level i → further ≡ entering way forward.0 gap
-        → HandsOn t field level b i j way (landing.At x rest further)
-    pointer-to x forward rest gap further e gap_is further-is =
-        hands_to t field level b i j way x rest further
-        (aimed x.0 forward.0 rest gap further (r-is.kept x forward rest e) gap_is further-is)
+  module _ (r : Option Target) (r-is : TargetWith t c₂ level i b j r) where
+    pub pointer-to : (x : Target) (gap further : ℕ) → r ≡ Some x → gap ≡ at.gap t level i → further ≡ entering way x.forward.0 gap
+        → HandsOn t field level b i j way (landing.At x.block x.rest further)
+    pointer-to x gap further e gap_is further-is =
+        hands_to t field level b i j way x.block x.rest further
+        (aimed x.block.0 x.forward.0 x.rest gap further (r-is.kept x e) gap_is further-is)
 
-    pub pointer-off : r ≡ target.Off → HandsOn t field level b i j way landing.Off
+    pub pointer-off : r ≡ None → HandsOn t field level b i j way landing.Off
     pointer-off e = hands-off t field level b i j way (r-is.off e)
 
 -- From a block that may be kept or may point.

@@ -4,7 +4,6 @@ use Rattle.format.specs.Layout.{pieces, max_text}
 use Rattle.format.specs.Layout as at
 use Rattle.format.specs.TreeReading.{is_kept_block, pointing_block, check_result}
 use Rattle.layout.specs.declared.place.BlockNumber.{BlockNumber}
-use Rattle.layout.specs.declared.place.BlockPlace.{BlockPlace}
 use Rattle.walk_steps.specs.Steps.{OnLevel}
 use Rattle.theory_counts.specs.Finds.{Lands}
 use Rattle.theory_counts.specs.Theorems as counts
@@ -14,7 +13,6 @@ use Rattle.theory_paths.specs.Links.{linked-facts}
 use Rattle.query_select.specs.declared.seek.CountField.{CountField}
 use Rattle.query_select.specs.declared.seek.Child.{Child}
 use Rattle.query_select.specs.declared.seek.Target.{Target}
-use Rattle.query_select.specs.declared.seek.Target.TheVariants as target
 use Rattle.query_select.specs.declared.seek.Landing.{Landing}
 use Rattle.query_select.specs.declared.seek.Landing.TheVariants as landing
 
@@ -81,12 +79,13 @@ module _ (t : List ℕ) where
         × (rest ≡ j + at.skip t level i c - at.inside t level (at.link t level i) c))
 
   -- A linked block, if it is kept.
-  unfoldable pub target_at : ℕ → ℕ → ℕ → ℕ → Target
-  target_at level i forward rest = cond (is_kept_block t level i) (target.Kept (record { 0 = i }) (record { 0 = forward }) rest) target.Off
+  unfoldable pub target_at : ℕ → ℕ → ℕ → ℕ → Option Target
+  target_at level i forward rest =
+      cond (is_kept_block t level i) (Some (record { block = record { 0 = i }; forward = record { 0 = forward }; rest = rest })) None
 
-  pub record TargetWith (c level i b j : ℕ) (r : Target) : Type 0 where
-    pub kept : (x : BlockNumber) (forward : BlockPlace) (rest : ℕ) → r ≡ target.Kept x forward rest → Aimed c level i b j x.0 forward.0 rest
-    pub off : r ≡ target.Off → check_result t ≡ 0 → j ≤ at.inside t level i c → ⊥
+  pub record TargetWith (c level i b j : ℕ) (r : Option Target) : Type 0 where
+    pub kept : (x : Target) → r ≡ Some x → Aimed c level i b j x.block.0 x.forward.0 x.rest
+    pub off : r ≡ None → check_result t ≡ 0 → j ≤ at.inside t level i c → ⊥
 
   -- A level, the number of a counted byte, the number j of the occurrence in a block, and the way to that block, with at most `blocks` blocks entered.
   pub record Seeking (field : CountField) (level b j way blocks : ℕ) : Type 0 where

@@ -59,9 +59,10 @@ pub struct Child {
 
 // A kept block, its start relative to that of the first target, and the remaining j.
 #[derive(Clone, Copy)]
-pub enum Target {
-    Kept(BlockNumber, BlockPlace, u64),
-    Off,
+pub struct Target {
+    pub block: BlockNumber,
+    pub forward: BlockPlace,
+    pub rest: u64,
 }
 
 // A kept block, what is left of j in it, and the way to it.
@@ -242,20 +243,30 @@ fn kept_target(
     block: BlockNumber,
     forward: BlockPlace,
     rest: u64,
-) -> Target
+) -> Option<Target>
     requires { InTable t.now size level (at.full_length t.now level) block.0 }
     ensures { result ≡ target_at t.now level block.0 forward.0 rest }
 {
     let kind = record::kind(t, size, level, block);
     if kind == 0 {
-        return Target::Kept(block, forward, rest);
+        return Some(Target {
+            block,
+            forward,
+            rest,
+        });
     }
-    Target::Off
+    None
 }
 
 // The target of a pointing block that contains its j-th occurrence: the (j + skip)-th of the first target, or, if that is above its count inside, one of the
 // second.
-fn target_with(t: &[u8], field: CountField, on: LevelAt, block: BlockNumber, j: u64) -> Target
+fn target_with(
+    t: &[u8],
+    field: CountField,
+    on: LevelAt,
+    block: BlockNumber,
+    j: u64,
+) -> Option<Target>
     requires { (PointsIn t.now field.size on.level on.b block.0)
         × (field.number < at.counted_count t.now) × (1 ≤ j) × (j ≤ 1099511627776) }
     ensures { TargetWith t.now field.number on.level block.0 on.b j result }
@@ -265,7 +276,7 @@ fn target_with(t: &[u8], field: CountField, on: LevelAt, block: BlockNumber, j: 
     let link = record::link(t, size, on.level, block);
     let count = record::level_count(t, on.level);
     if count <= link.0 {
-        return Target::Off;
+        return None;
     }
     let rank = j + record::skip(t, size, on.level, block, number) as u64;
     let inside = record::inside(t, size, on.level, BlockNumber(link.0), number) as u64;
@@ -273,7 +284,7 @@ fn target_with(t: &[u8], field: CountField, on: LevelAt, block: BlockNumber, j: 
         return kept_target(t, size, on.level, BlockNumber(link.0), BlockPlace(0), rank);
     }
     if count - link.0 == 1 {
-        return Target::Off;
+        return None;
     }
     kept_target(
         t,
@@ -333,8 +344,8 @@ fn from_pointer(
     let gap = record::gap(t, field.size, on.level, block);
     let next = target_with(t, field, on, block, j);
     match next {
-        Target::Kept(i, forward, rest) => Landing::At(i, rest, enter(way, forward, gap)),
-        Target::Off => Landing::Off,
+        Some(target) => Landing::At(target.block, target.rest, enter(way, target.forward, gap)),
+        None => Landing::Off,
     }
 }
 

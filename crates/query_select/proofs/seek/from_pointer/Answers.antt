@@ -26,9 +26,9 @@ enter-requires c = (
   laws.gap_small _ _ _ _ _ _ _ c.requires.0 c.requires.1 _ c.gap-gap.ensures,
 )
 
-pub returns-in-Kept : goal.returns-in-Kept
-returns-in-Kept c = laws.pointer-to _ _ _ _ _ _ _ c.requires.0 c.requires.1 _ c.target_with-next.ensures _ _ _ _ _
-    c.in-Kept.is c.gap-gap.ensures c.enter.ensures
+pub returns-in-Some : goal.returns-in-Some
+returns-in-Some c = laws.pointer-to _ _ _ _ _ _ _ c.requires.0 c.requires.1 _ c.target_with-next.ensures _ _ _
+    c.in-Some.is c.gap-gap.ensures c.enter.ensures
 
-pub returns-in-Off : goal.returns-in-Off
-returns-in-Off c = laws.pointer-off _ _ _ _ _ _ _ c.requires.0 c.requires.1 _ c.target_with-next.ensures c.in-Off.is
+pub returns-in-None : goal.returns-in-None
+returns-in-None c = laws.pointer-off _ _ _ _ _ _ _ c.requires.0 c.requires.1 _ c.target_with-next.ensures c.in-None.is
