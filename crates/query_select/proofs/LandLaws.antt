@@ -40,7 +40,6 @@ use Rattle.query_select.specs.declared.seek.CountField.{CountField}
 use Rattle.std.proofs.Common.{Option, Some, None}
 use Rattle.query_select.specs.declared.seek.Target.{Target}
 use Rattle.query_select.specs.declared.seek.Landing.{Landing}
-use Rattle.query_select.specs.declared.seek.Landing.TheVariants as landing
 use Rattle.byte_slices.specs.ByteSlices.{HasBytes}
 use Rattle.query_select.specs.Seeks.{entering, KeptIn, PointsIn, Siblings, LastBefore, Chosen, ChildWith, Aimed, target_at}
 use Rattle.query_select.specs.Seeks.{TargetWith, Seeking, Landed, FoundIn, HandedTo, HandsOn}
@@ -394,13 +393,13 @@ module _ (t : List ℕ) (field : CountField) (level b i j way below : ℕ) (kept
 
 -- From a block to the kept block that it hands its j-th byte to.
 module _ (t : List ℕ) (field : CountField) (level b i j way : ℕ) where
-  hands-off : (check_result t ≡ 0 → j ≤ at.inside t level i field.number → ⊥) → HandsOn t field level b i j way landing.Off
-  hands-off never = record { to = λ x rest further e. absurd (let z : ◌≡◌ {A = ℕ} 0 1 = cc in omega arith); off = λ e. never }
+  hands-off : (check_result t ≡ 0 → j ≤ at.inside t level i field.number → ⊥) → HandsOn t field level b i j way None
+  hands-off never = record { to = λ x e. absurd (let z : ◌≡◌ {A = ℕ} 0 1 = cc in omega arith); off = λ e. never }
 
   hands_to : (x : BlockNumber) (rest further : ℕ)
-      → HandedTo t field level b i j way x.0 rest further → HandsOn t field level b i j way (landing.At x rest further)
+      → HandedTo t field level b i j way x.0 rest further → HandsOn t field level b i j way (Some (record { block = x; rest = rest; way = further }))
   hands_to x rest further h = record {
-    to = λ y q w e. (let f : y ≡ x = cc in let g : q ≡ rest = cc in let k : w ≡ further = cc in rw (f, g, k) h);
+    to = λ y e. (let f : (record { block = x; rest = rest; way = further }) ≡ y = cc in rw (← f) h);
     off = λ e. absurd (let z : ◌≡◌ {A = ℕ} 0 1 = cc in omega arith);
   }
 
@@ -410,7 +409,7 @@ module _ (t : List ℕ) (field : CountField) (level b i j way : ℕ) (points : P
   abbrev c₂ : ℕ
   c₂ = field.number
 
-  pub last-points : level + 1 ≡ H t → HandsOn t field level b i j way landing.Off
+  pub last-points : level + 1 ≡ H t → HandsOn t field level b i j way None
   last-points last = hands-off t field level b i j way (λ v high.
       omega (arith, (points-at t field.size c₂ level b i j (at.link t level i) points seeks.number_in seeks.low refl v).above))
 
@@ -484,18 +483,15 @@ module _ (t : List ℕ) (field : CountField) (level b i j way : ℕ) (points : P
 
   module _ (r : Option Target) (r-is : TargetWith t c₂ level i b j r) where
     pub pointer-to : (x : Target) (gap further : ℕ) → r ≡ Some x → gap ≡ at.gap t level i → further ≡ entering way x.forward.0 gap
-        → HandsOn t field level b i j way (landing.At x.block x.rest further)
+        → HandsOn t field level b i j way (Some (record { block = x.block; rest = x.rest; way = further }))
     pointer-to x gap further e gap_is further-is =
         hands_to t field level b i j way x.block x.rest further
         (aimed x.block.0 x.forward.0 x.rest gap further (r-is.kept x e) gap_is further-is)
 
-    pub pointer-off : r ≡ None → HandsOn t field level b i j way landing.Off
-    pointer-off e = hands-off t field level b i j way (r-is.off e)
-
 -- From a block that may be kept or may point.
 module _ (t : List ℕ) (field : CountField) (level b : ℕ) (i : BlockNumber) (j way : ℕ) (there : InTable t field.size level b i.0)
     (seeks : Seeking t field level b j way (2 * level)) (x : BlockKind) (x-is : x ≡ block_kind_at t level i.0 0) where
-  pub itself-kept : (n : BlockNumber) (p : BlockPlace) → x ≡ next.Kept n p → HandsOn t field level b i.0 j way (landing.At i j way)
+  pub itself-kept : (n : BlockNumber) (p : BlockPlace) → x ≡ next.Kept n p → HandsOn t field level b i.0 j way (Some (record { block = i; rest = j; way = way }))
   itself-kept n p e = hands_to t field level b i.0 j way i j way (record {
     kept = record { on = there.on; kept = (next-kept t level i.0 0 x x-is n p e).0 };
     seeks = record {
@@ -511,7 +507,7 @@ module _ (t : List ℕ) (field : CountField) (level b : ℕ) (i : BlockNumber) (
   pub itself-points : (n : BlockNumber) (p : BlockPlace) → x ≡ next.Points n p → PointsIn t field.size level b i.0
   itself-points n p e = record { on = there.on; points = (next-points t level i.0 0 x x-is n p e).1 }
 
-  pub itself-off : x ≡ next.Off → HandsOn t field level b i.0 j way landing.Off
+  pub itself-off : x ≡ next.Off → HandsOn t field level b i.0 j way None
   itself-off e = hands-off t field level b i.0 j way (λ v high. (let z = next-off t level i.0 0 x x-is e in
       neither (is_kept_block t level i.0) (pointing_block t level i.0) z.0 z.1 (one_of t v level i.0 there.on.level_in there.block_in)))
     where
@@ -520,6 +516,6 @@ module _ (t : List ℕ) (field : CountField) (level b : ℕ) (i : BlockNumber) (
       neither k p a b (inr h) = bool_clash p h b
 
 -- The kept block that was handed the j-th byte.
-module _ (t : List ℕ) (field : CountField) (level b i j way : ℕ) (x : Landing) (x-is : HandsOn t field level b i j way x) where
-  pub not-handed : x ≡ landing.Off → (r : ℕ) → FoundIn t field.number level i j way r
+module _ (t : List ℕ) (field : CountField) (level b i j way : ℕ) (x : Option Landing) (x-is : HandsOn t field level b i j way x) where
+  pub not-handed : x ≡ None → (r : ℕ) → FoundIn t field.number level i j way r
   not-handed e r = not_found t field.number level i j way r (λ v hc high. x-is.off e v high)

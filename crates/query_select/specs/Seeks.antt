@@ -3,7 +3,6 @@ use Rattle.std.specs.Prelude.{List, Option, Some, None, true, cond, ◌≡◌, �
 use Rattle.format.specs.Layout.{pieces, max_text}
 use Rattle.format.specs.Layout as at
 use Rattle.format.specs.TreeReading.{is_kept_block, pointing_block, check_result}
-use Rattle.layout.specs.declared.place.BlockNumber.{BlockNumber}
 use Rattle.walk_steps.specs.Steps.{OnLevel}
 use Rattle.theory_counts.specs.Finds.{Lands}
 use Rattle.theory_counts.specs.Theorems as counts
@@ -14,7 +13,6 @@ use Rattle.query_select.specs.declared.seek.CountField.{CountField}
 use Rattle.query_select.specs.declared.seek.Child.{Child}
 use Rattle.query_select.specs.declared.seek.Target.{Target}
 use Rattle.query_select.specs.declared.seek.Landing.{Landing}
-use Rattle.query_select.specs.declared.seek.Landing.TheVariants as landing
 
 -- The way on into a block: past the bytes before it and back by a gap, with one more block entered.
 unfoldable pub entering : ℕ → ℕ → ℕ → ℕ
@@ -112,6 +110,6 @@ module _ (t : List ℕ) where
     pub seeks : Seeking field level b rest further (2 * level + 1)
     pub found : (r : ℕ) → FoundIn field.number level x rest further r → FoundIn field.number level i j way r
 
-  pub record HandsOn (field : CountField) (level b i j way : ℕ) (r : Landing) : Type 0 where
-    pub to : (x : BlockNumber) (rest further : ℕ) → r ≡ landing.At x rest further → HandedTo field level b i j way x.0 rest further
-    pub off : r ≡ landing.Off → check_result t ≡ 0 → j ≤ at.inside t level i field.number → ⊥
+  pub record HandsOn (field : CountField) (level b i j way : ℕ) (r : Option Landing) : Type 0 where
+    pub to : (x : Landing) → r ≡ Some x → HandedTo field level b i j way x.block.0 x.rest x.way
+    pub off : r ≡ None → check_result t ≡ 0 → j ≤ at.inside t level i field.number → ⊥

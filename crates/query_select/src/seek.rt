@@ -67,9 +67,10 @@ pub struct Target {
 
 // A kept block, what is left of j in it, and the way to it.
 #[derive(Clone, Copy)]
-pub enum Landing {
-    At(BlockNumber, u64, u64),
-    Off,
+pub struct Landing {
+    pub block: BlockNumber,
+    pub rest: u64,
+    pub way: u64,
 }
 
 // The word of a step that finds no place: no text has so many bytes.
@@ -333,20 +334,21 @@ fn from_pointer(
     block: BlockNumber,
     j: u64,
     way: u64,
-) -> Landing
+) -> Option<Landing>
     requires { (PointsIn t.now field.size on.level on.b block.0) × (Seeking t.now field on.level on.b j way (2 * on.level)) }
     ensures { HandsOn t.now field on.level on.b block.0 j way result }
 {
     let shape = fields::shape_of(t);
     if on.level + 1 == shape.levels {
-        return Landing::Off;
+        return None;
     }
     let gap = record::gap(t, field.size, on.level, block);
-    let next = target_with(t, field, on, block, j);
-    match next {
-        Some(target) => Landing::At(target.block, target.rest, enter(way, target.forward, gap)),
-        None => Landing::Off,
-    }
+    let target = target_with(t, field, on, block, j)?;
+    Some(Landing {
+        block: target.block,
+        rest: target.rest,
+        way: enter(way, target.forward, gap),
+    })
 }
 
 // Where a block hands its j-th byte: itself if it is kept, else a kept block that it points to.
@@ -357,14 +359,18 @@ fn to_kept(
     block: BlockNumber,
     j: u64,
     way: u64,
-) -> Landing
+) -> Option<Landing>
     requires { (InTable t.now field.size on.level on.b block.0) × (Seeking t.now field on.level on.b j way (2 * on.level)) }
     ensures { HandsOn t.now field on.level on.b block.0 j way result }
 {
     match walk_steps::classify_block(t, field.size, on.level, on.b, block, BlockPlace(0)) {
-        BlockKind::Kept(_, _) => Landing::At(block, j, way),
+        BlockKind::Kept(_, _) => Some(Landing {
+            block,
+            rest: j,
+            way,
+        }),
         BlockKind::Points(_, _) => from_pointer(t, field, on, block, j, way),
-        BlockKind::Off => Landing::Off,
+        BlockKind::Off => None,
     }
 }
 
@@ -410,10 +416,10 @@ fn pointing_step(
 {
     let tree = *t;
     let there = to_kept(tree, field, on, block, j, way);
-    let Landing::At(i, rest, further) = there else {
+    let Some(landing) = there else {
         return BROKEN;
     };
-    kept_step(t, field, on, i, rest, further)
+    kept_step(t, field, on, landing.block, landing.rest, landing.way)
 }
 
 // The block of level 0 that contains the j-th occurrence in the text.

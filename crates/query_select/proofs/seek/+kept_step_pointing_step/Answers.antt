@@ -48,8 +48,8 @@ pub pointing_step-returns-in_default : goal.pointing_step-returns-in_default
 pointing_step-returns-in_default t c = laws.not-handed _ _ _ _ _ _ _ _ c.to_kept-there.ensures c.in_default.is _
 
 pub pointing_step-kept_step-requires : goal.pointing_step-kept_step-requires
-pointing_step-kept_step-requires t c = let z = c.to_kept-there.ensures.to _ _ _ c.in-At.is in
+pointing_step-kept_step-requires t c = let z = c.to_kept-there.ensures.to _ c.in-Some.is in
     (omega (arith, c.decreases), (z.kept, z.seeks))
 
 pub pointing_step-returns : goal.pointing_step-returns
-pointing_step-returns t c = (c.to_kept-there.ensures.to _ _ _ c.in-At.is).found _ c.kept_step.ensures
+pointing_step-returns t c = (c.to_kept-there.ensures.to _ c.in-Some.is).found _ c.kept_step.ensures
