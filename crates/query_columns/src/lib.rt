@@ -48,15 +48,13 @@ fn copy(t: &[u8], h: Header, width: u32, rows: u32, a: u32, buffer: &mut [u8]) -
     ensures row_by_columns_answer { IsRowByColumnsAnswer t.now width a (length buffer.old) result }
     ensures buffer_after { buffer.new ≡ row_by_columns_buffer t.now width a buffer.old }
 {
-    let mut b: u32 = 0;
-    while b < width {
+    for b in 0..width {
         let answer = read_by_header::byte_at(t, h, TextPlace(b * rows + a));
         let ByteAnswer::Byte(value, _) = answer else {
             byte_slices::clear(buffer, width as usize);
             return SpanAnswer::Refused(read_by_header::number(answer));
         };
         buffer[b as usize] = value;
-        b += 1;
     }
     SpanAnswer::Bytes(width, 0)
 }

@@ -16,8 +16,7 @@ use Rattle.layout.specs.Header.{header_answer}
 use Rattle.layout.specs.HeaderFields.{header_refused, header-small}
 use Rattle.sha256.specs.declared.HashState.{HashState}
 use Rattle.sha256.specs.Sha256.{state_bytes, hash_of, sha256}
-use Rattle.query_digest.specs.declared.HashAnswer.{HashAnswer}
-use Rattle.query_digest.specs.declared.HashAnswer.TheVariants.{Value, BrokenPath}
+use Rattle.std.proofs.Common.{Option, Some, None}
 use Rattle.query_digest.specs.Digest.{digest_refusal, digest_buffer}
 use Rattle.query_digest.specs.TextHashed.{hash_answer}
 
@@ -43,33 +42,33 @@ module _ (t out : List ℕ) where
     unfolding digest_refusal
     short l = stays 12 (rw (passes, lt-leb 32 (length out) l)) (λ z. omega arith)
 
-    module _ (room : 32 ≤ length out) (x : HashAnswer) (x-is : x ≡ hash_answer t 0) where
+    module _ (room : 32 ≤ length out) (x : Option HashState) (x-is : x ≡ hash_answer t 0) where
       asked : digest_refusal t (length out) ≡ ask 14 (paths_hold t 0 (at.text_length t)) 0
       unfolding digest_refusal
       asked = rw (passes, le-leb 32 (length out) room)
 
-      whole : x ≡ cond (paths_hold t 0 (at.text_length t)) (Value (hash_of (text_of t))) BrokenPath
+      whole : x ≡ cond (paths_hold t 0 (at.text_length t)) (Some (hash_of (text_of t))) None
       unfolding hash_answer
       whole = let z = sub-zero (at.text_length t) in rw z at x-is
 
-      pub broken : x ≡ BrokenPath → (after : List ℕ) → after ≡ replicate 32 0 ++ drop 32 out → DigestResult 14 after
+      pub broken : x ≡ None → (after : List ℕ) → after ≡ replicate 32 0 ++ drop 32 out → DigestResult 14 after
       unfolding digest_buffer buffer_after
       broken e after is =
           let b = none (paths_hold t 0 (at.text_length t)) (sym e ∙ whole) in
           let n : digest_refusal t (length out) ≡ 14 = asked ∙ rw b in
           (sym n, is ∙ rw n)
         where
-          none : (b : Bool) → BrokenPath ≡ cond b (Value (hash_of (text_of t))) BrokenPath → b ≡ false
+          none : (b : Bool) → None ≡ cond b (Some (hash_of (text_of t))) None → b ≡ false
           none true e = absurd (let z : ◌≡◌ {A = ℕ} 0 1 = cc in omega arith)
           none false e = refl
 
-      pub answered : (v : HashState) → x ≡ Value v → (after : List ℕ) → after ≡ state_bytes v ++ drop 32 out → DigestResult 0 after
+      pub answered : (v : HashState) → x ≡ Some v → (after : List ℕ) → after ≡ state_bytes v ++ drop 32 out → DigestResult 0 after
       unfolding digest_buffer buffer_after sha256
       answered v e after is =
           let b = all (paths_hold t 0 (at.text_length t)) (sym e ∙ whole) in
           let n : digest_refusal t (length out) ≡ 0 = asked ∙ rw b.0 in
           (sym n, is ∙ rw (n, b.1))
         where
-          all : (b : Bool) → Value v ≡ cond b (Value (hash_of (text_of t))) BrokenPath → (b ≡ true) × (v ≡ hash_of (text_of t))
+          all : (b : Bool) → Some v ≡ cond b (Some (hash_of (text_of t))) None → (b ≡ true) × (v ≡ hash_of (text_of t))
           all true e = (refl, cc)
           all false e = absurd (let z : ◌≡◌ {A = ℕ} 0 1 = cc in omega arith)

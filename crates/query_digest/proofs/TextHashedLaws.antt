@@ -24,7 +24,7 @@ use Rattle.query_access.specs.ReadByRuns.{IsCopyAnswer}
 use Rattle.sha256.specs.declared.HashState.{HashState}
 use Rattle.sha256.specs.Sha256.{initial_state, padding, state_after, hash_of}
 use Rattle.sha256.specs.Sha256Laws.{state-continued, hash-by-parts}
-use Rattle.query_digest.specs.declared.HashAnswer.TheVariants.{Value, BrokenPath}
+use Rattle.std.proofs.Common.{Some, None}
 use Rattle.query_digest.specs.TextHashed.{hash_answer, PartRead, HashedUpTo}
 
 -- One part: the result of `copy` decides whether its paths hold.
@@ -125,10 +125,10 @@ module _ (t : List ℕ) (p x : ℕ) (in_text : p + x ≤ at.text_length t) where
   unfolding hash_answer
   from_on e q q-is = rw (q-is, rest_is, e)
 
-  pub from-broken : paths_hold t p x ≡ false → BrokenPath ≡ hash_answer t p
+  pub from-broken : paths_hold t p x ≡ false → None ≡ hash_answer t p
   unfolding hash_answer
   from-broken e = rw (rest_is, e)
 
-pub from_all : (t : List ℕ) (p n : ℕ) → n ≡ at.text_length t → paths_hold t p (n - p) ≡ true → (f : HashState) → f ≡ hash_of (text_of t) → Value f ≡ hash_answer t p
+pub from_all : (t : List ℕ) (p n : ℕ) → n ≡ at.text_length t → paths_hold t p (n - p) ≡ true → (f : HashState) → f ≡ hash_of (text_of t) → Some f ≡ hash_answer t p
 unfolding hash_answer
 from_all t p n n-is e f f-is = let z : paths_hold t p (at.text_length t - p) ≡ true = rw n-is at e in rw (z, f-is)

@@ -17,13 +17,6 @@ const PART: u32 = 1024;
 
 const PART_BLOCKS: usize = 16;
 
-// The hash value of the whole text, or the path of some place breaks.
-#[derive(Clone, Copy)]
-pub enum HashAnswer {
-    Value(HashState),
-    BrokenPath,
-}
-
 // Writes the SHA-256 of the bytes that the tree's paths give to the first 32 bytes of `out`.
 pub fn digest(t: &[u8], out: &mut [u8]) -> u32
     ensures value { result ≡ digest_refusal t.now (length out.old) }
@@ -46,7 +39,7 @@ fn digest_at(t: &[u8], h: Header, out: &mut [u8]) -> u32
         return 13;
     }
     let hashed = hash(t, h);
-    let HashAnswer::Value(value) = hashed else {
+    let Some(value) = hashed else {
         byte_slices::clear(out, 32);
         return 14;
     };
@@ -54,8 +47,8 @@ fn digest_at(t: &[u8], h: Header, out: &mut [u8]) -> u32
     0
 }
 
-// Hashes the text. The array is made here and not in the loop's function, whose proof would carry its 1,024 entries.
-fn hash(t: &[u8], h: Header) -> HashAnswer
+// Hashes the text; None if the path of some place breaks. The array is made here and not in the loop's function, whose proof would carry its 1,024 entries.
+fn hash(t: &[u8], h: Header) -> Option<HashState>
     requires { HeaderOf t.now h }
     ensures { result ≡ hash_answer t.now 0 }
 {
@@ -64,7 +57,7 @@ fn hash(t: &[u8], h: Header) -> HashAnswer
 }
 
 // Hashes the text part by part in the buffer `part`.
-fn hash_parts(t: &[u8], h: Header, part: &mut [u8]) -> HashAnswer
+fn hash_parts(t: &[u8], h: Header, part: &mut [u8]) -> Option<HashState>
     requires { (HeaderOf t.now h) × (length part.old ≡ 1024) }
     ensures { result ≡ hash_answer t.now 0 }
 {
@@ -72,7 +65,7 @@ fn hash_parts(t: &[u8], h: Header, part: &mut [u8]) -> HashAnswer
     let parts = h.text_length / PART;
     for k in 0..parts {
         if !read_part(t, h, PART * k, PART, part) {
-            return HashAnswer::BrokenPath;
+            return None;
         }
         s = sha256::hash_blocks(s, part, PART_BLOCKS);
     }
@@ -80,19 +73,19 @@ fn hash_parts(t: &[u8], h: Header, part: &mut [u8]) -> HashAnswer
 }
 
 // Hashes the rest of the text from `at` on, less than a part, and the padding.
-fn last_part(t: &[u8], h: Header, at: u32, s: HashState, part: &mut [u8]) -> HashAnswer
+fn last_part(t: &[u8], h: Header, at: u32, s: HashState, part: &mut [u8]) -> Option<HashState>
     requires { (HeaderOf t.now h) × (HashedUpTo t.now at s) × (h.text_length - at ≤ length part.old) }
     ensures { result ≡ hash_answer t.now at }
 {
     let left = h.text_length - at;
     if !read_part(t, h, at, left, part) {
-        return HashAnswer::BrokenPath;
+        return None;
     }
     let end = left as usize;
     let n = end / 64;
     let from = 64 * n;
     let v = sha256::hash_blocks(s, part, n);
-    HashAnswer::Value(sha256::finalize(v, &part[from..end], h.text_length as u64))
+    Some(sha256::finalize(v, &part[from..end], h.text_length as u64))
 }
 
 // Reads `len` bytes of the text from `at` on to the start of `part`. Returns whether all their paths hold.

@@ -17,8 +17,7 @@ use Rattle.layout.specs.declared.header.HeaderAnswer.TheVariants as header
 use Rattle.layout.specs.Header.{header_answer}
 use Rattle.layout.specs.HeaderFields.{header_refused}
 use Rattle.query_places.specs.declared.PlacesAnswer.{PlacesAnswer}
-use Rattle.query_places.specs.declared.pattern_seek.Sought.{Sought}
-use Rattle.query_places.specs.declared.pattern_seek.Sought.TheVariants.{All, Broken}
+use Rattle.std.proofs.Common.{Option, Some, None}
 use Rattle.query_places.specs.Places.{max_pattern, pattern_ok, places_of, places_refusal, places_answer, places_buffer, places_reply, IsPlacesAnswer}
 use Rattle.query_places.specs.TableFilled.{SeekAnswer}
 use Rattle.query_places.proofs.FillLaws.{filled-all, filled-take}
@@ -34,11 +33,11 @@ pub places-answered : (t P table after : List ℕ) (r : PlacesAnswer) → NeverZ
 places-answered t P table after r numbered k = (record { answers = k.answers; numbered = numbered }, k.leaves)
 
 -- The result of a pass.
-all-cases : (b : Bool) (x n : ℕ) → All n ≡ cond b (All x) Broken → (b ≡ true) × (n ≡ x)
+all-cases : (b : Bool) (x n : ℕ) → Some n ≡ cond b (Some x) None → (b ≡ true) × (n ≡ x)
 all-cases true x n e = (refl, cc)
 all-cases false x n e = absurd (let z : ◌≡◌ {A = ℕ} 0 1 = cc in omega arith)
 
-broken-cases : (b : Bool) (x : ℕ) → Broken ≡ cond b (All x) Broken → b ≡ false
+broken-cases : (b : Bool) (x : ℕ) → None ≡ cond b (Some x) None → b ≡ false
 broken-cases true x e = absurd (let z : ◌≡◌ {A = ℕ} 0 1 = cc in omega arith)
 broken-cases false x e = refl
 
@@ -78,13 +77,13 @@ module _ (t P table : List ℕ) where
       number-asked = rw (passes, le-leb 1 (length P) low, le-leb (length P) max_pattern high)
 
       -- The first pass, which leaves the table alone.
-      module _ (room : ℕ) (zeros few : List ℕ) (x : Sought) (k : SeekAnswer t P room zeros x few) where
-        pub path-breaks : x ≡ Broken → Listed t P table (refused 14) table
+      module _ (room : ℕ) (zeros few : List ℕ) (x : Option ℕ) (k : SeekAnswer t P room zeros x few) where
+        pub path-breaks : x ≡ None → Listed t P table (refused 14) table
         path-breaks e =
             let b = broken-cases (paths_hold t 0 (at.text_length t)) (length (places_of t P)) (sym e ∙ k.answers) in
             number-leaves 13 (number-asked ∙ rw b)
 
-        module _ (n : ℕ) (e : x ≡ All n) where
+        module _ (n : ℕ) (e : x ≡ Some n) where
           all : (paths_hold t 0 (at.text_length t) ≡ true) × (n ≡ length (places_of t P))
           all = all-cases (paths_hold t 0 (at.text_length t)) (length (places_of t P)) n (sym e ∙ k.answers)
 
@@ -107,19 +106,19 @@ module _ (t P table : List ℕ) where
                 written last (rw kept at is)
 
             -- many, written in the second
-            pub written_all : (y : Sought) (last : List ℕ) → SeekAnswer t P n table y last
+            pub written_all : (y : Option ℕ) (last : List ℕ) → SeekAnswer t P n table y last
                 → Listed t P table (record { number = 0; value = n; entered = 0 }) last
             written_all y last w =
                 written last (w.table_is all.0
                 ∙ filled-all (places_of t P) n table (omega (arith, all.1)) ∙ ap (λ (m : ℕ). places_of t P ++ drop m table) (sym all.1))
 
       -- One pass, with room for all places that there can be.
-      pub no-break : (room : ℕ) (before last : List ℕ) (x : Sought) → SeekAnswer t P room before x last → links_ok t ≡ true → x ≡ Broken → ⊥
+      pub no-break : (room : ℕ) (before last : List ℕ) (x : Option ℕ) → SeekAnswer t P room before x last → links_ok t ≡ true → x ≡ None → ⊥
       no-break room before last x k linked e =
           bool_clash _ (paths-all t passes linked 0 (at.text_length t) (omega arith))
           (broken-cases (paths_hold t 0 (at.text_length t)) (length (places_of t P)) (sym e ∙ k.answers))
 
-      pub written_once : (room : ℕ) (last : List ℕ) (x : Sought) → SeekAnswer t P room table x last → (n : ℕ) → x ≡ All n
+      pub written_once : (room : ℕ) (last : List ℕ) (x : Option ℕ) → SeekAnswer t P room table x last → (n : ℕ) → x ≡ Some n
           → room ≡ at.text_length t + 1 - length P → room ≤ length table → Listed t P table (record { number = 0; value = n; entered = 0 }) last
       written_once room last x k n e is fits =
           let few : length (places_of t P) ≤ room = omega (arith, places-few t P low) in

@@ -10,7 +10,6 @@ ghost use Rattle.layout.specs.HeaderFields.{HeaderOf};
 ghost use Rattle.search_kmp.specs.Borders.{Borders};
 ghost use Rattle.query_places.specs.Places.{max_pattern, places_buffer, IsPlacesAnswer, IsPlacesWordsAnswer};
 
-use crate::pattern_seek::Sought;
 use layout::header;
 use layout::header::{Header, HeaderAnswer};
 
@@ -110,7 +109,7 @@ fn fill_once(
     ensures table_after { table.new ≡ places_buffer t.now pattern.now table.old }
 {
     let written = pattern_seek::seek(t, h, pattern, borders, most, table);
-    let Sought::All(number) = written else {
+    let Some(number) = written else {
         return PlacesAnswer::Refused(PATH_BREAKS);
     };
     PlacesAnswer::Number(number)
@@ -131,7 +130,7 @@ fn fill_counted(
 {
     let mut few = [0u32; FEW];
     let counted = pattern_seek::seek(t, h, pattern, borders, FEW as u32, &mut few);
-    let Sought::All(number) = counted else {
+    let Some(number) = counted else {
         return PlacesAnswer::Refused(PATH_BREAKS);
     };
     let words = number as usize;

@@ -28,13 +28,6 @@ struct Unread {
     before: Progress,
 }
 
-// The number of places, or that a path breaks.
-#[derive(Clone, Copy)]
-pub enum Sought {
-    All(u32),
-    Broken,
-}
-
 // Writes a place that was found, if it is among the first `room`.
 fn note(table: &mut [u32], room: u32, found: u32, place: TextPlace)
     requires { room ≤ length table.old }
@@ -136,7 +129,7 @@ fn feed(
     at
 }
 
-// Reads the whole text; writes the first `room` places to the table.
+// Reads the whole text and writes the first `room` places to the table. Returns the number of places; None if a path breaks.
 pub fn seek(
     t: &[u8],
     h: Header,
@@ -144,7 +137,7 @@ pub fn seek(
     borders: &[u8],
     room: u32,
     table: &mut [u32],
-) -> Sought
+) -> Option<u32>
     requires header_of { (HeaderOf t.now h) × (1 ≤ length pattern.now) × (room ≤ length table.old) }
     requires pattern_len_bound { (length pattern.now ≤ 256) × (length pattern.now ≤ length borders.now) × Borders pattern.now borders.now (length pattern.now) }
     ensures { SeekAnswer t.now pattern.now room table.old result table.new }
@@ -158,9 +151,9 @@ pub fn seek(
     while m.place.0 < h.text_length {
         let range = read_by_header::range_at(t, h, m.place, MOST);
         let RunRangeAnswer::At(part) = range else {
-            return Sought::Broken;
+            return None;
         };
         m = feed(t, Unread { part, before: m }, pattern, borders, room, table);
     }
-    Sought::All(m.found)
+    Some(m.found)
 }

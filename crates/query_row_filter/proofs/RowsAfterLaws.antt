@@ -31,7 +31,7 @@ use Rattle.query_access.specs.ReadByRuns.{ReadsOn, IsRangeAnswer}
 use Rattle.query_access.proofs.RunLaws.{reads-substring}
 use Rattle.query_row_filter.specs.declared.NextRowAnswer.{NextRowAnswer}
 use Rattle.query_row_filter.specs.declared.NextRowAnswer.TheVariants.{Row, Nothing, Refused}
-use Rattle.query_row_filter.specs.declared.rows_after.StartPlace.TheVariants as start
+use Rattle.std.proofs.Common.{Some, None}
 use Rattle.query_row_filter.specs.RowsAfter.{FilterStartIs, PartFrom, FromRow, answer_of, end_result, SearchFrom, limited}
 
 -- The rest of a text, cut after x bytes.
@@ -55,17 +55,17 @@ module _ (newlines : ℕ) (x : NextRowAnswer) where
 
 -- Where the rows after a mark begin.
 start-at : (t : List ℕ) (ok mark p : ℕ)
-    → p ≤ at.text_length t → (ok ≡ 0 → rows_of (drop p (text_of t)) ≡ drop mark (rows_of (text_of t))) → FilterStartIs t ok mark (start.At (record { 0 = p }))
+    → p ≤ at.text_length t → (ok ≡ 0 → rows_of (drop p (text_of t)) ≡ drop mark (rows_of (text_of t))) → FilterStartIs t ok mark (Some (record { 0 = p }))
 start-at t ok mark p low is = record {
   place-in = λ s e. (let z : record { 0 = p } ≡ s = cc in let y : p ≡ s.0 = ap (λ (w : TextPlace). w.0) z in rw (← y) low);
   place_is = λ s e v. (let z : record { 0 = p } ≡ s = cc in let y : p ≡ s.0 = ap (λ (w : TextPlace). w.0) z in rw (← y) (is v));
   broken = λ e v. absurd (let z : ◌≡◌ {A = ℕ} 0 1 = cc in omega arith);
 }
 
-pub start_first : (t : List ℕ) (ok mark : ℕ) → mark ≡ 0 → FilterStartIs t ok mark (start.At (record { 0 = 0 }))
+pub start_first : (t : List ℕ) (ok mark : ℕ) → mark ≡ 0 → FilterStartIs t ok mark (Some (record { 0 = 0 }))
 start_first t ok mark e = rw e (start-at t ok 0 0 (omega arith) (λ v. refl))
 
-pub start-broken : (t : List ℕ) (ok mark : ℕ) → (ok ≡ 0 → ⊥) → FilterStartIs t ok mark start.Broken
+pub start-broken : (t : List ℕ) (ok mark : ℕ) → (ok ≡ 0 → ⊥) → FilterStartIs t ok mark None
 start-broken t ok mark never = record {
   place-in = λ s e. absurd (let z : ◌≡◌ {A = ℕ} 0 1 = cc in omega arith);
   place_is = λ s e v. absurd (never v);
@@ -74,7 +74,7 @@ start-broken t ok mark never = record {
 
 -- After a byte 10.
 pub start-past : (t : List ℕ) (ok mark p : ℕ) → (ok ≡ 0 → check_result t ≡ 0)
-    → Selected t 10 mark → p < at.text_length t → (ok ≡ 0 → p ≡ place_of 10 mark (text_of t)) → FilterStartIs t ok mark (start.At (record { 0 = p + 1 }))
+    → Selected t 10 mark → p < at.text_length t → (ok ≡ 0 → p ≡ place_of 10 mark (text_of t)) → FilterStartIs t ok mark (Some (record { 0 = p + 1 }))
 start-past t ok mark p sound s low is =
     start-at t ok mark (p + 1) (omega arith) (λ v. rows-past (text_of t) mark p (rw (is v) (counts.is-nth t (sound v) 10 mark s)))
 

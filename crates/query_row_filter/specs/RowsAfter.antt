@@ -1,5 +1,5 @@
 -- Contracts of the steps of a search for the next selected row.
-use Rattle.std.specs.Prelude.{List, Bool, true, cond, ◌≡◌, ◌⊎◌, ℕ, ◌+◌, ◌-◌, ◌≤◌, ◌<◌, drop, ltb}
+use Rattle.std.specs.Prelude.{List, Option, Some, None, Bool, true, cond, ◌≡◌, ◌⊎◌, ℕ, ◌+◌, ◌-◌, ◌≤◌, ◌<◌, drop, ltb}
 use Rattle.text.specs.declared.TextPlace.{TextPlace}
 use Rattle.text.specs.Text.{rows_of}
 use Rattle.format.specs.Layout as at
@@ -13,15 +13,13 @@ use Rattle.query_row_filter.specs.declared.NextRowAnswer.{NextRowAnswer}
 use Rattle.query_row_filter.specs.declared.NextRowAnswer.TheVariants.{Row, Nothing, Refused}
 use Rattle.query_row_filter.specs.declared.rows_after.RowsStart.{RowsStart}
 use Rattle.query_row_filter.specs.declared.rows_after.RowsStart.TheVariants as begins
-use Rattle.query_row_filter.specs.declared.rows_after.StartPlace.{StartPlace}
-use Rattle.query_row_filter.specs.declared.rows_after.StartPlace.TheVariants as start
 use Rattle.query_row_filter.specs.AllowedRows.{newline_refusal, AllowedAnswer}
 
 -- The place is in the text, and where `ok` is 0 the rows after the mark begin there and the walk does not fail.
-pub record FilterStartIs (t : List ℕ) (ok mark : ℕ) (r : StartPlace) : Type 0 where
-  pub place-in : (p : TextPlace) → r ≡ start.At p → p.0 ≤ at.text_length t
-  pub place_is : (p : TextPlace) → r ≡ start.At p → ok ≡ 0 → rows_of (drop p.0 (text_of t)) ≡ drop mark (rows_of (text_of t))
-  pub broken : r ≡ start.Broken → ok ≡ 0 → ⊥
+pub record FilterStartIs (t : List ℕ) (ok mark : ℕ) (r : Option TextPlace) : Type 0 where
+  pub place-in : (p : TextPlace) → r ≡ Some p → p.0 ≤ at.text_length t
+  pub place_is : (p : TextPlace) → r ≡ Some p → ok ≡ 0 → rows_of (drop p.0 (text_of t)) ≡ drop mark (rows_of (text_of t))
+  pub broken : r ≡ None → ok ≡ 0 → ⊥
 
 -- The rows after the mark begin at place p of a tree with this total of byte 10.
 pub record StartFacts (t : List ℕ) (ok mark p newlines : ℕ) : Type 0 where

@@ -42,7 +42,7 @@ pub fn begin(t: &[u8], h: Header, guide: &[u8], used: bool, mark: u32) -> RowsSt
         return RowsStart::Answered(NextRowAnswer::Nothing(mark));
     }
     let place = start(t, h, guide, used, number, mark);
-    let StartPlace::At(p) = place else {
+    let Some(p) = place else {
         return RowsStart::Answered(NextRowAnswer::Refused(14));
     };
     RowsStart::At(p, newlines)
@@ -106,27 +106,21 @@ fn end_of_text(selected: bool, empty: bool, q: u32) -> NextRowAnswer
     NextRowAnswer::Nothing(q)
 }
 
-// Where the rows after a mark begin; Broken if the walk to that place fails.
-#[derive(Clone, Copy)]
-pub enum StartPlace {
-    At(TextPlace),
-    Broken,
-}
-
-// The place after the byte 10 that ends the mark's row (select); for mark 0 the text's start.
-fn start(t: &[u8], h: Header, guide: &[u8], used: bool, number: u32, mark: u32) -> StartPlace
+// Where the rows after a mark begin: the place after the byte 10 that ends the mark's row (select); for mark 0 the text's start. None if the walk to that
+// place fails.
+fn start(t: &[u8], h: Header, guide: &[u8], used: bool, number: u32, mark: u32) -> Option<TextPlace>
     requires { (HeaderOf t.now h) × (is_counted t.now 10 ≡ true) × (mark ≤ total t.now (number_of_byte t.now 10))
         × (number ≡ number_of_byte t.now 10) × (number < h.settings.counted) }
     ensures { FilterStartIs t.now (settled_by t.now guide.now used) mark result }
 {
     if mark == 0 {
-        return StartPlace::At(TextPlace(0));
+        return Some(TextPlace(0));
     }
     let found = row_bounds::find_newline(t, h, guide, used, number, mark);
     let FindAnswer::At(end, _) = found else {
-        return StartPlace::Broken;
+        return None;
     };
-    StartPlace::At(TextPlace(end.0 + 1))
+    Some(TextPlace(end.0 + 1))
 }
 
 // Whether a row number is above total + 1. The sum does not overflow: it is only formed where q is above the total.

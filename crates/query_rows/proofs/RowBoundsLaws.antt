@@ -47,7 +47,7 @@ use Rattle.query_select.specs.SoughtPlaces.{Sought}
 use Rattle.query_select.proofs.FindByHeaderLaws as find
 use Rattle.theory_counts.specs.CountsLocal.{byte_of}
 use Rattle.query_rows.specs.declared.next_newline.Newline.{Newline}
-use Rattle.query_rows.specs.declared.next_newline.Newline.TheVariants as newline
+use Rattle.std.proofs.Common.{Option, Some, None}
 use Rattle.query_rows.specs.declared.row_bounds.RowStart.{RowStart}
 use Rattle.query_rows.specs.declared.row_bounds.RowStart.TheVariants as start
 use Rattle.query_rows.specs.RowSpans.{settled_by, Refuses, Spans, EdgesOf}
@@ -294,24 +294,24 @@ module _ (t : List ℕ) (ok : ℕ) (sound : ok ≡ 0 → check_result t ≡ 0) (
     in-book : ok ≡ 0 → q ≤ count_in 10 (text_of t)
     in-book v = rw (counts.total-of-text t (sound v) 10 chosen.counted) at chosen.high
 
-    module _ (y : Newline) (ends : NewlineIs t p.0 y) where
-      pub edges-no-end : y ≡ newline.Missing → EdgesOf t ok (number t ok q) (row t ok q) end_most (edges.Refused 14)
+    module _ (y : Option Newline) (ends : NewlineIs t p.0 y) where
+      pub edges-no-end : y ≡ None → EdgesOf t ok (number t ok q) (row t ok q) end_most (edges.Refused 14)
       edges-no-end none =
           let o = place_of 10 q (text_of t) - row_from (text_of t) q in
           let there : ok ≡ 0 → Nth 10 1 (text_of t) p.0 o =
           λ v. rw (starts.accepted p is v) (some_end (text_of t) q chosen.low (in-book v)) in
           in-walk t ok (number t ok q) (row t ok q) end_most asked 14 (λ v. ends.missing none (sound v) o (there v)) refl
 
-      module _ (e : TextPlace) (before : ℕ) (run : LeafRun) (at-e : y ≡ newline.At e before run) where
-        end : EndsRow t p.0 e.0 before
-        end = (ends.found e before run at-e).0
+      module _ (e : Newline) (at-e : y ≡ Some e) where
+        end : EndsRow t p.0 e.0.0 e.1
+        end = (ends.found e at-e).0
 
-        pub end-past : p.0 ≤ e.0
+        pub end-past : p.0 ≤ e.0.0
         end-past = end.past
 
         -- The bytes up to it.
         abbrev len : ℕ
-        len = e.0 - p.0
+        len = e.0.0 - p.0
 
         in_text : p.0 + len < length (text_of t)
         in_text = omega (arith, end.first.within)
@@ -320,38 +320,38 @@ module _ (t : List ℕ) (ok : ℕ) (sound : ok ≡ 0 → check_result t ≡ 0) (
         unfolding between
         whole v =
             let s = starts.accepted p is v in
-            let f = row-end (text_of t) q chosen.low (in-book v) e.0 (rw s at end-past) (rw s at end.first) in
+            let f = row-end (text_of t) q chosen.low (in-book v) e.0.0 (rw s at end-past) (rw s at end.first) in
             rw (s, f)
 
-        pub edges-trimmed : (n : ℕ) → n ≡ cond (ltb 0 len && eqb 13 before) (len - 1) len
-            → EdgesOf t ok (number t ok q) (row t ok q) end_most (edges.At p n run)
-        edges-trimmed n n-is = spans-at t ok (number t ok q) (row t ok q) end_most p.0 n run (record {
+        pub edges-trimmed : (n : ℕ) → n ≡ cond (ltb 0 len && eqb 13 e.1) (len - 1) len
+            → EdgesOf t ok (number t ok q) (row t ok q) end_most (edges.At p n e.2)
+        edges-trimmed n n-is = spans-at t ok (number t ok q) (row t ok q) end_most p.0 n e.2 (record {
           asked = asked;
           within = omega (arith, at_most, in_text, text-length t);
           short = omega (arith, at_most, in_text, text-length t);
           accepted = λ v. rw n-is (cut (lt-or-ge 0 len)) ∙ ap trimmed (whole v);
-          reads = (ends.found e before run at-e).1;
+          reads = (ends.found e at-e).1;
         })
           where
             at_most : n ≤ len
-            at_most = rw n-is (less (ltb 0 len && eqb 13 before))
+            at_most = rw n-is (less (ltb 0 len && eqb 13 e.1))
               where
                 less : (b : Bool) → cond b (len - 1) len ≤ len
                 less true = omega arith
                 less false = omega arith
 
             cut : (0 < len) ⊎ (len ≤ 0)
-                → substring (text_of t) p.0 (cond (ltb 0 len && eqb 13 before) (len - 1) len) ≡ trimmed (substring (text_of t) p.0 len)
+                → substring (text_of t) p.0 (cond (ltb 0 len && eqb 13 e.1) (len - 1) len) ≡ trimmed (substring (text_of t) p.0 len)
             cut (inr none) = let z : len ≡ 0 = omega arith in rw z (sym (trimmed-none (text_of t) p.0))
-            cut (inl some) = rw (lt-ltb 0 len some) (go (eqb 13 before) refl)
+            cut (inl some) = rw (lt-ltb 0 len some) (go (eqb 13 e.1) refl)
               where
-                byte : get_or (text_of t) (p.0 + (len - 1)) 0 ≡ before
-                byte = let z : p.0 + (len - 1) ≡ e.0 - 1 = omega (arith, end-past) in rw z (sym (end.before-is (omega arith)))
+                byte : get_or (text_of t) (p.0 + (len - 1)) 0 ≡ e.1
+                byte = let z : p.0 + (len - 1) ≡ e.0.0 - 1 = omega (arith, end-past) in rw z (sym (end.before-is (omega arith)))
 
-                go : (b : Bool) → eqb 13 before ≡ b → substring (text_of t) p.0 (cond b (len - 1) len) ≡ trimmed (substring (text_of t) p.0 len)
-                go true f = sym (trimmed-mark (text_of t) p.0 len some (omega (arith, in_text)) (byte ∙ sym (eqb-true 13 before f)))
+                go : (b : Bool) → eqb 13 e.1 ≡ b → substring (text_of t) p.0 (cond b (len - 1) len) ≡ trimmed (substring (text_of t) p.0 len)
+                go true f = sym (trimmed-mark (text_of t) p.0 len some (omega (arith, in_text)) (byte ∙ sym (eqb-true 13 e.1 f)))
                 go false f = sym (trimmed-plain (text_of t) p.0 len some (omega (arith, in_text))
-                    (λ z. bool_clash (eqb 13 before) (eq-eqb 13 before (sym (sym byte ∙ z))) f))
+                    (λ z. bool_clash (eqb 13 e.1) (eq-eqb 13 e.1 (sym (sym byte ∙ z))) f))
 
 -- Whether q is the row after the last byte 10.
 module _ (t : List ℕ) (h : Header) (k : HeaderOf t h) (q number : ℕ) (is : number ≡ number_of_byte t 10) where

@@ -1,15 +1,13 @@
 -- Where a row starts, and the newline that ends it.
-use Rattle.std.specs.Prelude.{List, ◌≡◌, ℕ, ◌-◌, ◌≤◌, ◌<◌, get_or}
+use Rattle.std.specs.Prelude.{List, Option, Some, None, ◌≡◌, ℕ, ◌-◌, ◌≤◌, ◌<◌, get_or}
 use Rattle.text.specs.CountLaws.{Nth}
 use Rattle.text.specs.RowLaws.{row_from, between, trimmed}
 use Rattle.text.specs.declared.TextPlace.{TextPlace}
 use Rattle.format.specs.Layout as at
 use Rattle.format.specs.TreeReading.{text_of, check_result}
 use Rattle.format.specs.Answers.{find_refusal}
-use Rattle.query_access.specs.declared.read_by_header.LeafRun.{LeafRun}
 use Rattle.query_access.specs.ReadByRuns.{ReadsFrom}
 use Rattle.query_rows.specs.declared.next_newline.Newline.{Newline}
-use Rattle.query_rows.specs.declared.next_newline.Newline.TheVariants as newline
 use Rattle.query_rows.specs.declared.row_bounds.RowStart.{RowStart}
 use Rattle.query_rows.specs.declared.row_bounds.RowStart.TheVariants as start
 use Rattle.query_rows.specs.RowSpans.{Refuses}
@@ -20,9 +18,9 @@ pub record EndsRow (t : List ℕ) (p e before : ℕ) : Type 0 where
   pub first : Nth 10 1 (text_of t) p (e - p)
   pub before-is : p < e → before ≡ get_or (text_of t) (e - 1) 0
 
-pub record NewlineIs (t : List ℕ) (p : ℕ) (r : Newline) : Type 0 where
-  pub found : (e : TextPlace) (before : ℕ) (run : LeafRun) → r ≡ newline.At e before run → (EndsRow t p e.0 before) × (ReadsFrom t p run)
-  pub missing : r ≡ newline.Missing → check_result t ≡ 0 → (o : ℕ) → Nth 10 1 (text_of t) p o → ⊥
+pub record NewlineIs (t : List ℕ) (p : ℕ) (r : Option Newline) : Type 0 where
+  pub found : (n : Newline) → r ≡ Some n → (EndsRow t p n.0.0 n.1) × (ReadsFrom t p n.2)
+  pub missing : r ≡ None → check_result t ≡ 0 → (o : ℕ) → Nth 10 1 (text_of t) p o → ⊥
 
 -- The refusal of a start, 0 for none.
 abbrev pub start_refusal : RowStart → ℕ

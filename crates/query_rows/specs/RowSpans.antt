@@ -3,13 +3,12 @@ use Rattle.std.specs.Prelude.{List, Bool, cond, ◌≡◌, ℕ, ◌+◌, ◌≤�
 use Rattle.text.specs.Text.{substring}
 use Rattle.format.specs.Layout as at
 use Rattle.format.specs.TreeReading.{text_of, check_result}
-use Rattle.format.specs.Answers.{refused, Is, copy_answer}
+use Rattle.format.specs.Answers.{Is, copy_answer}
 use Rattle.text.specs.declared.TextPlace.{TextPlace}
 use Rattle.query_access.specs.declared.read_by_header.LeafRun.{LeafRun}
 use Rattle.query_access.specs.ReadByRuns.{ReadsFrom}
 use Rattle.query_guide.specs.Guides.{guide_refusal}
 use Rattle.query_rows.specs.declared.RowAnswer.{RowAnswer}
-use Rattle.query_rows.specs.declared.RowAnswer.TheVariants.{Refused}
 use Rattle.query_rows.specs.declared.row_bounds.RowBounds.{RowBounds}
 use Rattle.query_rows.specs.declared.row_bounds.RowBounds.TheVariants as edges
 use Rattle.query_rows.specs.RowAnswers.{row_reply}

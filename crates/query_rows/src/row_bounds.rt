@@ -99,7 +99,7 @@ fn terminated_row(t: &[u8], h: Header, guide: &[u8], used: bool, number: u32, q:
         return RowBounds::Refused(start_number(found));
     };
     let end = next_newline::next_newline(&t, h, start);
-    let Newline::At(place, before, run) = end else {
+    let Some(Newline(place, before, run)) = end else {
         return RowBounds::Refused(14);
     };
     RowBounds::At(start, strip_cr(place.0 - start.0, before), run)

@@ -25,10 +25,10 @@ overflow_sub-place c =
     omega (
       arith,
       laws.end-past _ _ (laws.settled-sound _ _ _) _ _ c.row_start-found.ensures _ c.in-At.is
-          _ c.next_newline-end.ensures _ _ _ c.in-At-end.is,
+          _ c.next_newline-end.ensures _ c.in-Some.is,
     )
 
 pub returns : goal.returns
 returns c =
     laws.edges-trimmed _ _ (laws.settled-sound _ _ _) _ _ c.row_start-found.ensures _ c.in-At.is
-    _ c.next_newline-end.ensures _ _ _ c.in-At-end.is _ c.strip_cr.ensures
+    _ c.next_newline-end.ensures _ c.in-Some.is _ c.strip_cr.ensures
