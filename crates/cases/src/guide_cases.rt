@@ -4,7 +4,6 @@ ghost use Rattle.cases_tokens.specs.declared.hexadecimal.Made.TheVariants.{Bytes
 
 use crate::{ask, wrong};
 use cases_tokens::decimal;
-use cases_tokens::decimal::Number;
 use cases_tokens::hexadecimal::{Fault, Made};
 use layout::word;
 
@@ -105,7 +104,7 @@ fn guide_of(listed: &[u8], out: &mut [u8]) -> Made
             return Made::Wrong(Fault::Room);
         }
         let number = decimal::read_number(cases_tokens::until(listed, at, 44));
-        let Number::Is(value) = number else {
+        let Some(value) = number else {
             return Made::Wrong(Fault::Number);
         };
         word::write(out, n, value);

@@ -8,11 +8,13 @@ returns-then-word-eq0 c = number-none _ c.if-word-eq0.true
 pub loop-digit-init : goal.loop-digit-init
 loop-digit-init c = number-starts _ c.if-word-eq0.false
 
-pub returns-in_default : goal.returns-in_default
-returns-in_default c = number-stops c.args.word.now _ _ _ c.loop-digit-test.true c.more-next.ensures c.in_default.is ∙ c.loop-digit.invariant
+pub returns-in_err-value : goal.returns-in_err-value
+returns-in_err-value c = c.from_residual.ensures
+    ∙ number-stops c.args.word.now _ _ _ c.loop-digit-test.true c.more.ensures c.in_err-value.was
+    ∙ c.loop-digit.invariant
 
 pub loop-digit-preserved : goal.loop-digit-preserved
-loop-digit-preserved c = number-goes c.args.word.now _ _ _ c.loop-digit-test.true c.more-next.ensures _ c.in-Is.is ∙ c.loop-digit.invariant
+loop-digit-preserved c = number-goes c.args.word.now _ _ _ c.loop-digit-test.true c.more.ensures _ c.in_ok-value.was ∙ c.loop-digit.invariant
 
 pub returns : goal.returns
 returns c = number-ends c.args.word.now _ _ c.loop-digit-test.false ∙ c.loop-digit.invariant
