@@ -94,7 +94,8 @@ module _ (t : List ℕ) (p : ℕ) where
 
       pub newline-in-run : x < size → (run : LeafRun) → ReadsFrom t p run → NewlineIs t p (Some (record { 0 = record { 0 = place + x }; 1 = before; 2 = run }))
       newline-in-run l run reads-run =
-          found-is (record { 0 = record { 0 = place + x }; 1 = before; 2 = run }) (record { past = omega (arith, i.past); first = first; before-is = before-x }, reads-run)
+          found-is (record { 0 = record { 0 = place + x }; 1 = before; 2 = run })
+          (record { past = omega (arith, i.past); first = first; before-is = before-x }, reads-run)
         where
           o : place + x - p ≡ place - p + x
           o = omega (arith, i.past)

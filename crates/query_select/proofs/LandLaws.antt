@@ -189,7 +189,8 @@ case-no-target true x e k = let z : ◌≡◌ {A = ℕ} 0 1 = cc in omega arith
 case-no-target false x e k = bool_clash false k refl
 
 pub target_kept : (t : List ℕ) (level i f r kind : ℕ)
-    → i < N t level → kind ≡ at.kind t level i → kind ≡ 0 → Some (record { block = record { 0 = i }; forward = record { 0 = f }; rest = r }) ≡ target_at t level i f r
+    → i < N t level → kind ≡ at.kind t level i → kind ≡ 0
+    → Some (record { block = record { 0 = i }; forward = record { 0 = f }; rest = r }) ≡ target_at t level i f r
 unfolding target_at is_kept_block at.is_kept
 target_kept t level i f r kind hi is z = rw (lt-ltb _ _ hi, ← is, z)
 
@@ -239,7 +240,8 @@ module _ (t : List ℕ) (size c level b i j link : ℕ)
             either = inl (same ∙ link_is, z.2, z.3 ∙ rank_is ∙ ap (λ (n : ℕ). j + n) skip_is, omega (arith, z.3, inside-link));
           });
       off = λ e v high.
-          case-no-target (is_kept_block t level link) _ (sym r-is ∙ e) (rw link_is (kept_block t level (at.link t level i) (points-at v).target_below (points-at v).target_kept));
+          case-no-target (is_kept_block t level link) _ (sym r-is ∙ e)
+          (rw link_is (kept_block t level (at.link t level i) (points-at v).target_below (points-at v).target_kept));
     }
 
     module _ (past : inside < rank) where
@@ -491,7 +493,8 @@ module _ (t : List ℕ) (field : CountField) (level b i j way : ℕ) (points : P
 -- From a block that may be kept or may point.
 module _ (t : List ℕ) (field : CountField) (level b : ℕ) (i : BlockNumber) (j way : ℕ) (there : InTable t field.size level b i.0)
     (seeks : Seeking t field level b j way (2 * level)) (x : BlockKind) (x-is : x ≡ block_kind_at t level i.0 0) where
-  pub itself-kept : (n : BlockNumber) (p : BlockPlace) → x ≡ next.Kept n p → HandsOn t field level b i.0 j way (Some (record { block = i; rest = j; way = way }))
+  pub itself-kept : (n : BlockNumber) (p : BlockPlace) → x ≡ next.Kept n p
+      → HandsOn t field level b i.0 j way (Some (record { block = i; rest = j; way = way }))
   itself-kept n p e = hands_to t field level b i.0 j way i j way (record {
     kept = record { on = there.on; kept = (next-kept t level i.0 0 x x-is n p e).0 };
     seeks = record {
