@@ -1,13 +1,18 @@
 -- The closed forms that the code computes, each shown once over its whole range by a computed test.
-use mathlib.Core.Bool.{Bool, true, false, cond}
-use mathlib.Core.Path.{◌≡◌, refl, sym, ◌∙◌}
+use mathlib.Core.Bool.{Bool, true, false, cond, ◌&&◌}
+use mathlib.Core.Path.{◌≡◌, refl, sym, ap, ◌∙◌}
 use Prim.Native.Nat.{ℕ, ◌+◌, ◌-◌, ◌*◌, ◌/◌, ◌≤◌, ◌<◌}
 use native.Mathlib.Omega.{arith}
 use lib.ListN.{get_or}
 use lib.Dec.{leb, eqb}
-use borrow.Author.Tests.{eqb-true, leb-true, le-leb, lt-ltb, le-ltb}
+use borrow.Author.Tests.{eqb-true, leb-true, lt-ltb, le-ltb}
+use Rattle.std.specs.Prelude.{Option, Some}
+use Rattle.std.proofs.Common.{Ordering}
+use Rattle.std.specs.Ordering.{nat_cmp, partial_le, partial_lt}
+use Rattle.std.proofs.lemmas.Bool.Decides.{nat_tests}
+use Rattle.std.proofs.Math.Bool.{and_assoc}
 use Rattle.text.specs.Text.{sum_below, all_below}
-use Rattle.text.specs.ListLaws.{all_below-at}
+use Rattle.text.specs.ListLaws.{all_below-at, and-false}
 use Rattle.licence.specs.declared.calendar.Date.{Date}
 use Rattle.licence.specs.Licence.{leap, lengths, month_length, year_length, is_date, before_year, before_month, day_number}
 use Rattle.licence.specs.CalendarDays.{DateFacts}
@@ -66,9 +71,41 @@ pub number_is : (d : Date) → DateFacts d → (months : ℕ) → months ≡ bef
 unfolding day_number
 number_is d f months e = rw (e, ← years-before d.year f.year_low f.year_high)
 
--- The last test of a date.
-pub last_test : (d : Date) (r : ℕ) → 2000 ≤ d.year → d.year ≤ 2099 → 1 ≤ d.month → d.month ≤ 12 → 1 ≤ d.day
-    → r ≡ month_length d.year d.month → leb d.day r ≡ is_date d
-unfolding is_date
-last_test d r a b e f g s =
-    rw (le-leb 2000 d.year a, le-leb d.year 2099 b, le-leb 1 d.month e, le-leb d.month 12 f, le-leb 1 d.day g, s)
+-- What a range that includes both ends contains.
+abbrev order : ℕ → ℕ → Option Ordering
+order x y = Some (nat_cmp x y)
+
+partial-le : (x y : ℕ) → partial_le order x y ≡ leb x y
+partial-le x y = grind (arith, nat_tests)
+
+pub ranged : (a b x s e : ℕ) (spent r : Bool) → r ≡ (partial_le order s x && cond spent (partial_lt order x e) (partial_le order x e))
+    → s ≡ a → e ≡ b → spent ≡ false → r ≡ (leb a x && leb x b)
+ranged a b x s e spent r is p q fresh =
+    is ∙ ap (λ (t : Bool). partial_le order s x && cond t (partial_lt order x e) (partial_le order x e)) fresh
+    ∙ ap (λ (t : Bool). t && partial_le order x e) (partial-le s x) ∙ ap (λ (t : Bool). leb s x && t) (partial-le x e) ∙ rw (p, q)
+
+-- A date is tested by its year, its month and its day.
+module _ (d : Date) where
+  abbrev of_year : Bool
+  of_year = leb 2000 d.year && leb d.year 2099
+
+  abbrev of_month : Bool
+  of_month = leb 1 d.month && leb d.month 12
+
+  abbrev of_day : Bool
+  of_day = leb 1 d.day && leb d.day (month_length d.year d.month)
+
+  tests : is_date d ≡ (of_year && of_month && of_day)
+  unfolding is_date
+  tests =
+      and_assoc (of_year && leb 1 d.month && leb d.month 12) (leb 1 d.day) (leb d.day (month_length d.year d.month))
+      ∙ ap (λ (b : Bool). b && of_day) (and_assoc of_year (leb 1 d.month) (leb d.month 12))
+
+  pub last_test : (y m r : Bool) → y ≡ of_year → m ≡ of_month → r ≡ of_day → y ≡ true → m ≡ true → r ≡ is_date d
+  last_test y m r p q s t u = s ∙ sym (tests ∙ rw (← p, ← q, t, u))
+
+  pub no_year : (y r : Bool) → y ≡ of_year → r ≡ y → r ≡ false → r ≡ is_date d
+  no_year y r p is f = f ∙ sym (tests ∙ rw (← p, ← is, f))
+
+  pub no_month : (y m r : Bool) → y ≡ of_year → m ≡ of_month → r ≡ m → r ≡ false → r ≡ is_date d
+  no_month y m r p q is f = f ∙ sym (tests ∙ rw (← q, ← is, f, and-false of_year))

@@ -1,12 +1,10 @@
 -- Licence dates: the calendar, written days, and what the calls return.
 -- docs/FORMAT.md: "Licence dates".
-use Rattle.std.specs.Prelude.{List, [], ◌∷◌, Bool, cond, not, ◌&&◌, ◌||◌, true, false, ℕ, ◌+◌, ◌-◌, ◌%◌, ◌*◌, ◌/◌, ◌≤◌, get_or, length, leb, eqb, ltb, ℤ, pos, ◌-ℤ◌, ◌≡◌}
+use Rattle.std.specs.Prelude.{List, [], ◌∷◌, Bool, cond, not, ◌&&◌, ◌||◌, false, ℕ, ◌+◌, ◌-◌, ◌%◌, ◌*◌, ◌/◌, get_or, length, leb, eqb, ltb, ℤ, pos, ◌-ℤ◌, ◌≡◌, Result, Ok, Err}
 use Rattle.text.specs.Text.{sum_below, all_below, is_digit}
+use Rattle.refusals.specs.declared.Refusal.{Refusal}
+use Rattle.refusals.specs.Refusals.{result_number}
 use Rattle.licence.specs.declared.calendar.Date.{Date}
-use Rattle.licence.specs.declared.OpenOnAnswer.{OpenOnAnswer}
-use Rattle.licence.specs.declared.OpenOnAnswer.TheVariants as open-on
-use Rattle.licence.specs.declared.DaysLeftAnswer.{DaysLeftAnswer}
-use Rattle.licence.specs.declared.DaysLeftAnswer.TheVariants as days-left
 
 -- The Gregorian calendar: a date has a year, a month and a day of the month; days are numbered from 1 January 2000, which is 0.
 -- docs/FORMAT.md: "Licence dates".
@@ -117,47 +115,22 @@ module _ (day : List ℕ) where
 
 -- The answers of the calls on a licence by their refusals and values (docs/FORMAT.md, "Licence dates").
 
--- An answer's refusal, and whether the book is open.
-abbrev pub open_on_reply_refusal : OpenOnAnswer → ℕ
-open_on_reply_refusal open-on.Open = 0
-open_on_reply_refusal open-on.Closed = 0
-open_on_reply_refusal (open-on.Refused number) = number
-
 -- Whether an answer is open.
-abbrev pub open_on_reply : OpenOnAnswer → Bool
-open_on_reply open-on.Open = true
-open_on_reply open-on.Closed = false
-open_on_reply (open-on.Refused number) = false
-
--- A refusal is not 0.
-abbrev pub OpenedNumbered : OpenOnAnswer → Type 0
-OpenedNumbered open-on.Open = Unit {0}
-OpenedNumbered open-on.Closed = Unit {0}
-OpenedNumbered (open-on.Refused number) = 1 ≤ number
+abbrev pub open_on_reply : Result Bool Refusal → Bool
+open_on_reply (Ok is_open) = is_open
+open_on_reply (Err e) = false
 
 -- The answer of open_on.
-pub record IsOpenOnAnswer (first last today : List ℕ) (r : OpenOnAnswer) : Type 0 where
-  pub number_is : open_on_reply_refusal r ≡ open_on_refusal first last today
+pub record IsOpenOnAnswer (first last today : List ℕ) (r : Result Bool Refusal) : Type 0 where
+  pub number_is : result_number r ≡ open_on_refusal first last today
   pub open_is : open_on_reply r ≡ open_on first last today
-  pub numbered : OpenedNumbered r
-
--- An answer's number, and the days that are left, below zero where they are past.
-abbrev pub days_left_reply_refusal : DaysLeftAnswer → ℕ
-days_left_reply_refusal (days-left.Days z) = 0
-days_left_reply_refusal (days-left.Refused number) = number
 
 -- The days that are left, negative after the last day.
-abbrev pub days_left_reply : DaysLeftAnswer → ℤ
-days_left_reply (days-left.Days z) = z
-days_left_reply (days-left.Refused number) = pos 0
-
--- A refusal is not 0.
-abbrev pub LeftNumbered : DaysLeftAnswer → Type 0
-LeftNumbered (days-left.Days z) = Unit {0}
-LeftNumbered (days-left.Refused number) = 1 ≤ number
+abbrev pub days_left_reply : Result ℤ Refusal → ℤ
+days_left_reply (Ok z) = z
+days_left_reply (Err e) = pos 0
 
 -- The answer of days_left.
-pub record IsDaysLeftAnswer (last today : List ℕ) (r : DaysLeftAnswer) : Type 0 where
-  pub number_is : days_left_reply_refusal r ≡ days_left_refusal last today
+pub record IsDaysLeftAnswer (last today : List ℕ) (r : Result ℤ Refusal) : Type 0 where
+  pub number_is : result_number r ≡ days_left_refusal last today
   pub days_is : days_left_reply r ≡ days_left last today
-  pub numbered : LeftNumbered r

@@ -20,13 +20,7 @@ pub struct Date {
 fn is_leap(year: u32) -> bool
     ensures { result ≡ leap year }
 {
-    if year % 4 != 0 {
-        return false;
-    }
-    if year % 100 != 0 {
-        return true;
-    }
-    year % 400 == 0
+    year % 4 == 0 && (year % 100 != 0 || year % 400 == 0)
 }
 
 // The days of a month.
@@ -47,22 +41,9 @@ fn month_length(year: u32, month: u32) -> u32
 pub fn is_date(d: Date) -> bool
     ensures { result ≡ is_date d }
 {
-    if d.year < 2000 {
-        return false;
-    }
-    if 2099 < d.year {
-        return false;
-    }
-    if d.month < 1 {
-        return false;
-    }
-    if 12 < d.month {
-        return false;
-    }
-    if d.day < 1 {
-        return false;
-    }
-    d.day <= month_length(d.year, d.month)
+    (2000..=2099).contains(&d.year)
+        && (1..=12).contains(&d.month)
+        && (1..=month_length(d.year, d.month)).contains(&d.day)
 }
 
 // The days of a year before a month.

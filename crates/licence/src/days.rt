@@ -7,19 +7,12 @@ ghost use Rattle.licence.specs.TermSteps.{day_read};
 use crate::calendar;
 use crate::calendar::Date;
 
-// The date that eight digits write, or none.
-#[derive(Clone, Copy)]
-pub enum DayRead {
-    Good(Date),
-    Bad,
-}
-
 // The number that a digit writes.
 fn digit(b: u8) -> u32
     requires { is_digit b ≡ true }
     ensures { result ≡ b - 48 }
 {
-    (b - 48) as u32
+    u32::from(b - 48)
 }
 
 // Whether the first eight bytes are digits.
@@ -27,18 +20,7 @@ fn digits(s: &[u8]) -> bool
     requires { 8 ≤ length s.now }
     ensures { result ≡ all_below 8 (λ i. is_digit (get_or s.now i 0)) }
 {
-    let mut i = 0;
-    while i < 8 {
-        let b = s[i];
-        if b < 48 {
-            return false;
-        }
-        if 57 < b {
-            return false;
-        }
-        i += 1;
-    }
-    true
+    s[..8].iter().all(|b| b.is_ascii_digit())
 }
 
 // The number that the two digits from place i write.
@@ -49,25 +31,19 @@ fn pair(s: &[u8], i: usize) -> u32
     10 * digit(s[i]) + digit(s[i + 1])
 }
 
-// The date that the caller's bytes write.
-pub fn read(s: &[u8]) -> DayRead
+// The date that the caller's bytes write, or none.
+pub fn read(s: &[u8]) -> Option<Date>
     ensures { result ≡ day_read s.now }
 {
-    if s.len() != 8 {
-        return DayRead::Bad;
-    }
-    if !digits(s) {
-        return DayRead::Bad;
+    if s.len() != 8 || !digits(s) {
+        return None;
     }
     let date = Date {
         year: 100 * pair(s, 0) + pair(s, 2),
         month: pair(s, 4),
         day: pair(s, 6),
     };
-    if calendar::is_date(date) {
-        return DayRead::Good(date);
-    }
-    DayRead::Bad
+    calendar::is_date(date).then_some(date)
 }
 
 // The byte of a number's last digit.

@@ -4,16 +4,12 @@ use Rattle.licence.proofs.in_term.Goals as goal
 
 pub returns-then-last-first : goal.returns-then-last-first
 unfolding licence_between
-returns-then-last-first c = simp (lt-ltb _ _ c.if-last-first.true)
+returns-then-last-first c = rw (lt-ltb _ _ c.if-last-first.true)
 
-pub returns-then-day-first : goal.returns-then-day-first
+pub returns-then-first-day : goal.returns-then-first-day
 unfolding licence_between
-returns-then-day-first c = simp (le-ltb _ _ c.if-last-first.false, lt-leb _ _ c.if-day-first.true)
+returns-then-first-day c = rw (le-ltb _ _ c.if-last-first.false, le-leb _ _ c.if-first-day.true)
 
-pub returns-then-last-day : goal.returns-then-last-day
+pub returns-else-first-day : goal.returns-else-first-day
 unfolding licence_between
-returns-then-last-day c = simp (le-ltb _ _ c.if-last-first.false, le-leb _ _ c.if-day-first.false, lt-leb _ _ c.if-last-day.true)
-
-pub returns : goal.returns
-unfolding licence_between
-returns c = simp (le-ltb _ _ c.if-last-first.false, le-leb _ _ c.if-day-first.false, le-leb _ _ c.if-last-day.false)
+returns-else-first-day c = rw (le-ltb _ _ c.if-last-first.false, lt-leb _ _ c.if-first-day.false)

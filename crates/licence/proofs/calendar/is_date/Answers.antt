@@ -1,39 +1,28 @@
-use borrow.Author.Rules.{rules}
-use borrow.Author.Tests.{le-leb, lt-leb}
-use Rattle.licence.specs.Licence.{is_date}
-use Rattle.licence.proofs.ClosedForms.{last_test}
+use mathlib.Core.Path.{sym, ◌∙◌}
+use Rattle.licence.proofs.ClosedForms.{ranged, last_test, no_year, no_month}
 use Rattle.licence.proofs.calendar.is_date.Goals as goal
+use Rattle.licence.proofs.calendar.is_date.Goals.{then-contains, else-contains}
 
-pub returns-then-d-lt2000 : goal.returns-then-d-lt2000
-unfolding is_date
-returns-then-d-lt2000 c = simp (lt-leb 2000 _ c.if-d-lt2000.true)
+pub returns-then-contains-2 : goal.returns-then-contains-2
+returns-then-contains-2 c = elim c.if-contains.branch [
+  | then-contains w ↦
+      let year = ranged 2000 2099 c.args.d.year _ _ _ _ c.contains.ensures.value c.new.ensures.start c.new.ensures.end c.new.ensures.exhausted in
+      let month = ranged 1 12 c.args.d.month _ _ _ _ w.contains-then-contains.ensures.value
+      w.new-then-contains.ensures.start w.new-then-contains.ensures.end w.new-then-contains.ensures.exhausted in
+      let day = ranged 1 _ c.args.d.day _ _ _ _ c.contains-then-contains-2.ensures.value
+      c.new-then-contains-2.ensures.start (c.new-then-contains-2.ensures.end ∙ c.month_length.ensures) c.new-then-contains-2.ensures.exhausted in
+      last_test c.args.d _ _ _ year month day w.if-contains.true (sym w.value-is ∙ c.if-contains-2.true)
+  | else-contains w ↦ cc
+]
 
-pub returns-then-d-gt2099 : goal.returns-then-d-gt2099
-unfolding is_date
-returns-then-d-gt2099 c = simp (le-leb 2000 _ c.if-d-lt2000.false, lt-leb _ 2099 c.if-d-gt2099.true)
-
-pub returns-then-d-lt1 : goal.returns-then-d-lt1
-unfolding is_date
-returns-then-d-lt1 c = simp (le-leb 2000 _ c.if-d-lt2000.false, le-leb _ 2099 c.if-d-gt2099.false, lt-leb 1 _ c.if-d-lt1.true)
-
-pub returns-then-d-gt12 : goal.returns-then-d-gt12
-unfolding is_date
-returns-then-d-gt12 c = simp (le-leb 2000 _ c.if-d-lt2000.false, le-leb _ 2099 c.if-d-gt2099.false, le-leb 1 _ c.if-d-lt1.false, lt-leb _ 12 c.if-d-gt12.true)
-
-pub returns-then-d-lt1-2 : goal.returns-then-d-lt1-2
-unfolding is_date
-returns-then-d-lt1-2 c = simp (
-  le-leb 2000 _ c.if-d-lt2000.false,
-  le-leb _ 2099 c.if-d-gt2099.false,
-  le-leb 1 _ c.if-d-lt1.false,
-  le-leb _ 12 c.if-d-gt12.false,
-  lt-leb 1 _ c.if-d-lt1-2.true,
-)
-
-pub month_length-requires : goal.month_length-requires
-unfolding is_date
-month_length-requires c = search rules
-
-pub returns : goal.returns
-unfolding is_date
-returns c = last_test _ _ c.if-d-lt2000.false c.if-d-gt2099.false c.if-d-lt1.false c.if-d-gt12.false c.if-d-lt1-2.false c.month_length.ensures
+pub returns-else-contains-2 : goal.returns-else-contains-2
+returns-else-contains-2 c = elim c.if-contains.branch [
+  | then-contains w ↦
+      let year = ranged 2000 2099 c.args.d.year _ _ _ _ c.contains.ensures.value c.new.ensures.start c.new.ensures.end c.new.ensures.exhausted in
+      let month = ranged 1 12 c.args.d.month _ _ _ _ w.contains-then-contains.ensures.value
+      w.new-then-contains.ensures.start w.new-then-contains.ensures.end w.new-then-contains.ensures.exhausted in
+      no_month c.args.d _ _ _ year month w.value-is c.if-contains-2.false
+  | else-contains w ↦
+      let year = ranged 2000 2099 c.args.d.year _ _ _ _ c.contains.ensures.value c.new.ensures.start c.new.ensures.end c.new.ensures.exhausted in
+      no_year c.args.d _ _ year w.value-is c.if-contains-2.false
+]
