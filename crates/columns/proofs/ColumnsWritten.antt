@@ -5,13 +5,17 @@ use mathlib.Core.Path.{◌≡◌, refl, sym, ap, ◌∙◌}
 use Prim.Native.Nat.{ℕ, suc, ◌+◌, ◌*◌, ◌/◌, ◌≤◌, ◌<◌}
 use native.Mathlib.Omega.{arith}
 use native.Mathlib.Numerals.{add-one}
-use native.Mathlib.Nat.{mul_comm, mul-le-mul_right, mul-zero, suc-mul, zero-mul}
+use native.Mathlib.Nat.{mul_comm, mul-le-mul_right, mul-zero, suc-mul}
 use lib.ListN.{length, take, drop, get_or, set, length-drop}
 use lib.Seq.{paste, paste-suc, get_or-drop, take-add, take_all, drop-append-add, length-take-le, drop-drop, take_at}
 use lib.Dec.{leb}
 use borrow.Author.Tests.{le-leb, lt-leb, ne_eqb, leb-true}
+use Rattle.std.specs.Prelude.{Result, Ok, Err}
+use Rattle.refusals.specs.declared.Refusal.{Refusal}
+use Rattle.refusals.specs.Refusals.{refusal_number, result_number}
+use Rattle.refusals.specs.RefusalsLaws.{number-above}
 use Rattle.columns.specs.Columns.{transposed, columns, uncolumns, width_ok, refusal_of, columns_refusal, columns_buffer, uncolumns_buffer}
-use Rattle.columns.specs.ColumnLaws.{within, transposed-length, transposed-at, rows_are}
+use Rattle.columns.specs.ColumnLaws.{transposed-length, transposed-at, rows_are}
 
 -- A text of r rows of c bytes.
 module _ (r c : ℕ) (T : List ℕ) (size : length T ≡ r * c) where
@@ -19,11 +23,8 @@ module _ (r c : ℕ) (T : List ℕ) (size : length T ≡ r * c) where
   U = transposed r c T
 
   -- Column b lies within.
-  pub column-in : (b : ℕ) → b < c → b * r + r ≤ length T
+  column-in : (b : ℕ) → b < c → b * r + r ≤ length T
   column-in b h = let k : suc b ≤ c = omega arith in omega (arith, size, mul_comm r c, mul-le-mul_right r k, suc-mul b r)
-
-  pub cell_in : (a b : ℕ) → a < r → b < c → a * c + b < length T
-  cell_in a b ha hb = omega (arith, size, within a r c b ha hb)
 
   -- One byte more of column b.
   pub cell-more : (d₀ d : List ℕ) (a b : ℕ) → length T ≤ length d₀ → a < r → b < c → d ≡ paste d₀ (b * r) (drop (b * r) U) a
@@ -36,9 +37,6 @@ module _ (r c : ℕ) (T : List ℕ) (size : length T ≡ r * c) where
   -- Some columns have been written.
   abbrev pub ColumnsUpTo : List ℕ → ℕ → List ℕ → Type 0
   ColumnsUpTo d₀ b d = d ≡ take (b * r) U ++ drop (b * r) d₀
-
-  pub filled_none : (d₀ : List ℕ) → ColumnsUpTo d₀ 0 d₀
-  filled_none d₀ = rw (zero-mul r)
 
   pub filled_more : (d₀ d e : List ℕ) (b : ℕ) → length T ≤ length d₀ → b < c → ColumnsUpTo d₀ b d → e ≡ paste d (b * r) (drop (b * r) U) r
       → ColumnsUpTo d₀ (b + 1) e
@@ -93,10 +91,18 @@ module _ (w : ℕ) (T out : List ℕ) where
       by true false e z = absurd (let x : ⊥ = omega arith in x)
       by false b e z = absurd (let x : ⊥ = omega arith in x)
 
-  pub leaves-refused : (n : ℕ) → n ≡ refusal_of w (length T) (length out) → (n ≡ 0 → ⊥)
-      → (n ≡ columns_refusal w T out) × (out ≡ columns_buffer w T out) × (out ≡ uncolumns_buffer w T out)
-  unfolding columns_refusal columns_buffer uncolumns_buffer
-  leaves-refused n e some = let z = ne_eqb (refusal_of w (length T) (length out)) 0 (λ y. some (e ∙ y)) in (e, rw z, rw z)
+  module _ (q : Result (Unit {0}) Refusal) (checked : result_number q ≡ refusal_of w (length T) (length out)) where
+    pub not-stopped : (x : Unit {0}) → q ≡ Ok x → refusal_of w (length T) (length out) ≡ 0
+    not-stopped x is = sym checked ∙ ap result_number is
+
+    pub leaves-refused : (e : Refusal) → q ≡ Err e → (r : Result (Unit {0}) Refusal) → r ≡ Err e
+        → (result_number r ≡ columns_refusal w T out) × (out ≡ columns_buffer w T out) × (out ≡ uncolumns_buffer w T out)
+    unfolding columns_refusal columns_buffer uncolumns_buffer
+    leaves-refused e is r same =
+        let n : refusal_of w (length T) (length out) ≡ refusal_number e = sym checked ∙ ap result_number is in
+        let low = number-above e in
+        let z = ne_eqb (refusal_of w (length T) (length out)) 0 (λ y. omega arith) in
+        (ap result_number same ∙ sym n, rw z, rw z)
 
   module _ (z : refusal_of w (length T) (length out) ≡ 0) where
     ok : width_ok w (length T) ≡ true

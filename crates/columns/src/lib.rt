@@ -3,65 +3,62 @@
 
 ghost use Rattle.std.specs.Prelude.{◌++◌, cond, ◌≡◌, ◌*◌, ◌≤◌, ◌<◌, length, drop};
 ghost use Rattle.std.proofs.Math.Seq.{paste};
+ghost use Rattle.refusals.specs.Refusals.{result_number};
 ghost use Rattle.columns.specs.Columns.{transposed, width_ok, refusal_of, columns_refusal, columns_buffer, uncolumns_buffer};
 
+use refusals::Refusal;
+
 // Writes a text of rows of a width, end byte included, column by column: questions 20 and 21.
-pub fn to_columns(text: &[u8], width: u32, out: &mut [u8]) -> u32
-    ensures value { result ≡ columns_refusal width text.now out.old }
+pub fn to_columns(text: &[u8], width: u32, out: &mut [u8]) -> Result<(), Refusal>
+    ensures value { result_number result ≡ columns_refusal width text.now out.old }
     ensures out_after { out.new ≡ columns_buffer width text.now out.old }
 {
     rearrange(text, width, out, false)
 }
 
 // Writes a text that is by columns back by rows: questions 20 and 21.
-pub fn from_columns(text: &[u8], width: u32, out: &mut [u8]) -> u32
-    ensures value { result ≡ columns_refusal width text.now out.old }
+pub fn from_columns(text: &[u8], width: u32, out: &mut [u8]) -> Result<(), Refusal>
+    ensures value { result_number result ≡ columns_refusal width text.now out.old }
     ensures out_after { out.new ≡ uncolumns_buffer width text.now out.old }
 {
     rearrange(text, width, out, true)
 }
 
 // Both rearrangements: `back` writes by rows what is by columns.
-fn rearrange(text: &[u8], width: u32, out: &mut [u8], back: bool) -> u32
-    ensures value { result ≡ columns_refusal width text.now out.old }
+fn rearrange(text: &[u8], width: u32, out: &mut [u8], back: bool) -> Result<(), Refusal>
+    ensures value { result_number result ≡ columns_refusal width text.now out.old }
     ensures out_after { out.new ≡ cond back (uncolumns_buffer width text.now out.old)
         (columns_buffer width text.now out.old) }
 {
-    let number = refusal(text.len(), width, out.len());
-    if number != 0 {
-        return number;
-    }
+    check_lengths(text.len(), width, out.len())?;
     let w = width as usize;
     let rows = text.len() / w;
     if back {
         transpose(text, w, rows, out);
-        return 0;
+    } else {
+        transpose(text, rows, w, out);
     }
-    transpose(text, rows, w, out);
-    0
+    Ok(())
 }
 
 // Questions 20 and 21, for a text of n bytes and an output of `room` bytes.
-fn refusal(n: usize, width: u32, room: usize) -> u32
-    ensures { result ≡ refusal_of width n room }
+fn check_lengths(n: usize, width: u32, room: usize) -> Result<(), Refusal>
+    ensures { result_number result ≡ refusal_of width n room }
 {
     if !divides(width, n) {
-        return 20;
+        return Err(Refusal::WidthDoesNotDivide);
     }
     if room < n {
-        return 21;
+        return Err(Refusal::OutputTooShort);
     }
-    0
+    Ok(())
 }
 
 // Question 20: a width above 0 that divides a length.
 pub fn divides(width: u32, n: usize) -> bool
     ensures { result ≡ width_ok width n }
 {
-    if width == 0 {
-        return false;
-    }
-    n % width as usize == 0
+    width != 0 && n % width as usize == 0
 }
 
 // Writes the columns one after the other. Without rows nothing is written, whatever the width.
@@ -72,10 +69,8 @@ fn transpose(text: &[u8], rows: usize, width: usize, out: &mut [u8])
     if rows == 0 {
         return;
     }
-    let mut b = 0;
-    while b < width {
+    for b in 0..width {
         put_column(text, rows, width, b, out);
-        b += 1;
     }
 }
 
@@ -85,9 +80,7 @@ fn put_column(text: &[u8], rows: usize, width: usize, b: usize, out: &mut [u8])
     ensures { out.new ≡ paste out.old (b * rows) (drop (b * rows) (transposed rows width text.now)) rows }
 {
     let to = b * rows;
-    let mut a = 0;
-    while a < rows {
+    for a in 0..rows {
         out[to + a] = text[a * width + b];
-        a += 1;
     }
 }

@@ -1,7 +1,7 @@
 use mathlib.Core.Path.{sym, ◌∙◌}
 use borrow.Author.Tests.{not-true, not-false}
 use Rattle.columns.proofs.ColumnsWritten.{refused-width, refused-short, not-refused}
-use Rattle.columns.proofs.refusal.Goals as goal
+use Rattle.columns.proofs.check_lengths.Goals as goal
 
 pub returns-then-not-divides : goal.returns-then-not-divides
 returns-then-not-divides c = refused-width _ _ _ (sym c.divides.ensures ∙ not-true _ c.if-not-divides.true-raw)
