@@ -19,7 +19,7 @@ use Rattle.walk_steps.proofs.NextLaws.{on-top}
 use Rattle.walk_path.specs.declared.TopLevel.{TopLevel}
 use Rattle.byte_slices.specs.ByteSlices.{bytes_written}
 use Rattle.query_access.specs.declared.ByteAnswer.{ByteAnswer}
-use Rattle.query_access.specs.declared.ByteAnswer.TheVariants.{Byte, Refused}
+use Rattle.query_access.specs.declared.ByteAnswer.TheVariants.{Byte}
 use Rattle.query_access.specs.declared.SpanAnswer.{SpanAnswer}
 use Rattle.query_access.specs.declared.SpanAnswer.TheVariants as span
 use Rattle.query_access.specs.declared.read_by_header.LeafRun.{LeafRun}
@@ -194,10 +194,6 @@ pub run-first-byte : (t : List ℕ) (p : ℕ) (r : LeafRun) → LeafRunAt t p r
 run-first-byte t p r k a e =
     let z : p + 0 ≡ p = omega arith in
     ap (λ (x : ByteAnswer). replied (byte_reply x)) e ∙ sym (rw z at (k.answers 0 k.some_byte))
-
--- No byte of a run is refused.
-pub run-not-refused : (a : ByteAnswer) (v n q : ℕ) → a ≡ Byte v n → a ≡ Refused q → ⊥
-run-not-refused a v n q e f = let z : ◌≡◌ {A = ℕ} 0 1 = cc in omega arith
 
 -- No bytes, and those of a range.
 pub access-none-read : (t : List ℕ) (p : ℕ) (r : LeafRun) → r.length ≡ 0 → r.from ≡ 0 → ReadsFrom t p r
