@@ -12,8 +12,8 @@ use layout::place::TextPlace;
 use query_access::read_by_header;
 use refusals::Refusal;
 
-// Copies row a, from 0, of rows of `width` bytes, end byte included, to the start of the buffer: their number, and 0 for that of the blocks entered, which is not
-// counted.
+// Copies row a, from 0, of rows of `width` bytes, end byte included, to the start of the buffer. Returns the width, and 0: the number of blocks
+// entered is not reported.
 pub fn row_by_columns(
     t: &[u8],
     width: u32,
