@@ -46,7 +46,8 @@ fn digest_at(t: &[u8], h: Header, out: &mut [u8]) -> Result<(), Refusal>
     Ok(())
 }
 
-// Hashes the text: the hash value of the whole text, none if the path of some place breaks. The array is made here and not in the loop's function, whose proof would carry its 1,024 entries.
+// Hashes the text: the hash value of the whole text, none if the path of some place breaks. The array is made here and not in the loop's function, whose proof
+// would carry its 1,024 entries.
 fn hash(t: &[u8], h: Header) -> Option<HashState>
     requires { HeaderOf t.now h }
     ensures { result ≡ hash_answer t.now 0 }
