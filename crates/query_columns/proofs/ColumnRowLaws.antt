@@ -64,7 +64,8 @@ module _ (t : List ℕ) (w a : ℕ) (d : List ℕ) where
       pub read_short : a < h.text_length / w → length d < w → Read (Err AnswerDoesNotFit) d
       unfolding row_by_columns_refusal
       read_short low e =
-          stays AnswerDoesNotFit 12 refl (rw (k.passes, ok-t, lt-ltb a (at.text_length t / w) (rw k.length_is at low), lt-leb w (length d) e)) (λ z. omega arith)
+          stays AnswerDoesNotFit 12 refl
+          (rw (k.passes, ok-t, lt-ltb a (at.text_length t / w) (rw k.length_is at low), lt-leb w (length d) e)) (λ z. omega arith)
 
 -- Buffer e, where b columns of the row were copied to buffer d.
 pub record Reading (t : List ℕ) (w a : ℕ) (d e : List ℕ) (b : ℕ) : Type 0 where

@@ -68,7 +68,8 @@ module _ (t : List ℕ) (h : Header) (k : HeaderOf t h) (p len : ℕ) (low : p +
 
   pub part-broken : (q : Refusal) → r ≡ Err q → PartRead t p len false after
   part-broken q is =
-      let b = asked-broken (paths_hold t p len) (refusal_number q) (number-above q) (sym (ap (λ (x : Result (ℕ × ℕ) Refusal). (replied (span_reply x)).number) is) ∙ answer-number) in
+      let z : refusal_number q ≡ ask 14 (paths_hold t p len) 0 = sym (ap (λ (x : Result (ℕ × ℕ) Refusal). (replied (span_reply x)).number) is) ∙ answer-number in
+      let b = asked-broken (paths_hold t p len) (refusal_number q) (number-above q) z in
       record { holds = sym b; bytes = λ y. bool_clash false y refl }
 
 -- Parts hashed one after the other.
