@@ -1,4 +1,5 @@
 -- A pass over the text: the places found so far, and the result at the end.
+use Rattle.std.specs.Prelude.{Some, None}
 use mathlib.Core.List.{List, [], ◌∷◌, ◌++◌, append-nil}
 use mathlib.Core.Bool.{Bool, true, false, cond}
 use mathlib.Core.Path.{◌≡◌, sym, ap, ◌∙◌}
@@ -23,7 +24,6 @@ use Rattle.query_access.specs.ReadByRuns.{ReadsOn}
 use Rattle.query_access.proofs.RunLaws.{reads-rest}
 use Rattle.search_kmp.specs.Borders.{Ends, Longest}
 use Rattle.query_places.specs.declared.pattern_seek.Progress.{Progress}
-use Rattle.std.proofs.Common.{Some, None}
 use Rattle.query_places.specs.Places.{occurs_at, places_below, places_in, places_of}
 use Rattle.query_places.specs.TableFilled.{Even, Stepped, filled, so_far, Seeking, SeekAnswer}
 use Rattle.query_places.proofs.FillLaws.{filled_none, filled-length, filled_more, filled-full}

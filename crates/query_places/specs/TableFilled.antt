@@ -50,7 +50,7 @@ module _ (t P : List ℕ) where
     pub even : Even P r
     pub on : (room : ℕ) (before table : List ℕ) → Seeking room before m table → Seeking room before r table
 
-  -- The result of the whole pass: the number of places, none if a path breaks.
+  -- The result of the whole pass.
   pub record SeekAnswer (room : ℕ) (before : List ℕ) (r : Option ℕ) (after : List ℕ) : Type 0 where
     pub answers : r ≡ cond (paths_hold t 0 (at.text_length t)) (Some (length (places_of t P))) None
     pub table_is : paths_hold t 0 (at.text_length t) ≡ true → after ≡ filled (places_of t P) room before

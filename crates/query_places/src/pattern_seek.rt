@@ -8,7 +8,7 @@ ghost use Rattle.query_places.specs.TableFilled.{Stepped, Skips, ReadsMatching, 
 use layout::header::Header;
 use layout::place::TextPlace;
 use query_access::read_by_header;
-use query_access::read_by_header::{RunRangeAnswer, TreeRange};
+use query_access::read_by_header::TreeRange;
 
 // The largest number of bytes that are read at once.
 const MOST: u32 = 65536;
@@ -129,7 +129,7 @@ fn feed(
     at
 }
 
-// Reads the whole text and writes the first `room` places to the table. Returns the number of places; None if a path breaks.
+// Reads the whole text; writes the first `room` places to the table. The number of places, none if a path breaks.
 pub fn seek(
     t: &[u8],
     h: Header,
@@ -150,7 +150,7 @@ pub fn seek(
     // A `while`: each part's length is found when it is read, so there is no range to go over.
     while m.place.0 < h.text_length {
         let range = read_by_header::range_at(t, h, m.place, MOST);
-        let RunRangeAnswer::At(part) = range else {
+        let Ok(part) = range else {
             return None;
         };
         m = feed(t, Unread { part, before: m }, pattern, borders, room, table);
