@@ -2,13 +2,15 @@
 ghost use Rattle.std.specs.Prelude.{◌+◌, ◌≤◌, length};
 ghost use Rattle.list_lines.specs.ListedLines.{ListPut, decimal, figure, max_figure};
 
-// Writes the bytes of s at `at`.
+// Writes the bytes of s at `at`. A loop, since `copy_from_slice` would make the archive need `memmove`.
 pub fn bytes(out: &mut [u8], at: usize, s: &[u8]) -> usize
     requires { at + length s.now ≤ length out.old }
     ensures { ListPut out.old out.new at result s.now (length s.now) }
 {
     let end = at + s.len();
-    out[at..end].copy_from_slice(s);
+    for (i, b) in s.iter().enumerate() {
+        out[at + i] = *b;
+    }
     end
 }
 

@@ -125,10 +125,12 @@ fn fill_counted(
     Ok(number)
 }
 
-// Copies the first n words.
+// Copies the first n words. A loop, since `copy_from_slice` would make the archive need `memmove`.
 fn copy(few: &[u32], n: usize, table: &mut [u32])
     requires { (n ≤ length few.now) × (n ≤ length table.old) }
     ensures { table.new ≡ take n few.now ++ drop n table.old }
 {
-    table[..n].copy_from_slice(&few[..n]);
+    for (i, word) in few[..n].iter().enumerate() {
+        table[i] = *word;
+    }
 }
