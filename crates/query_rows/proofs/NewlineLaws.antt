@@ -4,9 +4,8 @@ use mathlib.Core.Bool.{Bool, true, false, cond}
 use mathlib.Core.Path.{◌≡◌, refl, sym, ap, ◌∙◌}
 use Prim.Native.Nat.{ℕ, zero, suc, ◌+◌, ◌-◌, ◌≤◌, ◌<◌}
 use native.Mathlib.Omega.{arith}
-use native.Mathlib.Nat.{add_assoc}
 use borrow.Author.Tests.{eq-eqb, ne_eqb, eqb-true, eqb-false}
-use lib.ListN.{length, get_or}
+use lib.ListN.{get_or}
 use lib.Dec.{eqb}
 use Rattle.text.specs.Text.{substring, count_in}
 use Rattle.text.specs.TextLaws.{substring-ext}
@@ -23,11 +22,9 @@ use Rattle.layout.specs.declared.header.Header.{Header}
 use Rattle.layout.specs.HeaderFields.{HeaderOf}
 use Rattle.byte_slices.specs.ByteSlices.{HasBytes}
 use Rattle.query_access.specs.declared.read_by_header.LeafRun.{LeafRun}
-use Rattle.std.specs.Prelude.{Option, Some}
+use Rattle.std.specs.Prelude.{Option, Some, None}
 use Rattle.query_access.specs.ReadByRuns.{ReadsOn, LeafRangeAt, ReadsFrom, LeafRangeOf}
 use Rattle.query_access.proofs.LeafRunLaws.{access-none-read, range-found, range-read, found-range}
-use Rattle.query_rows.specs.declared.next_newline.Newline.{Newline}
-use Rattle.query_rows.specs.declared.next_newline.Newline.TheVariants as newline
 use Rattle.query_rows.specs.RowEnds.{EndsRow, NewlineIs}
 
 pub text-small : (t : List ℕ) (h : Header) → HeaderOf t h → at.text_length t < 4294967296
@@ -50,27 +47,27 @@ none-at-start t p h =
     }
 
 module _ (t : List ℕ) (p : ℕ) where
-  found-is : (e before : ℕ) (run : LeafRun) → (EndsRow t p e before) × (ReadsFrom t p run) → NewlineIs t p (newline.At (record { 0 = e }) before run)
+  found-is : (e before : ℕ) (run : LeafRun) → (EndsRow t p e before) × (ReadsFrom t p run) → NewlineIs t p (Some (record { 0 = e }, before, run))
   found-is e before run r = record {
-    found = λ q b u is. (let z : record { 0 = e } ≡ q = cc in
-        let y : before ≡ b = cc in
-        let v : run ≡ u = cc in
-        let x : e ≡ q.0 = ap (λ (w : TextPlace). w.0) z in
+    found = λ q b u is. (let z : ◌≡◌ {A = TextPlace × ℕ × LeafRun} (record { 0 = e }, before, run) (q, b, u) = cc in
+        let x : e ≡ q.0 = ap (λ (w : TextPlace × ℕ × LeafRun). w.0.0) z in
+        let y : before ≡ b = ap (λ (w : TextPlace × ℕ × LeafRun). w.1) z in
+        let v : run ≡ u = ap (λ (w : TextPlace × ℕ × LeafRun). w.2) z in
         rw (← x, ← y, ← v) r);
     missing = λ is. absurd (let z : ◌≡◌ {A = ℕ} 0 1 = cc in omega arith);
   }
 
-  missing-is : (check_result t ≡ 0 → (o : ℕ) → Nth 10 1 (text_of t) p o → ⊥) → NewlineIs t p newline.Missing
+  missing-is : (check_result t ≡ 0 → (o : ℕ) → Nth 10 1 (text_of t) p o → ⊥) → NewlineIs t p None
   missing-is never = record { found = λ q b u is. absurd (let z : ◌≡◌ {A = ℕ} 0 1 = cc in omega arith); missing = λ is. never }
 
   module _ (place earlier : ℕ) (i : NoneYet t p place earlier) where
     -- The text ends before a newline.
-    pub text-ends : at.text_length t ≤ place → NewlineIs t p newline.Missing
+    pub text-ends : at.text_length t ≤ place → NewlineIs t p None
     text-ends end = missing-is (λ v o n.
         omega (arith, i.past, i.within, i.absent, n.within, text-length t, nth_past 10 1 (text_of t) p (place - p) o n (omega (arith, i.absent))))
 
     -- A path breaks: not in an accepted tree.
-    pub run-breaks : (h : Header) → HeaderOf t h → place < h.text_length → (byte_answer t place).number ≡ 14 → NewlineIs t p newline.Missing
+    pub run-breaks : (h : Header) → HeaderOf t h → place < h.text_length → (byte_answer t place).number ≡ 14 → NewlineIs t p None
     run-breaks h k low broken =
         missing-is (λ v. absurd (never-14 t k.passes place (omega (arith, k.length_is)) (accepted-links t v) broken))
 
@@ -98,7 +95,7 @@ module _ (t : List ℕ) (p : ℕ) where
               let f : suc y - 1 ≡ y = omega arith in
               rw (ne_eqb (suc y) 0 (λ z. omega arith), e, f) (reads.bytes y (omega arith))
 
-      pub newline-in-run : x < size → (run : LeafRun) → ReadsFrom t p run → NewlineIs t p (newline.At (record { 0 = place + x }) before run)
+      pub newline-in-run : x < size → (run : LeafRun) → ReadsFrom t p run → NewlineIs t p (Some (record { 0 = place + x }, before, run))
       newline-in-run l run reads-run =
           found-is (place + x) before run (record { past = omega (arith, i.past); first = first; before-is = before-x }, reads-run)
         where

@@ -8,19 +8,12 @@ use layout::place::TextPlace;
 use query_access::read_by_header;
 use query_access::read_by_header::LeafRun;
 
-// The place of the first newline from a place on, the byte before it, if one was read, and the range that was read first; or none, because a path
-// breaks or the text ends before it.
-#[derive(Clone, Copy)]
-pub enum Newline {
-    At(TextPlace, u8, LeafRun),
-    Missing,
-}
-
 // The most bytes that are read at once: few rows are longer.
 const MOST: u32 = 32;
 
-// The ranges are read in place; question 14 where one breaks.
-pub fn next_newline(t: &&[u8], h: Header, from: TextPlace) -> Newline
+// The place of the first newline from a place on, the byte before it, if one was read, and the range that was read first; or none, because a path
+// breaks or the text ends before it. The ranges are read in place.
+pub fn next_newline(t: &&[u8], h: Header, from: TextPlace) -> Option<(TextPlace, u8, LeafRun)>
     requires { (HeaderOf t.now.now h) × (from.0 ≤ h.text_length) }
     ensures { NewlineIs t.now.now from.0 result }
 {
@@ -32,19 +25,19 @@ pub fn next_newline(t: &&[u8], h: Header, from: TextPlace) -> Newline
     while at < h.text_length {
         let found = read_by_header::leaf_range(t, h, TextPlace(at), MOST);
         let Some(part) = found else {
-            return Newline::Missing;
+            return None;
         };
         let size = part.length;
         let i = byte_slices::find_nth(tree, part.from, size, 10, 1);
         let before = byte_before(tree, part.from, i, earlier);
         first = first_of(first, part);
         if i < size {
-            return Newline::At(TextPlace(at + i), before, first);
+            return Some((TextPlace(at + i), before, first));
         }
         earlier = before;
         at += size;
     }
-    Newline::Missing
+    None
 }
 
 // The range that was read first: the one before, if there is one.

@@ -1,4 +1,3 @@
-use Prim.Native.Nat.{◌-◌}
 use native.Mathlib.Omega.{arith}
 use Rattle.query_access.specs.ReadByRuns.{ReadsOn, LeafRangeAt}
 use Rattle.query_access.proofs.LeafRunLaws.{range-refused}
