@@ -59,7 +59,8 @@ pub ten-guided : (t guide : List ℕ) (used : Bool) (j : ℕ) (g : Result (TextP
 unfolding settled_by
 ten-guided t guide used j g r e a is = rw (e, is) (found-by t guide 10 j g a)
 
-pub ten-plain : (t guide : List ℕ) (used : Bool) (j : ℕ) (r : Result (TextPlace × ℕ) Refusal) → used ≡ false → IsFindAnswer t 10 j r → FoundBy t (settled_by t guide used) 10 j r
+pub ten-plain : (t guide : List ℕ) (used : Bool) (j : ℕ) (r : Result (TextPlace × ℕ) Refusal) → used ≡ false → IsFindAnswer t 10 j r
+    → FoundBy t (settled_by t guide used) 10 j r
 unfolding settled_by
 ten-plain t guide used j r e a = rw e a
 
@@ -189,7 +190,8 @@ module _ (t : List ℕ) (ok : ℕ) (q : ℕ) where
           unfolding row_from
           start_first one = starts-at 0 let_through (omega arith) (λ v. rw one)
 
-          module _ (more : q ≡ 1 → ⊥) (sound : ok ≡ 0 → check_result t ≡ 0) (found : Result (TextPlace × ℕ) Refusal) (says : FindBy t ok 10 (q - 1) (replied (find_reply found)))
+          module _ (more : q ≡ 1 → ⊥) (sound : ok ≡ 0 → check_result t ≡ 0)
+              (found : Result (TextPlace × ℕ) Refusal) (says : FindBy t ok 10 (q - 1) (replied (find_reply found)))
             where
               before-asked : Selected t 10 (q - 1)
               before-asked = record {
@@ -493,13 +495,15 @@ module _ (t : List ℕ) (h : Header) (k : HeaderOf t h) (q : ℕ) (asks : is_unt
 
 -- The edges of row q, by which of the two it is.
 module _ (t : List ℕ) (ok : ℕ) (sound : ok ≡ 0 → check_result t ≡ 0) (q : ℕ) where
-  pub edges-last : (r : Result (TextPlace × ℕ × LeafRun) Refusal) → true ≡ is_unterminated_row t q → EdgesOf t ok (last_row_refusal (byte_answer t (at.text_length t - 1))) (row_of (text_of t) q)
+  pub edges-last : (r : Result (TextPlace × ℕ × LeafRun) Refusal) → true ≡ is_unterminated_row t q
+      → EdgesOf t ok (last_row_refusal (byte_answer t (at.text_length t - 1))) (row_of (text_of t) q)
       (row_most t q) r
       → EdgesOf t ok (row_refusal t q) (row_of (text_of t) q) (row_most t q) r
   edges-last r asks e = rw (row-number-last t q (sym asks)) e
 
   -- ended by a newline
-  pub edges-ended : (r : Result (TextPlace × ℕ × LeafRun) Refusal) → false ≡ is_unterminated_row t q → EdgesOf t ok (find_refusal t 10 q) (trimmed (between (text_of t) q)) (at.text_length t - 1) r
+  pub edges-ended : (r : Result (TextPlace × ℕ × LeafRun) Refusal) → false ≡ is_unterminated_row t q
+      → EdgesOf t ok (find_refusal t 10 q) (trimmed (between (text_of t) q)) (at.text_length t - 1) r
       → EdgesOf t ok (row_refusal t q) (row_of (text_of t) q) (row_most t q) r
   unfolding row_most
   edges-ended r asks e = rw (row-number-plain t q (sym asks)) (record {

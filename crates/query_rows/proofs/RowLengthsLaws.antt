@@ -34,7 +34,8 @@ use Rattle.query_rows.specs.RowAnswers.{row_count_refusal, last_open, row_count_
 
 -- The length of a row.
 module _ (t : List ℕ) (q : ℕ) where
-  module _ (guide : List ℕ) (x : Result (TextPlace × ℕ × LeafRun) Refusal) (k : EdgesOf t (settled_by t guide false) (row_refusal t q) (row_of (text_of t) q) (row_most t q) x) where
+  module _ (guide : List ℕ) (x : Result (TextPlace × ℕ × LeafRun) Refusal)
+      (k : EdgesOf t (settled_by t guide false) (row_refusal t q) (row_of (text_of t) q) (row_most t q) x) where
     pub length-answered : (start : TextPlace) (len : ℕ) (run : LeafRun) → x ≡ Ok (start, len, run) → IsRowLengthAnswer t q (Ok len)
     unfolding settled_by
     length-answered start len run e =

@@ -72,8 +72,10 @@ module _ (t : List ℕ) (v : check_result t ≡ 0)
           (d.0, d.1, d.2 ∙ ap (λ (i : ℕ). row_of (text_of t) q ++ drop i buffer) d.1)
 
 -- If the tree and the guide are accepted, row with a guide returns what row returns.
-pub guided-as-row : (κs : Lfts 3) (t guide : Bor (List ℕ)) (q : ℕ) (buffer after : MutBor (List ℕ)) (r : Result ℕ Refusal) → RowGuided κs t guide q buffer after r
-    → guide_refusal t.now guide.now ≡ 0 → (κ : Lfts 2) (left : MutBor (List ℕ)) (s : Result ℕ Refusal) → Row κ t q buffer left s → (r ≡ s) × (after.now ≡ left.now)
+pub guided-as-row : (κs : Lfts 3) (t guide : Bor (List ℕ)) (q : ℕ) (buffer after : MutBor (List ℕ)) (r : Result ℕ Refusal)
+    → RowGuided κs t guide q buffer after r
+    → guide_refusal t.now guide.now ≡ 0 → (κ : Lfts 2) (left : MutBor (List ℕ)) (s : Result ℕ Refusal) → Row κ t q buffer left s
+    → (r ≡ s) × (after.now ≡ left.now)
 guided-as-row κs t guide q buffer after r a g κ left s b =
     let v = guide-checked t.now guide.now g in
     let z = a.answers in

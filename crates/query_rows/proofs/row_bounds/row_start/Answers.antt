@@ -16,7 +16,8 @@ find_newline-requires c = (c.requires.0, c.requires.1, c.requires.2, omega (arit
 
 -- The find is refused.
 pub returns-in_err-before : goal.returns-in_err-before
-returns-in_err-before c = rw (passed-on _ _ c.from_residual.ensures.1) (laws.start-refused _ _ _ _ c.requires.0 _ c.requires.1 c.requires.2 _ refl (λ z. omega (arith, c.requires.3)) c.requires.4 c.if-q-eq1.false (laws.settled-sound _ _ _)
+returns-in_err-before c = rw (passed-on _ _ c.from_residual.ensures.1)
+    (laws.start-refused _ _ _ _ c.requires.0 _ c.requires.1 c.requires.2 _ refl (λ z. omega (arith, c.requires.3)) c.requires.4 c.if-q-eq1.false (laws.settled-sound _ _ _)
     _ c.find_newline.ensures.answers _ c.in_err-before.was)
 
 pub overflow_add-result : goal.overflow_add-result
