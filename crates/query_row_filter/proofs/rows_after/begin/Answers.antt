@@ -33,6 +33,6 @@ returns c = let all = c.total-newlines.ensures ∙ ap (total c.args.t.now) c.num
       total_is = all;
       mark_high = omega (arith, c.if-newlines-mark.false);
       mark_low = omega (arith, c.if-h-mark.false, c.requires.length_is);
-      place-in = c.start-place.ensures.place-in _ c.in-At.is;
-      place_is = c.start-place.ensures.place_is _ c.in-At.is;
+      place-in = c.start-place.ensures.place-in _ c.in-Some.is;
+      place_is = c.start-place.ensures.place_is _ c.in-Some.is;
     })
