@@ -103,9 +103,9 @@ module _ (q R mark : ℕ) where
 
 -- The questions before the walk: 5 to 7, the query's own, and 11.
 module _ (t : List ℕ) (k : ℕ) (ok : Bool) where
-  pub asked-unread : (q : ℕ) → header_result t ≡ suc q → query_refusal t k ok ≡ suc q
+  pub asked-unread : (q : Refusal) → header_result t ≡ refusal_number q → query_refusal t k ok ≡ refusal_number q
   unfolding query_refusal
-  asked-unread q e = rw (e, ne_eqb (suc q) 0 (λ z. omega arith))
+  asked-unread q e = rw (e, ne_eqb (refusal_number q) 0 (λ z. omega (arith, number-above q)))
 
   pub asked-bad : header_result t ≡ 0 → ok ≡ false → query_refusal t k ok ≡ k
   unfolding query_refusal
