@@ -1,13 +1,14 @@
 -- What the builder with one scan a level returns.
 -- docs/FORMAT.md: "Two builders".
 use Rattle.std.specs.Prelude.{List, [], ◌∷◌, ◌++◌, Bool, false, cond, ◌&&◌, ◌||◌, ◌≡◌, ℕ, zero, suc, ◌+◌, ◌-◌, ◌*◌, min, length, drop, replicate, leb, eqb}
+use Rattle.std.specs.Prelude.{Result, Ok, Err}
 use Rattle.text.specs.Text.{sum_below}
 use Rattle.format.specs.Layout.{Settings, block_length, pieces, length_ok, sizes_ok, counted_ok}
 use Rattle.format.specs.Blocks.{tree_of, starts_at, start_of, length_of, pair_at}
 use Rattle.format.specs.TreeReading.{asks}
 use Rattle.format.specs.Answers.{Reply, figures, refusal}
-use Rattle.build_by_scan.specs.declared.BuildScannedAnswer.{BuildScannedAnswer}
-use Rattle.build_by_scan.specs.declared.BuildScannedAnswer.TheVariants.{Size, Refused}
+use Rattle.refusals.specs.declared.Refusal.{Refusal}
+use Rattle.refusals.specs.Refusals.{refusal_number}
 
 -- What build_scanned returns, and what the caller's buffer and table contain afterwards.
 -- docs/FORMAT.md: "Two builders", "Buffers after a call".
@@ -67,6 +68,6 @@ pub record TableLeft (number : ℕ) (old new : List ℕ) : Type 0 where
 -- The answer of build_scanned by its refusal and figures.
 
 -- The tree's size and the windows looked up.
-abbrev pub build_scanned_reply : BuildScannedAnswer → Reply
-build_scanned_reply (Size n w) = figures n w
-build_scanned_reply (Refused q) = refusal q
+abbrev pub build_scanned_reply : Result (ℕ × ℕ) Refusal → Reply
+build_scanned_reply (Ok x) = figures x.0 x.1
+build_scanned_reply (Err e) = refusal (refusal_number e)

@@ -14,7 +14,8 @@ ghost use Rattle.build_records.specs.State.{record_settings_of};
 ghost use Rattle.build_by_scan.specs.ScanAnswers.{build_scanned_reply, table_words, build_scanned_refusal};
 ghost use Rattle.build_by_scan.specs.ScanAnswers.{scan_size, scan_windows, build_scanned_buffer, TableLeft};
 
-use layout::settings::{Settings, SettingsAnswer};
+use layout::settings::Settings;
+use refusals::Refusal;
 
 // The number of words that the table must have for a text of n bytes.
 pub fn scan_words(n: u32, leaf: u32) -> u64
@@ -26,16 +27,9 @@ pub fn scan_words(n: u32, leaf: u32) -> u64
     4 * ((n as u64 + (leaf - 1) as u64) / leaf as u64)
 }
 
-// The size of the tree and the number of windows looked up, or the refusal.
-#[derive(Clone, Copy)]
-pub enum BuildScannedAnswer {
-    Size(u32, u32),
-    Refused(u32),
-}
-
-// Writes the block tree of a text into a buffer: questions 1 to 3, then 18 (the table has fewer than four words for each leaf length of the text), then 4. If
-// refused with 1, 2, 3 or 18, table and buffer are unchanged; with 4 the buffer is all zero. The table may contain anything afterwards. Its contents at entry
-// affect only the time: its first word is the seed of the fingerprints.
+// Writes the block tree of a text into a buffer, and returns its size and the number of windows looked up: questions 1 to 3, then 18 (the table has fewer than
+// four words for each leaf length of the text), then 4. If refused with 1, 2, 3 or 18, table and buffer are unchanged; with 4 the buffer is all zero. The table
+// may contain anything afterwards. Its contents at entry affect only the time: its first word is the seed of the fingerprints.
 pub fn build_scanned(
     text: &[u8],
     leaf: u32,
@@ -44,7 +38,7 @@ pub fn build_scanned(
     counted: &[u8],
     words: &mut [u32],
     out: &mut [u8],
-) -> BuildScannedAnswer
+) -> Result<(u32, u32), Refusal>
     ensures number { (replied (build_scanned_reply result)).number
         ≡ build_scanned_refusal (given leaf arity levels counted.now) text.now out.old (length words.old) }
     ensures size { (replied (build_scanned_reply result)).value
@@ -56,13 +50,10 @@ pub fn build_scanned(
     ensures table { TableLeft (replied (build_scanned_reply result)).number words.old words.new }
 {
     if (Settings::MAX_TEXT as usize) < text.len() {
-        return BuildScannedAnswer::Refused(1);
+        return Err(Refusal::TextTooLong);
     }
-    let checked = Settings::new(leaf, arity, levels, counted);
-    match checked {
-        SettingsAnswer::Fine(s) => scan_with(text, counted, s, words, out),
-        SettingsAnswer::Refused(q) => BuildScannedAnswer::Refused(q),
-    }
+    let s = Settings::new(leaf, arity, levels, counted)?;
+    scan_with(text, counted, s, words, out)
 }
 
 // The same, for settings that pass questions 1 to 3.
@@ -72,7 +63,7 @@ fn scan_with(
     s: Settings,
     words: &mut [u32],
     out: &mut [u8],
-) -> BuildScannedAnswer
+) -> Result<(u32, u32), Refusal>
     requires { Taken (record_settings_of s counted.now) text.now }
     ensures result_value { (replied (build_scanned_reply result)).number
         ≡ build_scanned_refusal (record_settings_of s counted.now) text.now out.old (length words.old) }
@@ -85,13 +76,13 @@ fn scan_with(
     ensures table_left { TableLeft (replied (build_scanned_reply result)).number words.old words.new }
 {
     if (words.len() as u64) < scan_words(text.len() as u32, s.leaf) {
-        return BuildScannedAnswer::Refused(18);
+        return Err(Refusal::ScanTableTooShort);
     }
     let wrote = scanned_levels::write_tree(out, words, text, counted, s);
     if wrote.size == 0 {
         let all = out.len();
         byte_slices::clear(out, all);
-        return BuildScannedAnswer::Refused(4);
+        return Err(Refusal::TreeDoesNotFit);
     }
-    BuildScannedAnswer::Size(wrote.size, wrote.windows)
+    Ok((wrote.size, wrote.windows))
 }

@@ -11,17 +11,11 @@ ghost use Rattle.build_by_search.specs.BuildAnswer.{build_reply};
 ghost use Rattle.format.specs.Layout.{given};
 ghost use Rattle.build_records.specs.State.{record_settings_of};
 
-use layout::settings::{Settings, SettingsAnswer};
+use layout::settings::Settings;
+use refusals::Refusal;
 
-// The size of the tree, or the refusal.
-#[derive(Clone, Copy)]
-pub enum BuildAnswer {
-    Size(u32),
-    Refused(u32),
-}
-
-// Writes the block tree of a text into a buffer: questions 1 to 4 in order. If refused with 1, 2 or 3, the buffer is unchanged; with 4 it is all zero. No
-// other memory is used.
+// Writes the block tree of a text into a buffer, and returns its size: questions 1 to 4 in order. If refused with 1, 2 or 3, the buffer is unchanged; with 4 it
+// is all zero. No other memory is used.
 pub fn build(
     text: &[u8],
     leaf: u32,
@@ -29,24 +23,21 @@ pub fn build(
     levels: u32,
     counted: &[u8],
     out: &mut [u8],
-) -> BuildAnswer
+) -> Result<u32, Refusal>
     ensures number { (replied (build_reply result)).number
         ≡ build_refusal (given leaf arity levels counted.now) text.now out.old }
     ensures size { (replied (build_reply result)).value ≡ build_size (given leaf arity levels counted.now) text.now out.old }
     ensures buffer { out.new ≡ build_buffer (given leaf arity levels counted.now) text.now out.old }
 {
     if (Settings::MAX_TEXT as usize) < text.len() {
-        return BuildAnswer::Refused(1);
+        return Err(Refusal::TextTooLong);
     }
-    let checked = Settings::new(leaf, arity, levels, counted);
-    match checked {
-        SettingsAnswer::Fine(s) => build_with(text, counted, s, out),
-        SettingsAnswer::Refused(q) => BuildAnswer::Refused(q),
-    }
+    let s = Settings::new(leaf, arity, levels, counted)?;
+    build_with(text, counted, s, out)
 }
 
 // The same, for settings that pass questions 1 to 3.
-fn build_with(text: &[u8], counted: &[u8], s: Settings, out: &mut [u8]) -> BuildAnswer
+fn build_with(text: &[u8], counted: &[u8], s: Settings, out: &mut [u8]) -> Result<u32, Refusal>
     requires { Taken (record_settings_of s counted.now) text.now }
     ensures result_value { (replied (build_reply result)).number ≡ build_refusal (record_settings_of s counted.now) text.now out.old }
     ensures result_value_2 { (replied (build_reply result)).value ≡ build_size (record_settings_of s counted.now) text.now out.old }
@@ -56,7 +47,7 @@ fn build_with(text: &[u8], counted: &[u8], s: Settings, out: &mut [u8]) -> Build
     if size == 0 {
         let all = out.len();
         byte_slices::clear(out, all);
-        return BuildAnswer::Refused(4);
+        return Err(Refusal::TreeDoesNotFit);
     }
-    BuildAnswer::Size(size)
+    Ok(size)
 }

@@ -16,10 +16,10 @@ use Rattle.format.specs.Blocks.{built_layout}
 use Rattle.format.specs.TreeReading.{ask}
 use Rattle.format.specs.Answers.{unless}
 use Rattle.layout.specs.declared.settings.Settings as code
-use Rattle.layout.specs.declared.settings.SettingsAnswer.{SettingsAnswer}
-use Rattle.layout.specs.declared.settings.SettingsAnswer.TheVariants as settings
+use Rattle.std.specs.Prelude.{Result, Ok, Err}
+use Rattle.refusals.specs.declared.Refusal.{Refusal}
+use Rattle.refusals.specs.declared.Refusal.TheVariants.{TextTooLong, SettingsOutOfBounds, CountedBytesWrong}
 use Rattle.layout.specs.SettingsLevel.{Sized}
-use Rattle.build_size_bound.specs.declared.SizeBoundAnswer.TheVariants.{Bytes, Refused}
 use Rattle.build_size_bound.specs.SizeBound.{blocks_at_most, size_bound_for, size_bound_refusal, size_bound_answer, IsSizeBoundAnswer}
 
 module _ (s : code.Settings) (z : Sized s 0) (low : 1 ≤ s.leaf) where
@@ -57,17 +57,17 @@ none_first f = refl
 
 -- The answers.
 module _ (n m r H k : ℕ) where
-  pub long : max_text < n → IsSizeBoundAnswer n m r H k (Refused 1)
+  pub long : max_text < n → IsSizeBoundAnswer n m r H k (Err TextTooLong)
   unfolding size_bound_answer size_bound_refusal length_ok
   long h = record { answers = rw (lt-leb n max_text h); numbered = omega arith }
 
-  module _ (high : n ≤ max_text) (x : SettingsAnswer) (is : x ≡ checked m r H []) where
+  module _ (high : n ≤ max_text) (x : Result code.Settings Refusal) (is : x ≡ checked m r H []) where
     nothing-counted : counted_ok [] ≡ true
     unfolding counted_ok rising
     nothing-counted = refl
 
     by-sizes : (y : Bool) → sizes_ok (sizes m r H) ≡ y
-        → x ≡ cond y (settings.Fine (record { leaf = m; arity = r; levels = H; counted = 0 })) (settings.Refused 2)
+        → x ≡ cond y (Ok (record { leaf = m; arity = r; levels = H; counted = 0 })) (Err SettingsOutOfBounds)
     unfolding checked
     by-sizes y e = is ∙ rw (e, nothing-counted)
 
@@ -76,29 +76,26 @@ module _ (n m r H k : ℕ) where
       unfolding size_bound_answer size_bound_refusal length_ok
       answer_is = rw (le-leb n max_text high, e)
 
-    pub sizes-refused : (q : ℕ) → x ≡ settings.Refused q → IsSizeBoundAnswer n m r H k (Refused 2)
+    pub sizes-refused : (q : Refusal) → x ≡ Err q → IsSizeBoundAnswer n m r H k (Err q)
     sizes-refused q e = go (sizes_ok (sizes m r H)) refl
       where
-        fine : (s : code.Settings) → settings.Refused q ≡ settings.Fine s → ⊥
-        fine s e = let z : ◌≡◌ {A = ℕ} 0 1 = cc in omega arith
+        go : (y : Bool) → sizes_ok (sizes m r H) ≡ y → IsSizeBoundAnswer n m r H k (Err q)
+        go true f = absurd (let z = sym e ∙ by-sizes true f in let w : ⊥ = cc in w)
+        go false f =
+            let z = sym e ∙ by-sizes false f in
+            let w : q ≡ SettingsOutOfBounds = cc in
+            rw w (record { answers = sym (answer_is false f); numbered = omega arith })
 
-        go : (y : Bool) → sizes_ok (sizes m r H) ≡ y → IsSizeBoundAnswer n m r H k (Refused 2)
-        go true f = absurd (fine _ (sym e ∙ by-sizes true f))
-        go false f = record { answers = sym (answer_is false f); numbered = omega arith }
-
-    module _ (s : code.Settings) (e : x ≡ settings.Fine s) where
+    module _ (s : code.Settings) (e : x ≡ Ok s) where
       fine-is : (sizes_ok (sizes m r H) ≡ true) × (s ≡ record { leaf = m; arity = r; levels = H; counted = 0 })
       fine-is = go (sizes_ok (sizes m r H)) refl
         where
-          refused : settings.Fine s ≡ settings.Refused 2 → ⊥
-          refused e = let z : ◌≡◌ {A = ℕ} 0 1 = cc in omega arith
-
-          same : (u : code.Settings) → settings.Fine s ≡ settings.Fine u → s ≡ u
+          same : (u : code.Settings) → ◌≡◌ {A = Result code.Settings Refusal} (Ok s) (Ok u) → s ≡ u
           same u e = cc
 
           go : (y : Bool) → sizes_ok (sizes m r H) ≡ y → (sizes_ok (sizes m r H) ≡ true) × (s ≡ record { leaf = m; arity = r; levels = H; counted = 0 })
           go true f = (f, same _ (sym e ∙ by-sizes true f))
-          go false f = absurd (refused (sym e ∙ by-sizes false f))
+          go false f = let z = sym e ∙ by-sizes false f in cc
 
       facts : Sizes m r H
       facts = within-bounds 0 0 (sizes m r H) (omega arith) fine-is.0 (omega arith)
@@ -112,11 +109,11 @@ module _ (n m r H k : ℕ) where
         facts.leaf_low,
       )
 
-      pub many-counted : max_counted < k → IsSizeBoundAnswer n m r H k (Refused 3)
+      pub many-counted : max_counted < k → IsSizeBoundAnswer n m r H k (Err CountedBytesWrong)
       many-counted h = record { answers = sym (answer_is true fine-is.0 ∙ rw (lt-leb k max_counted h)); numbered = omega arith }
 
       pub size-bound-is : k ≤ max_counted → (sum : ℕ) → sum ≡ blocks_at_most n s.leaf s.arity s.levels
-          → (z : ℕ) → z ≡ record_length built_layout s.leaf k → IsSizeBoundAnswer n m r H k (Bytes (header_length + n + z * sum))
+          → (z : ℕ) → z ≡ record_length built_layout s.leaf k → IsSizeBoundAnswer n m r H k (Ok (header_length + n + z * sum))
       size-bound-is h sum e' z ez = record { answers = sym (answer_is true fine-is.0 ∙ rw (le-leb k max_counted h, e', ez, fine-is.1)); numbered = tt }
 
 -- The records of all levels are few.

@@ -6,31 +6,22 @@ ghost use Rattle.layout.specs.SettingsLevel.{Sized};
 ghost use Rattle.build_size_bound.specs.SizeBound.{blocks_at_most, IsSizeBoundAnswer};
 ghost use Rattle.format.specs.Layout.{max_text, max_levels};
 
-use layout::settings::{Settings, SettingsAnswer};
+use layout::settings::Settings;
 use layout::{header, settings};
+use refusals::Refusal;
 
 const HEADER: u64 = header::HEADER_LENGTH as u64;
 
-// The size, or the refusal of the length or the settings.
-#[derive(Clone, Copy)]
-pub enum SizeBoundAnswer {
-    Bytes(u64),
-    Refused(u32),
-}
-
-// The size bound of the tree of every text of n bytes.
-pub fn size_bound(n: u32, leaf: u32, arity: u32, levels: u32, counted: u32) -> SizeBoundAnswer
+// The size bound of the tree of every text of n bytes, in bytes, or the refusal of the length or the settings.
+pub fn size_bound(n: u32, leaf: u32, arity: u32, levels: u32, counted: u32) -> Result<u64, Refusal>
     ensures { IsSizeBoundAnswer n leaf arity levels counted result }
 {
     if Settings::MAX_TEXT < n {
-        return SizeBoundAnswer::Refused(1);
+        return Err(Refusal::TextTooLong);
     }
-    let checked = Settings::new(leaf, arity, levels, b"");
-    let SettingsAnswer::Fine(s) = checked else {
-        return SizeBoundAnswer::Refused(2);
-    };
+    let s = Settings::new(leaf, arity, levels, b"")?;
     if Settings::MAX_COUNTED < counted as usize {
-        return SizeBoundAnswer::Refused(3);
+        return Err(Refusal::CountedBytesWrong);
     }
     let whole = Settings {
         leaf: s.leaf,
@@ -39,7 +30,7 @@ pub fn size_bound(n: u32, leaf: u32, arity: u32, levels: u32, counted: u32) -> S
         counted,
     };
     let size = whole.record_size(Settings::EDGED) as u64;
-    SizeBoundAnswer::Bytes(HEADER + n as u64 + size * blocks(n, s))
+    Ok(HEADER + n as u64 + size * blocks(n, s))
 }
 
 // The number of blocks of all levels if each level covers the whole text.

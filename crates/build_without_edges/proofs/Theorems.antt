@@ -1,7 +1,7 @@
 -- Theorems over the contract of `without_edges`, for any bytes given as a tree and any buffer.
 use mathlib.Core.List.{List, ◌++◌}
 use mathlib.Core.Bool.{true}
-use mathlib.Core.Path.{◌≡◌, refl, sym, ◌∙◌}
+use mathlib.Core.Path.{◌≡◌, refl, sym, ap, ◌∙◌}
 use mathlib.Core.Logic.{◌⊎◌, inl, inr}
 use Rattle.text.specs.ListLaws.{lt-or-ge}
 use Prim.Native.Nat.{ℕ, zero, suc, ◌≤◌, ◌<◌}
@@ -25,71 +25,76 @@ use Rattle.build_without_edges.specs.WithoutEdgesAnswers.{without_edges_refusal,
 use Rattle.theory_without_edges.specs.TreeInLayout.{tree_in}
 use Rattle.theory_without_edges.specs.TreesAgree.{Agree}
 use Rattle.theory_without_edges.proofs.Layout1Accepted as layout1
-use Rattle.build_without_edges.specs.declared.WithoutEdgesAnswer.{WithoutEdgesAnswer}
-use Rattle.build_without_edges.specs.declared.WithoutEdgesAnswer.TheVariants.{Size, Refused}
+use Rattle.std.specs.Prelude.{Result, Ok, Err}
+use Rattle.refusals.specs.declared.Refusal.{Refusal}
+use Rattle.refusals.specs.declared.Refusal.TheVariants.{AnswerDoesNotFit}
+use Rattle.refusals.specs.Refusals.{refusal_number}
+use Rattle.refusals.specs.RefusalsLaws.{number-above, one-number}
 use Rattle.build_without_edges.proofs.without_edges.Reads as reads
 
 abbrev pub Layout1Lent : Type 0
 Layout1Lent = Bor (List ℕ)
 
 -- The contract of `without_edges` allows a call with these arguments to return r and leave the buffer as `after`.
-abbrev pub WithoutEdges : Lfts 2 → (t : Layout1Lent) (out after : MutBor (List ℕ)) → WithoutEdgesAnswer → Type 0
+abbrev pub WithoutEdges : Lfts 2 → (t : Layout1Lent) (out after : MutBor (List ℕ)) → Result ℕ Refusal → Type 0
 WithoutEdges κs t out after r = reads.Post κs (t, (out, tt)) r (t, (after, tt))
 
 -- Refusal and size determine the answer.
-layout1-refused-is : (r : WithoutEdgesAnswer) (q : ℕ) → (replied (without_edges_reply r)).number ≡ suc q → r ≡ Refused (suc q)
-layout1-refused-is (Size n) q e = absurd (let z : ⊥ = omega arith in z)
-layout1-refused-is (Refused n) q e = rw e
+layout1-refusal : (r : Result ℕ Refusal) (q : ℕ) → (replied (without_edges_reply r)).number ≡ suc q → (e : Refusal) × (r ≡ Err e) × (refusal_number e ≡ suc q)
+layout1-refusal (Ok n) q is = absurd (let z : ⊥ = omega arith in z)
+layout1-refusal (Err e) q is = (e, refl, is)
 
-layout1-size-is : (r : WithoutEdgesAnswer) (m : ℕ) → (replied (without_edges_reply r)).number ≡ 0 → (replied (without_edges_reply r)).value ≡ m → 0 < m → r ≡ Size m
-layout1-size-is (Size n) m z e low = rw e
-layout1-size-is (Refused n) m z e low = absurd (let z : ⊥ = omega arith in z)
+layout1-refused-is : (r : Result ℕ Refusal) (e : Refusal) → (replied (without_edges_reply r)).number ≡ refusal_number e → r ≡ Err e
+layout1-refused-is (Ok n) e is = absurd (let z : ⊥ = omega (arith, number-above e) in z)
+layout1-refused-is (Err d) e is = ap Err (one-number d e is)
 
-module _ (κs : Lfts 2) (t : Layout1Lent) (out after : MutBor (List ℕ)) (r : WithoutEdgesAnswer) (a : WithoutEdges κs t out after r) where
+layout1-size-is : (r : Result ℕ Refusal) (m : ℕ) → (replied (without_edges_reply r)).number ≡ 0 → (replied (without_edges_reply r)).value ≡ m → r ≡ Ok m
+layout1-size-is (Ok n) m none e = rw e
+layout1-size-is (Err d) m none e = absurd (let z : ⊥ = omega (arith, number-above d) in z)
+
+module _ (κs : Lfts 2) (t : Layout1Lent) (out after : MutBor (List ℕ)) (r : Result ℕ Refusal) (a : WithoutEdges κs t out after r) where
   -- A tree that fails question 5, 6 or 7 is refused with its number; the buffer is unchanged.
-  pub refused-unreadable : (q : ℕ) → header_result t.now ≡ suc q → (r ≡ Refused (suc q)) × (after.now ≡ out.now)
+  pub refused-unreadable : (q : ℕ) → header_result t.now ≡ suc q → (e : Refusal) × (r ≡ Err e) × (refusal_number e ≡ suc q) × (after.now ≡ out.now)
   unfolding without_edges_buffer without_edges_refusal
   refused-unreadable q e =
       let fails = ne_eqb (suc q) 0 (λ z. omega arith) in
-      (layout1-refused-is r q (a.0 ∙ rw (e, fails)), a.1.1.0 ∙ rw (e, fails, fails))
+      let z = layout1-refusal r q (a.0 ∙ rw (e, fails)) in
+      (z.0, z.1, z.2, a.1.1.0 ∙ rw (e, fails, fails))
 
   -- Otherwise a buffer that is too small is refused with 13 and unchanged.
-  pub refused-room : header_result t.now ≡ 0 → length out.now < length (without_edges t.now) → (r ≡ Refused 13) × (after.now ≡ out.now)
+  pub refused-room : header_result t.now ≡ 0 → length out.now < length (without_edges t.now) → (r ≡ Err AnswerDoesNotFit) × (after.now ≡ out.now)
   unfolding without_edges_buffer without_edges_refusal
   refused-room pass short =
       let fails = lt-leb (length (without_edges t.now)) (length out.now) short in
-      (layout1-refused-is r 12 (a.0 ∙ rw (pass, fails)), a.1.1.0 ∙ rw (pass, fails))
+      (layout1-refused-is r AnswerDoesNotFit (a.0 ∙ rw (pass, fails)), a.1.1.0 ∙ rw (pass, fails))
 
   -- Otherwise the tree is written to the start of the buffer, its size is returned, and the bytes after it are unchanged.
   pub written-tree : header_result t.now ≡ 0 → length (without_edges t.now) ≤ length out.now
-      → (r ≡ Size (length (without_edges t.now))) × (after.now ≡ without_edges t.now ++ drop (length (without_edges t.now)) out.now)
+      → (r ≡ Ok (length (without_edges t.now))) × (after.now ≡ without_edges t.now ++ drop (length (without_edges t.now)) out.now)
   unfolding without_edges_buffer without_edges_refusal without_edges_size
   written-tree pass room =
       let fits = le-leb (length (without_edges t.now)) (length out.now) room in (
-        layout1-size-is r _ (a.0 ∙ rw (pass, fits)) (a.1.0 ∙ rw (pass, fits)) (omega (arith, layout1.layout1-length t.now pass)),
+        layout1-size-is r _ (a.0 ∙ rw (pass, fits)) (a.1.0 ∙ rw (pass, fits)),
         a.1.1.0
             ∙ rw (pass, fits),
       )
 
   -- A buffer of the tree's size is large enough.
-  pub tree-size-suffices : header_result t.now ≡ 0 → length t.now ≤ length out.now → r ≡ Size (length (without_edges t.now))
+  pub tree-size-suffices : header_result t.now ≡ 0 → length t.now ≤ length out.now → r ≡ Ok (length (without_edges t.now))
   tree-size-suffices pass room = (written-tree pass (le_trans (layout1.layout1-shorter t.now pass) room)).0
 
   -- A returned size means that the tree passes questions 5 to 7 and fits.
-  size-cases : (n : ℕ) → r ≡ Size n → (header_result t.now ≡ 0) × (length (without_edges t.now) ≤ length out.now)
+  size-cases : (n : ℕ) → r ≡ Ok n → (header_result t.now ≡ 0) × (length (without_edges t.now) ≤ length out.now)
   size-cases n e = go (header_result t.now) refl (lt-or-ge (length out.now) (length (without_edges t.now)))
     where
-      clash : (q : ℕ) → Size n ≡ Refused q → ⊥
-      clash q c = let z : ◌≡◌ {A = ℕ} 0 1 = cc in omega arith
-
       go : (x : ℕ) → header_result t.now ≡ x → (length out.now < length (without_edges t.now)) ⊎ (length (without_edges t.now) ≤ length out.now)
           → (header_result t.now ≡ 0) × (length (without_edges t.now) ≤ length out.now)
-      go zero pass (inl short) = absurd (clash 13 (sym e ∙ (refused-room pass short).0))
+      go zero pass (inl short) = let z = sym e ∙ (refused-room pass short).0 in cc
       go zero pass (inr room) = (pass, room)
-      go (suc q) stops y = absurd (clash (suc q) (sym e ∙ (refused-unreadable q stops).0))
+      go (suc q) stops y = let z = sym e ∙ (refused-unreadable q stops).1 in cc
 
   -- u is the written tree, given to another call.
-  module _ (n : ℕ) (e : r ≡ Size n) (u : Layout1Lent) (is : u.now ≡ take n after.now) where
+  module _ (n : ℕ) (e : r ≡ Ok n) (u : Layout1Lent) (is : u.now ≡ take n after.now) where
     pass : header_result t.now ≡ 0
     pass = (size-cases n e).0
 
@@ -99,7 +104,7 @@ module _ (κs : Lfts 2) (t : Layout1Lent) (out after : MutBor (List ℕ)) (r : W
     same_size : n ≡ length (without_edges t.now)
     same_size = size-answered n _ (sym e ∙ (written-tree pass room).0)
       where
-        size-answered : (x y : ℕ) → Size x ≡ Size y → x ≡ y
+        size-answered : (x y : ℕ) → ◌≡◌ {A = Result ℕ Refusal} (Ok x) (Ok y) → x ≡ y
         size-answered x y c = cc
 
     pub lent-on : u.now ≡ without_edges t.now

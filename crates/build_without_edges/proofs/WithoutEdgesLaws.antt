@@ -22,14 +22,15 @@ use Rattle.theory_without_edges.proofs.Layout1Sizes as sizes
 use Rattle.format.specs.SizeLaws.{record-plain}
 use Rattle.format.specs.TreeReading.{header_result}
 use Rattle.layout.specs.declared.header.Header.{Header}
-use Rattle.layout.specs.declared.header.HeaderAnswer.{HeaderAnswer}
-use Rattle.layout.specs.declared.header.HeaderAnswer.TheVariants as header
+use Rattle.std.specs.Prelude.{Result, Ok, Err}
+use Rattle.refusals.specs.declared.Refusal.{Refusal}
+use Rattle.refusals.specs.declared.Refusal.TheVariants.{AnswerDoesNotFit}
+use Rattle.refusals.specs.Refusals.{refusal_number}
+use Rattle.refusals.specs.RefusalsLaws.{number-above}
 use Rattle.layout.specs.Header.{header_answer}
 use Rattle.layout.specs.HeaderFields.{HeaderOf, header_refused}
 use borrow.Author.Tests.{le-leb, lt-leb, ne_eqb}
 use Rattle.build_without_edges.specs.WithoutEdgesAnswers.{without_edges_refusal, without_edges_size, without_edges_buffer, without_edges_reply}
-use Rattle.build_without_edges.specs.declared.WithoutEdgesAnswer.{WithoutEdgesAnswer}
-use Rattle.build_without_edges.specs.declared.WithoutEdgesAnswer.TheVariants.{Size, Refused}
 use Rattle.build_without_edges.specs.WithoutEdgesState.{ReadableSizes, HeaderRoom, RecordRoom, WholeRoom}
 
 -- Copied bytes lie between the bytes before and after them, which are unchanged.
@@ -268,27 +269,28 @@ module _ (t : List ℕ) (h : Header) (k : HeaderOf t h) where
 
 -- The answer.
 module _ (t out : List ℕ) where
-  abbrev pub AnswerIs : WithoutEdgesAnswer → List ℕ → Type 0
+  abbrev pub AnswerIs : Result ℕ Refusal → List ℕ → Type 0
   AnswerIs r e = ((replied (without_edges_reply r)).number ≡ without_edges_refusal t out)
       × (((replied (without_edges_reply r)).value ≡ without_edges_size t out) × (e ≡ without_edges_buffer t out))
 
-  refused_as : (n : ℕ) → without_edges_refusal t out ≡ suc n → AnswerIs (Refused (suc n)) out
+  refused_as : (q : Refusal) → without_edges_refusal t out ≡ refusal_number q → AnswerIs (Err q) out
   unfolding without_edges_size without_edges_buffer
-  refused_as n e = (sym e, (rw (e, ne_eqb (suc n) 0 (λ z. omega arith)), rw (e, ne_eqb (suc n) 0 (λ z. omega arith))))
+  refused_as q e =
+      let some = ne_eqb (refusal_number q) 0 (λ z. omega (arith, number-above q)) in
+      (sym e, (rw (e, some), rw (e, some)))
 
-  pub unread : (x : HeaderAnswer) → x ≡ header_answer t → (q : ℕ) → x ≡ header.Refused q → AnswerIs (Refused q) out
+  pub unread : (x : Result Header Refusal) → x ≡ header_answer t → (q : Refusal) → x ≡ Err q → AnswerIs (Err q) out
   unfolding without_edges_refusal
   unread x is q e =
       let z = header_refused t x is q e in
-      let n : without_edges_refusal t out ≡ suc z.0 = rw (ne_eqb (header_result t) 0 (λ y. omega (arith, z.1))) z.1 in
-      rw z.2 (refused_as z.0 n)
+      refused_as q (rw (ne_eqb (header_result t) 0 (λ y. omega (arith, z.1))) (z.1 ∙ sym z.2))
 
   module _ (passes : header_result t ≡ 0) (size : ℕ) (is : size ≡ length (without_edges t)) where
-    pub no_room : length out < size → AnswerIs (Refused 13) out
+    pub no_room : length out < size → AnswerIs (Err AnswerDoesNotFit) out
     unfolding without_edges_refusal
-    no_room short = refused_as 12 (rw (passes, lt-leb (length (without_edges t)) (length out) (rw is at short)))
+    no_room short = refused_as AnswerDoesNotFit (rw (passes, lt-leb (length (without_edges t)) (length out) (rw is at short)))
 
-    pub written : (e : List ℕ) → size ≤ length out → e ≡ without_edges t ++ drop (length (without_edges t)) out → AnswerIs (Size size) e
+    pub written : (e : List ℕ) → size ≤ length out → e ≡ without_edges t ++ drop (length (without_edges t)) out → AnswerIs (Ok size) e
     unfolding without_edges_refusal without_edges_size without_edges_buffer
     written e fits e-is =
         let n = le-leb (length (without_edges t)) (length out) (rw is at fits) in

@@ -1,11 +1,11 @@
 -- What the call returns and what the caller's buffer then holds: refused with 5, 6 or 7, then with 13 if the buffer is too small.
 -- docs/FORMAT.md: "A tree without its edges".
-use Rattle.std.specs.Prelude.{List, [], ◌∷◌, ◌++◌, cond, ℕ, length, drop, leb, eqb}
+use Rattle.std.specs.Prelude.{List, [], ◌∷◌, ◌++◌, cond, ℕ, length, drop, leb, eqb, Result, Ok, Err}
 use Rattle.format.specs.TreeReading.{asks, or_next, header_result}
 use Rattle.format.specs.Answers.{Reply, figures, refusal}
 use Rattle.theory_without_edges.specs.WithoutEdges.{without_edges}
-use Rattle.build_without_edges.specs.declared.WithoutEdgesAnswer.{WithoutEdgesAnswer}
-use Rattle.build_without_edges.specs.declared.WithoutEdgesAnswer.TheVariants.{Size, Refused}
+use Rattle.refusals.specs.declared.Refusal.{Refusal}
+use Rattle.refusals.specs.Refusals.{refusal_number}
 
 module _ (t out : List ℕ) where
   -- The refusal: questions 5 to 7, then 13.
@@ -21,6 +21,6 @@ module _ (t out : List ℕ) where
   without_edges_buffer = cond (eqb without_edges_refusal 0) (without_edges t ++ drop (length (without_edges t)) out) out
 
 -- The size of what is written.
-abbrev pub without_edges_reply : WithoutEdgesAnswer → Reply
-without_edges_reply (Size n) = figures n 0
-without_edges_reply (Refused q) = refusal q
+abbrev pub without_edges_reply : Result ℕ Refusal → Reply
+without_edges_reply (Ok n) = figures n 0
+without_edges_reply (Err e) = refusal (refusal_number e)

@@ -10,36 +10,27 @@ ghost use Rattle.theory_without_edges.specs.WithoutEdges.{AllBytes, layout1_reco
 ghost use Rattle.build_without_edges.specs.WithoutEdgesAnswers.{without_edges_refusal, without_edges_size, without_edges_buffer, without_edges_reply};
 ghost use Rattle.build_without_edges.specs.WithoutEdgesState.{ReadableSizes, HeaderRoom, RecordRoom, WholeRoom};
 
-use layout::header::{Header, HeaderAnswer};
+use layout::header::Header;
 use layout::settings::Settings;
 use layout::{header, record, word};
-
-// The size of the written tree, or the number of the refusing question.
-#[derive(Clone, Copy)]
-pub enum WithoutEdgesAnswer {
-    Size(usize),
-    Refused(u32),
-}
+use refusals::Refusal;
 
 const FIRST_RECORD_AT: u32 = header::HEADER_LENGTH as u32;
 
-// Writes a tree in layout 1 to the start of a buffer. Any bytes may be given as a tree: questions 5 to 7 come first, then 13. If the
-// call is refused, the buffer is unchanged. A tree of layout 1 is copied.
-pub fn without_edges(tree: &[u8], out: &mut [u8]) -> WithoutEdgesAnswer
+// Writes a tree in layout 1 to the start of a buffer, and returns its size. Any bytes may be given as a tree: questions 5 to 7 come
+// first, then 13. If the call is refused, the buffer is unchanged. A tree of layout 1 is copied.
+pub fn without_edges(tree: &[u8], out: &mut [u8]) -> Result<usize, Refusal>
     ensures refusal { (replied (without_edges_reply result)).number ≡ without_edges_refusal tree.now out.old }
     ensures size { (replied (without_edges_reply result)).value ≡ without_edges_size tree.now out.old }
     ensures buffer { out.new ≡ without_edges_buffer tree.now out.old }
     ensures bytes { AllBytes tree.now }
 {
-    let read = header::read_header(tree);
-    match read {
-        HeaderAnswer::Good(h) => by_header(tree, h, out),
-        HeaderAnswer::Refused(number) => WithoutEdgesAnswer::Refused(number),
-    }
+    let h = header::read_header(tree)?;
+    by_header(tree, h, out)
 }
 
 // Checks question 13 with the header at hand, then writes.
-fn by_header(tree: &[u8], h: Header, out: &mut [u8]) -> WithoutEdgesAnswer
+fn by_header(tree: &[u8], h: Header, out: &mut [u8]) -> Result<usize, Refusal>
     requires { HeaderOf tree.now h }
     ensures result_value { (replied (without_edges_reply result)).number ≡ without_edges_refusal tree.now out.old }
     ensures result_value_2 { (replied (without_edges_reply result)).value ≡ without_edges_size tree.now out.old }
@@ -51,10 +42,10 @@ fn by_header(tree: &[u8], h: Header, out: &mut [u8]) -> WithoutEdgesAnswer
         + header::table_bytes(count, stride) as usize
         + h.leaf_count as usize;
     if out.len() < size {
-        return WithoutEdgesAnswer::Refused(13);
+        return Err(Refusal::AnswerDoesNotFit);
     }
     write_all(tree, h, stride, count, out);
-    WithoutEdgesAnswer::Size(size)
+    Ok(size)
 }
 
 // How many records of `size` bytes lie between the header and the leaf bytes, which begin at `end`.

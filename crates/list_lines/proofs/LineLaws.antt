@@ -17,8 +17,10 @@ use Rattle.layout.specs.Record.{FieldIn, field_in}
 use Rattle.layout.specs.Header.{header_answer}
 use Rattle.layout.specs.HeaderFields.{HeaderOf, header_refused}
 use Rattle.layout.specs.declared.header.Header.{Header}
-use Rattle.layout.specs.declared.header.HeaderAnswer.{HeaderAnswer}
-use Rattle.layout.specs.declared.header.HeaderAnswer.TheVariants as header
+use Rattle.std.specs.Prelude.{Result, Err, ⊤}
+use Rattle.refusals.specs.declared.Refusal.{Refusal}
+use Rattle.refusals.specs.Refusals.{refusal_number, result_refusal}
+use Rattle.refusals.specs.RefusalsLaws.{number-above}
 use Rattle.list_lines.specs.ListedLines.{ListPut, figure, line, level_line, lines_below, refused_line, lines_of, max_input, input_refusal, printed, max_figure}
 use Rattle.list_lines.specs.LevelTable.{has_kind, max_refused, Level}
 use Rattle.list_lines.specs.ListedLines.{max_line, max_lines}
@@ -103,10 +105,14 @@ module _ (t : List ℕ) where
   input-short h = rw (le-leb (length t) max_input h)
 
   -- The number decides what is printed.
-  pub print-refused : {d e : List ℕ} {end : ℕ} (n : ℕ)
-      → n ≡ input_refusal t → (n ≡ 0 → ⊥) → ListPut d e 0 end (refused_line n) max_refused → ListPut d e 0 end (printed t) max_lines
+  pub print-refused : {d e : List ℕ} {end : ℕ} (x : Result ⊤ Refusal) (q : Refusal)
+      → result_refusal x ≡ input_refusal t → x ≡ Err q
+      → ListPut d e 0 end (refused_line (refusal_number q)) max_refused → ListPut d e 0 end (printed t) max_lines
   unfolding printed
-  print-refused n is m p = put-within max_lines (omega arith) (rw (lines-of n m ∙ ap (λ (x : ℕ). lines_of x t) is) at p)
+  print-refused x q is same p =
+      let n : refusal_number q ≡ input_refusal t = rw same at is in
+      put-within max_lines (omega arith)
+      (rw (lines-of (refusal_number q) (λ z. omega (arith, number-above q)) ∙ ap (λ (x : ℕ). lines_of x t) n) at p)
     where
       lines-of : (x : ℕ) → (x ≡ 0 → ⊥) → refused_line x ≡ lines_of x t
       lines-of zero m = absurd (m refl)
@@ -126,7 +132,7 @@ module _ (t : List ℕ) where
     accepted = passes (leb (length t) max_input) (check_result t) passed
 
     -- The header of an accepted tree is not refused.
-    pub never-refused : (x : HeaderAnswer) → x ≡ header_answer t → (q : ℕ) → x ≡ header.Refused q → ⊥
+    pub never-refused : (x : Result Header Refusal) → x ≡ header_answer t → (q : Refusal) → x ≡ Err q → ⊥
     never-refused x is q e = let z = header_refused t x is q e in omega (arith, z.1, accepted-header t accepted)
 
 pub count-done : (p : ℕ → Bool) (i count n found : ℕ) → i ≤ count → count ≤ i → count ≡ n → found ≡ count_below i p → found ≡ count_below n p

@@ -18,8 +18,9 @@ use Rattle.theory_accepted.specs.QuestionNumbers.{OneOf, asks-one, then_one, not
 use Rattle.theory_adequacy.specs.TotalCorrectness.{TotallyCorrect}
 use Rattle.theory_adequacy.specs.Preconditions.{NoPrecondition, Call, call_of, Each, each-ends, each-asks-nothing}
 use Rattle.list_lines.specs.ListedLines.{input_refusal, printed, max_input, list_refusal, list_answer, list_buffer}
-use Rattle.list_lines.specs.declared.ListAnswer.{ListAnswer}
-use Rattle.list_lines.specs.declared.ListAnswer.TheVariants.{Bytes, Refused}
+use Rattle.std.specs.Prelude.{Result, Ok, Err}
+use Rattle.refusals.specs.declared.Refusal.{Refusal}
+use Rattle.refusals.specs.Refusals.{refusal_number}
 use Rattle.list_lines.specs.contracts.list as list_of
 use Rattle.list_lines.proofs.list.Symbol as list_at
 use Rattle.list_lines.proofs.list.Met as list-met
@@ -41,7 +42,7 @@ pub no-preconditions : Each NoPrecondition calls
 no-preconditions = each-asks-nothing calls
 
 -- r is an answer that the contract of `list` allows to a call with these arguments, which leaves the buffer `out` as `after`
-abbrev pub Lists : (κs : Lfts 2) (t : Bor (List ℕ)) (out after : MutBor (List ℕ)) → ListAnswer → Type 0
+abbrev pub Lists : (κs : Lfts 2) (t : Bor (List ℕ)) (out after : MutBor (List ℕ)) → Result ℕ Refusal → Type 0
 Lists κs t out after r = list-reads.Post κs (t, (out, tt)) r (t, (after, tt))
 
 -- The numbers that its questions can give.
@@ -56,21 +57,21 @@ list-one t room =
 
 module _ (κs : Lfts 2) (t : Bor (List ℕ)) (out after : MutBor (List ℕ)) where
   -- A refusal is 15, 5 to 9 or 13.
-  pub list-numbers : (n : ℕ) → Lists κs t out after (Refused n) → OneOf (15 ∷ 5 ∷ 6 ∷ 7 ∷ 8 ∷ 9 ∷ 13 ∷ []) n
+  pub list-numbers : (q : Refusal) → Lists κs t out after (Err q) → OneOf (15 ∷ 5 ∷ 6 ∷ 7 ∷ 8 ∷ 9 ∷ 13 ∷ []) (refusal_number q)
   unfolding list_answer
-  list-numbers n a =
-      let e = answers-refused n (list_refusal t.now (length out.now)) _ 0 a.0.numbered a.0.answers in
-      not-zero (15 ∷ 5 ∷ 6 ∷ 7 ∷ 8 ∷ 9 ∷ 13 ∷ []) n a.0.numbered (rw e (list-one t.now (length out.now)))
+  list-numbers q a =
+      let e = answers-refused (refusal_number q) (list_refusal t.now (length out.now)) _ 0 a.0.numbered a.0.answers in
+      not-zero (15 ∷ 5 ∷ 6 ∷ 7 ∷ 8 ∷ 9 ∷ 13 ∷ []) (refusal_number q) a.0.numbered (rw e (list-one t.now (length out.now)))
 
   -- A refusal leaves the buffer unchanged.
-  pub list-unchanged : (n : ℕ) → Lists κs t out after (Refused n) → after.now ≡ out.now
+  pub list-unchanged : (q : Refusal) → Lists κs t out after (Err q) → after.now ≡ out.now
   unfolding list_answer list_buffer
-  list-unchanged n a =
-      let e = answers-refused n (list_refusal t.now (length out.now)) _ 0 a.0.numbered a.0.answers in
-      a.1 ∙ rw (← e, ne_eqb n 0 (λ z. omega (arith, a.0.numbered)))
+  list-unchanged q a =
+      let e = answers-refused (refusal_number q) (list_refusal t.now (length out.now)) _ 0 a.0.numbered a.0.answers in
+      a.1 ∙ rw (← e, ne_eqb (refusal_number q) 0 (λ z. omega (arith, a.0.numbered)))
 
   -- The result is the length of what the list program prints. The buffer begins with these bytes, and those after them are unchanged.
-  pub list-answer : (size : ℕ) → Lists κs t out after (Bytes size)
+  pub list-answer : (size : ℕ) → Lists κs t out after (Ok size)
       → (size ≡ length (printed t.now)) × (after.now ≡ printed t.now ++ drop (length (printed t.now)) out.now)
   unfolding list_answer list_buffer
   list-answer size a =

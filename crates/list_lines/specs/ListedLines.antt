@@ -1,13 +1,13 @@
 -- What the list program prints, and what list returns.
 -- docs/FORMAT.md: "The list program".
-use Rattle.std.specs.Prelude.{List, ◌++◌, [], ◌∷◌, ◌≡◌, ℕ, ◌+◌, ◌≤◌, zero, suc, ◌*◌, ◌/◌, ◌%◌, length, take, drop, cond, leb, ltb, eqb}
+use Rattle.std.specs.Prelude.{List, ◌++◌, [], ◌∷◌, ◌≡◌, ℕ, ◌+◌, ◌≤◌, zero, suc, ◌*◌, ◌/◌, ◌%◌, length, take, drop, cond, leb, ltb, eqb, Result, Ok, Err}
 use Rattle.text.specs.Text.{count_below}
 use Rattle.format.specs.Layout.{max_levels}
 use Rattle.format.specs.Layout as at
 use Rattle.format.specs.TreeReading.{check_result, asks, or_next}
 use Rattle.format.specs.Answers.{Answer, unless, Reply, figures, refusal, Is}
-use Rattle.list_lines.specs.declared.ListAnswer.{ListAnswer}
-use Rattle.list_lines.specs.declared.ListAnswer.TheVariants.{Bytes, Refused}
+use Rattle.refusals.specs.declared.Refusal.{Refusal}
+use Rattle.refusals.specs.Refusals.{refusal_number}
 
 -- A buffer after bytes were written to it.
 
@@ -98,11 +98,11 @@ unfoldable pub list_answer : List ℕ → ℕ → Answer
 list_answer t room = unless (list_refusal t room) (record { number = 0; value = length (printed t); entered = 0 })
 
 -- The answer by its number and length.
-abbrev pub list_reply : ListAnswer → Reply
-list_reply (Bytes size) = figures size 0
-list_reply (Refused number) = refusal number
+abbrev pub list_reply : Result ℕ Refusal → Reply
+list_reply (Ok size) = figures size 0
+list_reply (Err e) = refusal (refusal_number e)
 
-abbrev pub IsListAnswer : (t : List ℕ) (room : ℕ) → ListAnswer → Type 0
+abbrev pub IsListAnswer : (t : List ℕ) (room : ℕ) → Result ℕ Refusal → Type 0
 IsListAnswer t room = Is list_reply (list_answer t room)
 
 -- The buffer afterwards: the lines at its start; unchanged if refused.

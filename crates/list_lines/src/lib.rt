@@ -10,10 +10,12 @@ ghost use Rattle.layout.specs.HeaderFields.{HeaderOf};
 ghost use Rattle.list_lines.specs.ListedLines.{ListPut, line, level_line, lines_below, refused_line, input_refusal, printed, max_line, max_lines};
 ghost use Rattle.list_lines.specs.LevelTable.{max_refused, Level};
 ghost use Rattle.list_lines.specs.ListedLines.{IsListAnswer, list_buffer};
+ghost use Rattle.refusals.specs.Refusals.{refusal_number, result_refusal};
 
-use layout::header::{Header, HeaderAnswer};
+use layout::header::Header;
 use layout::settings::Settings;
 use layout::{header, record};
+use refusals::Refusal;
 
 // The size of the largest tree that is listed.
 pub const MAX_INPUT: usize = 65536;
@@ -24,57 +26,47 @@ const MAX_LINE: usize = 4 * (10 + 1);
 // The largest number of bytes that are written or printed: a line for each level.
 pub const MAX_LINES: usize = Settings::MAX_LEVELS as usize * MAX_LINE;
 
-// The number of bytes of the lines, or the refusal.
-#[derive(Clone, Copy)]
-pub enum ListAnswer {
-    Bytes(u32),
-    Refused(u32),
-}
-
-// Writes a line for each level of a tree to the start of a buffer. Questions 15, 5 to 9 and 13.
-pub fn list(tree: &[u8], out: &mut [u8]) -> ListAnswer
+// Writes a line for each level of a tree to the start of a buffer, and returns their length. Questions 15, 5 to 9 and 13.
+pub fn list(tree: &[u8], out: &mut [u8]) -> Result<u32, Refusal>
     ensures list_answer { IsListAnswer tree.now (length out.old) result }
     ensures out_after { out.new ≡ list_buffer tree.now out.old }
 {
-    let number = input_number(tree);
-    if number != 0 {
-        return ListAnswer::Refused(number);
-    }
+    check_input(tree)?;
     let mut lines = [0u8; MAX_LINES];
     let size = level_lines(tree, &mut lines);
     if out.len() < size {
-        return ListAnswer::Refused(13);
+        return Err(Refusal::AnswerDoesNotFit);
     }
     put::bytes(out, 0, &lines[..size]);
-    ListAnswer::Bytes(size as u32)
+    Ok(size as u32)
 }
 
 // Writes what the list program prints to the start of a buffer and returns its length: a line for each level of an accepted tree, else the refusal.
 pub fn print(input: &[u8], out: &mut [u8; MAX_LINES]) -> usize
     ensures { ListPut out.old out.new 0 result (printed input.now) max_lines }
 {
-    let number = input_number(input);
-    if number != 0 {
-        return refused(number, out);
+    match check_input(input) {
+        Ok(()) => level_lines(input, out),
+        Err(refusal) => refused(refusal, out),
     }
-    level_lines(input, out)
 }
 
 // Question 15, then those of the check.
-fn input_number(input: &[u8]) -> u32
-    ensures { result ≡ input_refusal input.now }
+fn check_input(input: &[u8]) -> Result<(), Refusal>
+    ensures { result_refusal result ≡ input_refusal input.now }
 {
     if MAX_INPUT < input.len() {
-        return 15;
+        return Err(Refusal::TreeTooLongToList);
     }
     tree::check(input)
 }
 
 // Writes the line of a refused tree.
-fn refused(number: u32, out: &mut [u8]) -> usize
+fn refused(refusal: Refusal, out: &mut [u8]) -> usize
     requires { max_refused ≤ length out.old }
-    ensures { ListPut out.old out.new 0 result (refused_line number) max_refused }
+    ensures { ListPut out.old out.new 0 result (refused_line (refusal_number refusal)) max_refused }
 {
+    let number = refusal.number();
     let end = put::bytes(out, 0, b"refused ");
     put::number_and(out, end, number, 10)
 }
@@ -84,10 +76,9 @@ fn level_lines(t: &[u8], out: &mut [u8]) -> usize
     requires { (input_refusal t.now ≡ 0) × (max_lines ≤ length out.old) }
     ensures { ListPut out.old out.new 0 result (printed t.now) max_lines }
 {
-    let read = header::read_header(t);
-    match read {
-        HeaderAnswer::Good(h) => levels(t, h, out),
-        HeaderAnswer::Refused(number) => refused(number, out),
+    match header::read_header(t) {
+        Ok(h) => levels(t, h, out),
+        Err(refusal) => refused(refusal, out),
     }
 }
 

@@ -6,14 +6,15 @@ use Prim.Native.Nat.{ℕ}
 use Rattle.format.specs.TreeReading.{links_ok, text_of, counts_true, edges_true, check_result}
 use Rattle.format.specs.CheckResultLaws.{checked-header, checked_refused}
 use Rattle.layout.specs.declared.header.Header.{Header}
-use Rattle.layout.specs.declared.header.HeaderAnswer.{HeaderAnswer}
-use Rattle.layout.specs.declared.header.HeaderAnswer.TheVariants.{Refused}
+use Rattle.std.specs.Prelude.{Result, Err}
+use Rattle.refusals.specs.declared.Refusal.{Refusal}
+use Rattle.refusals.specs.Refusals.{refusal_number}
 use Rattle.layout.specs.Header.{header_answer}
 use Rattle.layout.specs.HeaderFields.{HeaderOf, header_refused}
 
 module _ (t : List ℕ) where
   -- A refusal of the header is the result of the check.
-  pub header-number : (x : HeaderAnswer) (q : ℕ) → x ≡ header_answer t → x ≡ Refused q → q ≡ check_result t
+  pub header-number : (x : Result Header Refusal) (q : Refusal) → x ≡ header_answer t → x ≡ Err q → refusal_number q ≡ check_result t
   header-number x q is e =
       let z = header_refused t x is q e in
       z.2 ∙ sym (checked_refused t z.0 z.1)

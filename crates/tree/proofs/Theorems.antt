@@ -23,25 +23,31 @@ use Rattle.theory_built.specs.BlockSizes.{Taken}
 use Rattle.theory_accepted.specs.AcceptedTrees.{Represents, accepts, one-text, built-text, built-checked, accepted-represents}
 use Rattle.theory_paths.specs.Theorems as paths
 use Rattle.theory_edges.specs.Theorems as edges
-use Rattle.build_by_search.specs.declared.BuildAnswer.{BuildAnswer}
+use Rattle.std.specs.Prelude.{Result, Ok, ⊤}
+use Rattle.refusals.specs.declared.Refusal.{Refusal}
+use Rattle.refusals.specs.Refusals.{result_refusal}
+use Rattle.refusals.specs.RefusalsLaws.{answered-with}
 use Rattle.build_by_search.specs.BuildAnswer.{build_reply}
 use Rattle.build_by_search.proofs.build.Reads as build-reads
 use Rattle.tree.proofs.check.Reads as check-reads
 
 -- r is an answer that the contract of `check` allows to a call on these bytes
-abbrev pub Check : (κs : Lfts 1) → Bor (List ℕ) → ℕ → Type 0
+abbrev pub Check : (κs : Lfts 1) → Bor (List ℕ) → Result ⊤ Refusal → Type 0
 Check κs t r = check-reads.Post κs (t, tt) r (t, tt)
 
-module _ (κs : Lfts 1) (t : Bor (List ℕ)) (r : ℕ) (c : Check κs t r) where
-  -- Demand 3, first part: the check returns 0 if and only if questions 5 to 8 pass and some text fits whose counts, and in layout 2 edges, are those of the
-  -- tree.
-  pub check-accepts : (r ≡ 0) ↔ ((T : List ℕ) × Represents t.now T)
-  check-accepts = (λ e. (accepts t.now).0 (sym c ∙ e), λ s. c ∙ (accepts t.now).1 s)
+module _ (κs : Lfts 1) (t : Bor (List ℕ)) (r : Result ⊤ Refusal) (c : Check κs t r) where
+  -- Demand 3, first part: the check returns no refusal if and only if questions 5 to 8 pass and some text fits whose counts, and in layout 2 edges, are those
+  -- of the tree.
+  pub check-accepts : (r ≡ Ok tt) ↔ ((T : List ℕ) × Represents t.now T)
+  check-accepts = (
+    λ e. (accepts t.now).0 (sym c ∙ ap result_refusal e),
+    λ s. answered-with r tt (c ∙ (accepts t.now).1 s) (λ y _. refl),
+  )
 
   -- Demand 3: this text is the only one that fits.
-  pub check-one-text : r ≡ 0 → (T : List ℕ) × Represents t.now T × ((U : List ℕ) → fits U t.now ≡ true → U ≡ T)
+  pub check-one-text : r ≡ Ok tt → (T : List ℕ) × Represents t.now T × ((U : List ℕ) → fits U t.now ≡ true → U ≡ T)
   check-one-text e =
-      let s = (accepts t.now).0 (sym c ∙ e) in
+      let s = (accepts t.now).0 (sym c ∙ ap result_refusal e) in
       let o = one-text t.now s.1.header-result s.1.linked in
       (s.0, s.1, λ U f. o U f ∙ sym (o s.0 s.1.fitting))
 
@@ -61,11 +67,12 @@ module _ (S : Settings) (T out : List ℕ) (passed : build_refusal S T out ≡ 0
   leaves-tree = rw passed (take-append_seam (tree_of S T) (drop (length (tree_of S T)) out))
 
 -- r is an answer that the contract of `build` allows to a call with these arguments, which leaves the buffer `out` as `after`
-abbrev pub Build : (κs : Lfts 3) (text : Bor (List ℕ)) (leaf arity levels : ℕ) (counted : Bor (List ℕ)) (out after : MutBor (List ℕ)) → BuildAnswer → Type 0
+abbrev pub Build : (κs : Lfts 3) (text : Bor (List ℕ)) (leaf arity levels : ℕ) (counted : Bor (List ℕ)) (out after : MutBor (List ℕ))
+    → Result ℕ Refusal → Type 0
 Build κs text leaf arity levels counted out after r =
     build-reads.Post κs (text, (leaf, (arity, (levels, (counted, (out, tt)))))) r (text, (leaf, (arity, (levels, (counted, (after, tt))))))
 
-module _ (κs : Lfts 3) (text : Bor (List ℕ)) (leaf arity levels : ℕ) (counted : Bor (List ℕ)) (out after : MutBor (List ℕ)) (r : BuildAnswer)
+module _ (κs : Lfts 3) (text : Bor (List ℕ)) (leaf arity levels : ℕ) (counted : Bor (List ℕ)) (out after : MutBor (List ℕ)) (r : Result ℕ Refusal)
     (a : Build κs text leaf arity levels counted out after r) (good : (replied (build_reply r)).number ≡ 0) where
   abbrev S : Settings
   S = given leaf arity levels counted.now
@@ -114,7 +121,8 @@ module _ (κs : Lfts 3) (text : Bor (List ℕ)) (leaf arity levels : ℕ) (count
   )
 
 -- The contract determines the result and the buffer, so they cannot depend on the base or the modulus that a builder uses.
-pub build-settled : (κs : Lfts 3) (text : Bor (List ℕ)) (leaf arity levels : ℕ) (counted : Bor (List ℕ)) (out one other : MutBor (List ℕ)) (r s : BuildAnswer)
+pub build-settled : (κs : Lfts 3) (text : Bor (List ℕ)) (leaf arity levels : ℕ) (counted : Bor (List ℕ)) (out one other : MutBor (List ℕ))
+    (r s : Result ℕ Refusal)
     → Build κs text leaf arity levels counted out one r → Build κs text leaf arity levels counted out other s
     → ((replied (build_reply r)).number ≡ (replied (build_reply s)).number) × ((replied (build_reply r)).value ≡ (replied (build_reply s)).value)
     × (one.now ≡ other.now)

@@ -3,11 +3,11 @@ use Rattle.list_lines.proofs.LineLaws as laws
 use Rattle.list_lines.proofs.level_lines.Goals as goal
 
 pub levels-requires : goal.levels-requires
-levels-requires c = (header-good _ _ c.read_header-read.ensures _ c.in-Good.is, c.requires.1)
+levels-requires c = (header-good _ _ c.read_header.ensures _ c.in-Ok.is, c.requires.1)
 
-pub returns-in-Good : goal.returns-in-Good
-returns-in-Good c = laws.print-lines _ c.requires.0 c.levels.ensures
+pub returns-in-Ok : goal.returns-in-Ok
+returns-in-Ok c = laws.print-lines _ c.requires.0 c.levels.ensures
 
-pub returns-in-Refused : goal.returns-in-Refused
-returns-in-Refused c = absurd
-    (laws.never-refused _ c.requires.0 _ c.read_header-read.ensures _ c.in-Refused.is)
+pub returns-in-Err : goal.returns-in-Err
+returns-in-Err c = absurd
+    (laws.never-refused _ c.requires.0 _ c.read_header.ensures _ c.in-Err.is)

@@ -1,5 +1,5 @@
 use Rattle.list_lines.proofs.LineLaws as laws
 use Rattle.list_lines.proofs.print.Goals as goal
 
-pub returns-then-number-ne0 : goal.returns-then-number-ne0
-returns-then-number-ne0 c = laws.print-refused _ _ c.input_number-number.ensures c.if-number-ne0.true c.refused.ensures
+pub returns-in-Err : goal.returns-in-Err
+returns-in-Err c = laws.print-refused _ _ _ c.check_input.ensures c.in-Err.is c.refused.ensures
