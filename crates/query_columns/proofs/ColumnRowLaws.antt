@@ -1,4 +1,9 @@
 -- A row read by columns, question by question.
+use Rattle.std.specs.Prelude.{Result, Ok, Err}
+use Rattle.refusals.specs.declared.Refusal.{Refusal}
+use Rattle.refusals.specs.declared.Refusal.TheVariants.{WidthDoesNotDivide, PastTheEnd, AnswerDoesNotFit}
+use Rattle.refusals.specs.Refusals.{refusal_number}
+use Rattle.refusals.specs.RefusalsLaws.{number-above}
 use mathlib.Core.List.{List, ◌++◌}
 use mathlib.Core.Bool.{Bool, true, false}
 use mathlib.Core.Path.{◌≡◌, refl, ap, ◌∙◌}
@@ -12,20 +17,14 @@ use borrow.Author.Count.{below_more}
 use borrow.Author.Tests.{lt-ltb, le-ltb, le-leb, lt-leb, eq-eqb, ne_eqb}
 use Rattle.text.specs.Text.{tabulate}
 use Rattle.text.specs.ListLaws.{all_below-not, all_below-make, tab-none, tab-more}
-use Rattle.format.specs.Answers.{replied, byte_answer}
+use Rattle.format.specs.Answers.{Answer, refused, replied, byte_answer}
 use Rattle.columns.specs.Columns.{width_ok}
 use Rattle.columns.specs.ColumnLaws.{within, width-rows}
 use Rattle.format.specs.Layout as at
 use Rattle.format.specs.TreeReading.{ask, header_result}
 use Rattle.layout.specs.declared.header.Header.{Header}
-use Rattle.layout.specs.declared.header.HeaderAnswer.{HeaderAnswer}
-use Rattle.layout.specs.declared.header.HeaderAnswer.TheVariants as header
 use Rattle.layout.specs.Header.{header_answer}
 use Rattle.layout.specs.HeaderFields.{HeaderOf, header_refused, header-small}
-use Rattle.query_access.specs.declared.ByteAnswer.{ByteAnswer}
-use Rattle.query_access.specs.declared.ByteAnswer.TheVariants as answer
-use Rattle.query_access.specs.declared.SpanAnswer.{SpanAnswer}
-use Rattle.query_access.specs.declared.SpanAnswer.TheVariants as span
 use Rattle.query_access.specs.ReadAnswers.{byte_reply}
 use Rattle.query_access.proofs.CopyLaws as bytes
 use Rattle.query_columns.specs.ColumnRows.{cell, cells_hold, row_by_columns_refusal, row_by_columns_buffer, row_by_columns_answer, IsRowByColumnsAnswer}
@@ -33,38 +32,40 @@ use Rattle.query_columns.specs.RowThere.{RowThere}
 
 module _ (t : List ℕ) (w a : ℕ) (d : List ℕ) where
   -- An answer and what is left of the buffer.
-  abbrev pub Read : SpanAnswer → List ℕ → Type 0
+  abbrev pub Read : Result (ℕ × ℕ) Refusal → List ℕ → Type 0
   Read r e = IsRowByColumnsAnswer t w a (length d) r × (e ≡ row_by_columns_buffer t w a d)
 
   -- Refused before any byte is read: the buffer stays.
-  stays : (n : ℕ) → row_by_columns_refusal t w a (length d) ≡ suc n → (suc n ≡ 14 → ⊥) → Read (span.Refused (suc n)) d
+  stays : (q : Refusal) (n : ℕ) → refusal_number q ≡ suc n → row_by_columns_refusal t w a (length d) ≡ suc n → (suc n ≡ 14 → ⊥) → Read (Err q) d
   unfolding row_by_columns_answer row_by_columns_buffer
-  stays n e other = (record { answers = rw e; numbered = omega arith }, rw (e, ne_eqb (suc n) 0 (λ z. omega arith), ne_eqb (suc n) 14 other))
+  stays q n is e other =
+      (record { answers = rw (is, e); numbered = number-above q }, rw (e, ne_eqb (suc n) 0 (λ z. omega arith), ne_eqb (suc n) 14 other))
 
-  pub read-unread : (x : HeaderAnswer) → x ≡ header_answer t → (q : ℕ) → x ≡ header.Refused q → Read (span.Refused q) d
+  pub read-unread : (x : Result Header Refusal) → x ≡ header_answer t → (q : Refusal) → x ≡ Err q → Read (Err q) d
   unfolding row_by_columns_refusal
   read-unread x is q e =
       let z = header_refused t x is q e in
       let n : row_by_columns_refusal t w a (length d) ≡ suc z.0 = rw (ne_eqb (header_result t) 0 (λ y. omega (arith, z.1))) z.1 in
-      rw z.2 (stays z.0 n (λ y. omega (arith, header-small t, z.1)))
+      stays q z.0 z.2 n (λ y. omega (arith, header-small t, z.1))
 
   module _ (h : Header) (k : HeaderOf t h) where
-    pub read-width : width_ok w h.text_length ≡ false → Read (span.Refused 20) d
+    pub read-width : width_ok w h.text_length ≡ false → Read (Err WidthDoesNotDivide) d
     unfolding row_by_columns_refusal
-    read-width other = let z : width_ok w (at.text_length t) ≡ false = rw k.length_is at other in stays 19 (rw (k.passes, z)) (λ y. omega arith)
+    read-width other = let z : width_ok w (at.text_length t) ≡ false = rw k.length_is at other in stays WidthDoesNotDivide 19 refl (rw (k.passes, z)) (λ y. omega arith)
 
     module _ (ok : width_ok w h.text_length ≡ true) where
       ok-t : width_ok w (at.text_length t) ≡ true
       ok-t = rw k.length_is at ok
 
-      pub read_past : h.text_length / w ≤ a → Read (span.Refused 10) d
+      pub read_past : h.text_length / w ≤ a → Read (Err PastTheEnd) d
       unfolding row_by_columns_refusal
-      read_past e = stays 9 (rw (k.passes, ok-t, le-ltb a (at.text_length t / w) (rw k.length_is at e))) (λ z. omega arith)
+      read_past e = stays PastTheEnd 9 refl (rw (k.passes, ok-t, le-ltb a (at.text_length t / w) (rw k.length_is at e))) (λ z. omega arith)
 
-      pub read_short : a < h.text_length / w → length d < w → Read (span.Refused 13) d
+      pub read_short : a < h.text_length / w → length d < w → Read (Err AnswerDoesNotFit) d
       unfolding row_by_columns_refusal
       read_short low e =
-          stays 12 (rw (k.passes, ok-t, lt-ltb a (at.text_length t / w) (rw k.length_is at low), lt-leb w (length d) e)) (λ z. omega arith)
+          stays AnswerDoesNotFit 12 refl
+          (rw (k.passes, ok-t, lt-ltb a (at.text_length t / w) (rw k.length_is at low), lt-leb w (length d) e)) (λ z. omega arith)
 
 -- Buffer e, where b columns of the row were copied to buffer d.
 pub record Reading (t : List ℕ) (w a : ℕ) (d e : List ℕ) (b : ℕ) : Type 0 where
@@ -100,9 +101,9 @@ module _ (t : List ℕ) (h : Header) (w rows a : ℕ) (d : List ℕ) (k : RowThe
       rw (k.header.passes, ok, lt-ltb a (at.text_length t / w) low, le-leb w (length d) k.fits)
 
   module _ (e : List ℕ) (b : ℕ) (c : Reading t w a d e b) where
-    module _ (more : b < w) (x : ByteAnswer) (x-is : replied (byte_reply x) ≡ byte_answer t (b * rows + a)) where
+    module _ (more : b < w) (x : Result (ℕ × ℕ) Refusal) (x-is : replied (byte_reply x) ≡ byte_answer t (b * rows + a)) where
       -- One column more.
-      pub read_more : (v n : ℕ) → x ≡ answer.Byte v n → Reading t w a d (set e b v) (b + 1)
+      pub read_more : (v n : ℕ) → x ≡ Ok (v, n) → Reading t w a d (set e b v) (b + 1)
       read_more v n is =
           let f : ℕ → ℕ = λ i. (byte_answer t (cell t w a i)).value in
           let z = rw (cell-is b) at (bytes.byte-good t h k.header (b * rows + a) (cell_below b more) x x-is v n is) in record {
@@ -113,19 +114,19 @@ module _ (t : List ℕ) (h : Header) (w rows a : ℕ) (d : List ℕ) (k : RowThe
           }
 
       -- One is refused, and the row's part is cleared.
-      pub read-broken : (q : ℕ) → x ≡ answer.Refused q → (n : ℕ) → n ≡ (replied (byte_reply x)).number → (z : List ℕ) → z ≡ replicate w 0 ++ drop w e
-          → Read t w a d (span.Refused n) z
+      pub read-broken : (q : Refusal) → x ≡ Err q → (z : List ℕ) → z ≡ replicate w 0 ++ drop w e → Read t w a d (Err q) z
       unfolding row_by_columns_answer row_by_columns_buffer cells_hold
-      read-broken q is n n-is z z-is =
+      read-broken q is z z-is =
           let broken = bytes.byte-refused t h k.header (b * rows + a) (cell_below b more) x x-is q is in
-          let n-14 : n ≡ 14 = n-is ∙ ap (λ s. s.number) x-is ∙ broken in
+          let said : refused (refusal_number q) ≡ byte_answer t (b * rows + a) = rw is at x-is in
+          let q-14 : refusal_number q ≡ 14 = ap (λ (s : Answer). s.number) said ∙ broken in
           let here : (byte_answer t (cell t w a b)).number ≡ 14 = rw (cell-is b) at broken in
           let some-broken : cells_hold t w a ≡ false = all_below-not w (λ i. eqb (byte_answer t (cell t w a i)).number 0) b more (rw here) in
           let number : row_by_columns_refusal t w a (length d) ≡ 14 = number_is ∙ rw some-broken in
-          (record { answers = rw (number, n-14); numbered = omega arith }, z-is ∙ rw (number, c.past))
+          (record { answers = rw (number, q-14); numbered = number-above q }, z-is ∙ rw (number, c.past))
 
     -- All are read.
-    pub read_all : b ≡ w → Read t w a d (span.Bytes w 0) e
+    pub read_all : b ≡ w → Read t w a d (Ok (w, 0)) e
     unfolding row_by_columns_answer row_by_columns_buffer cells_hold
     read_all all =
         let test : ℕ → Bool = λ i. eqb (byte_answer t (cell t w a i)).number 0 in

@@ -1,5 +1,5 @@
 -- Rows by columns of a rearranged text, from valid and damaged trees, computed from the definitions.
-use Rattle.std.specs.Prelude.{List, [], ◌∷◌, ◌++◌, ◌≡◌, refl, ℕ, replicate, take}
+use Rattle.std.specs.Prelude.{List, [], ◌∷◌, ◌≡◌, refl, ℕ, replicate, take}
 use Rattle.text.specs.Text.{tabulate, concat, sum_below, count_below, all_below, same_list, substring, leftmost, first_from, count_in}
 use Rattle.columns.specs.Columns.{transposed, columns, width_ok}
 use Rattle.format.specs.Layout.{word_at, words_bytes, word_bytes, set_word, block_length, pieces, record_length, length_ok, sizes_ok, counted_ok, rising, rising_after}

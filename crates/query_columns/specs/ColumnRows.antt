@@ -1,12 +1,12 @@
 -- What row_by_columns returns for any bytes given as a tree, and what the caller's buffer contains afterwards.
 -- docs/FORMAT.md: "Columns before rows".
-use Rattle.std.specs.Prelude.{List, [], ◌∷◌, ◌++◌, Bool, cond, ℕ, ◌+◌, ◌*◌, ◌/◌, length, drop, replicate, ltb, leb, eqb}
+use Rattle.std.specs.Prelude.{List, [], ◌∷◌, ◌++◌, Bool, cond, ℕ, ◌+◌, ◌*◌, ◌/◌, length, drop, replicate, ltb, leb, eqb, Result}
+use Rattle.refusals.specs.declared.Refusal.{Refusal}
 use Rattle.text.specs.Text.{tabulate, all_below}
 use Rattle.columns.specs.Columns.{width_ok}
 use Rattle.format.specs.Layout as at
 use Rattle.format.specs.TreeReading.{asks, or_next, header_result}
 use Rattle.format.specs.Answers.{Answer, unless, Is, byte_answer}
-use Rattle.query_access.specs.declared.SpanAnswer.{SpanAnswer}
 use Rattle.query_access.specs.ReadAnswers.{span_reply}
 
 module _ (t : List ℕ) (w a : ℕ) where
@@ -36,5 +36,5 @@ module _ (t : List ℕ) (w a : ℕ) where
   row_by_columns_answer room = unless (row_by_columns_refusal room) (record { number = 0; value = w; entered = 0 })
 
 -- The answer of row_by_columns, with a buffer of `room` bytes.
-abbrev pub IsRowByColumnsAnswer : (t : List ℕ) (w a room : ℕ) → SpanAnswer → Type 0
+abbrev pub IsRowByColumnsAnswer : (t : List ℕ) (w a room : ℕ) → Result (ℕ × ℕ) Refusal → Type 0
 IsRowByColumnsAnswer t w a room = Is span_reply (row_by_columns_answer t w a room)

@@ -1,4 +1,10 @@
 -- Two trees read side by side: what remains to be compared, place by place and run by run.
+use Rattle.std.specs.Prelude.{Result, Ok, Err}
+use Rattle.std.specs.declared.cmp.Ordering.{Ordering}
+use Rattle.std.specs.declared.cmp.Ordering.TheVariants.{Less, Greater}
+use Rattle.refusals.specs.declared.Refusal.{Refusal}
+use Rattle.refusals.specs.declared.Refusal.TheVariants.{PathBroken}
+use Rattle.refusals.specs.Refusals.{refusal_number}
 use mathlib.Core.List.{List}
 use mathlib.Core.Bool.{Bool, true, cond}
 use mathlib.Core.Path.{◌≡◌, sym, ap, ◌∙◌}
@@ -25,21 +31,15 @@ use Rattle.format.specs.TreeReading.{header_result}
 use Rattle.format.specs.LayoutLaws.{header-facts}
 use Rattle.theory_paths.specs.PlaceBytes.{byte-text}
 use Rattle.layout.specs.declared.header.Header.{Header}
-use Rattle.layout.specs.declared.header.HeaderAnswer.{HeaderAnswer}
-use Rattle.layout.specs.declared.header.HeaderAnswer.TheVariants as header
 use Rattle.layout.specs.Header.{header_answer}
 use Rattle.layout.specs.HeaderFields.{HeaderOf, header_refused}
 use Rattle.query_access.specs.declared.read_by_header.TreeRange.{TreeRange}
-use Rattle.query_access.specs.declared.read_by_header.RunRangeAnswer.{RunRangeAnswer}
-use Rattle.query_access.specs.declared.read_by_header.RunRangeAnswer.TheVariants as run
 use Rattle.query_access.specs.ReadByRuns.{ReadsOn, IsRangeAnswer}
 use Rattle.query_access.proofs.RunLaws.{reads_none, reads-rest}
-use Rattle.query_compare.specs.declared.CompareAnswer.{CompareAnswer}
-use Rattle.query_compare.specs.declared.CompareAnswer.TheVariants as compare
 use Rattle.query_compare.specs.declared.side_by_side.Progress.{Progress}
 use Rattle.query_compare.specs.declared.side_by_side.Round.{Round}
 use Rattle.query_compare.specs.declared.side_by_side.Round.TheVariants as round
-use Rattle.query_compare.specs.OrderAnswers.{before, after, order_answer, by_lengths, compared_from, compare_answer, compare_reply, IsCompareAnswer}
+use Rattle.query_compare.specs.OrderAnswers.{order_answer, by_lengths, compared_from, compare_answer, compare_reply, IsCompareAnswer}
 use Rattle.query_compare.specs.Compared.{CompareReadsFrom, Agrees, by_byte, shortest, Comparing, RoundAnswer}
 
 -- A byte of a part that is read is the one that byte answers.
@@ -64,8 +64,8 @@ module _ (t u : List ℕ) where
   -- A place that is not the shorter end.
   module _ (p : ℕ) (low : p < shortest t u) where
     open-place : From p ≡ unless (byte_answer t p).number (unless (byte_answer u p).number
-        (cond (ltb (byte_answer t p).value (byte_answer u p).value) (order_answer before p)
-        (cond (ltb (byte_answer u p).value (byte_answer t p).value) (order_answer after p) (From (p + 1)))))
+        (cond (ltb (byte_answer t p).value (byte_answer u p).value) (order_answer Less p)
+        (cond (ltb (byte_answer u p).value (byte_answer t p).value) (order_answer Greater p) (From (p + 1)))))
     unfolding compared_from
     open-place =
         let s : shortest t u - p ≡ suc (shortest t u - (p + 1)) = omega arith in
@@ -96,8 +96,8 @@ module _ (t u : List ℕ) where
 
             go : (x < y) ⊎ (y ≤ x)
                 → unless (byte_answer t p).number (unless (byte_answer u p).number
-                (cond (ltb x y) (order_answer before p) (cond (ltb y x) (order_answer after p) (From (p + 1)))))
-                ≡ cond (ltb x y) (order_answer before p) (order_answer after p)
+                (cond (ltb x y) (order_answer Less p) (cond (ltb y x) (order_answer Greater p) (From (p + 1)))))
+                ≡ cond (ltb x y) (order_answer Less p) (order_answer Greater p)
             go (inl h) = rw (a, b, lt-ltb x y h)
             go (inr h) = rw (a, b, le-ltb x y h, lt-ltb y x (omega arith))
 
@@ -137,36 +137,36 @@ module _ (t u : List ℕ) (h g : Header) (k : HeaderOf t h) (l : HeaderOf u g) (
 module _ (t u : List ℕ) (m : Progress) (c : Comparing t u m) where
   -- At the shorter end.
   pub compare-end : shortest t u ≤ m.place.0 → (n k : ℕ) → n ≡ at.text_length t → k ≡ at.text_length u
-      → (x : CompareAnswer) → replied (compare_reply x) ≡ by_lengths n k m.place.0 → IsCompareAnswer t u x
+      → (x : Ordering × ℕ) → replied (compare_reply (Ok x)) ≡ by_lengths n k m.place.0 → IsCompareAnswer t u (Ok x)
   unfolding compared_from
   compare-end past n k n-is k_is x x-is =
       let z : shortest t u - m.place.0 ≡ 0 = omega arith in
       let e : by_lengths (at.text_length t) (at.text_length u) m.place.0 ≡ compare_answer t u = rw z at c.left in
       record { answers = x-is ∙ rw (n-is, k_is) e }
 
-  module _ (low : m.place.0 < shortest t u) (v : RunRangeAnswer) (first : CompareReadsFrom t m.place.0 v) where
+  module _ (low : m.place.0 < shortest t u) (v : Result TreeRange Refusal) (first : CompareReadsFrom t m.place.0 v) where
     -- The first tree's path breaks.
-    pub compare-broken : (q : ℕ) → v ≡ run.Refused q → IsCompareAnswer t u (compare.Refused 14)
+    pub compare-broken : (q : Refusal) → v ≡ Err q → IsCompareAnswer t u (Err PathBroken)
     compare-broken q e =
-        let z : CompareReadsFrom t m.place.0 (run.Refused q) = rw e at first in
+        let z : CompareReadsFrom t m.place.0 (Err q) = rw e at first in
         record { answers = sym (first-broken t u m.place.0 low z) ∙ c.left }
 
-    module _ (x : TreeRange) (x-is : v ≡ run.At x) (w : RunRangeAnswer) (second : CompareReadsFrom u m.place.0 w) where
-      here : CompareReadsFrom t m.place.0 (run.At x)
+    module _ (x : TreeRange) (x-is : v ≡ Ok x) (w : Result TreeRange Refusal) (second : CompareReadsFrom u m.place.0 w) where
+      here : CompareReadsFrom t m.place.0 (Ok x)
       here = rw x-is at first
 
       -- The first tree's path holds and the second's breaks.
-      pub compare-broken-2 : (q : ℕ) → w ≡ run.Refused q → IsCompareAnswer t u (compare.Refused 14)
+      pub compare-broken-2 : (q : Refusal) → w ≡ Err q → IsCompareAnswer t u (Err PathBroken)
       compare-broken-2 q e =
-          let z : CompareReadsFrom u m.place.0 (run.Refused q) = rw e at second in
+          let z : CompareReadsFrom u m.place.0 (Err q) = rw e at second in
           let holds = first_holds t m.place.0 x.from x.length here.0 here.1 in
           record { answers = sym (second-broken t u m.place.0 low holds z) ∙ c.left }
 
       -- Both hold: there is a byte of each.
-      pub compare-runs : (y : TreeRange) → w ≡ run.At y
+      pub compare-runs : (y : TreeRange) → w ≡ Ok y
           → Comparing t u (record { place = m.place; one = x; other = y }) × (1 ≤ x.length) × (1 ≤ y.length)
       compare-runs y e =
-          let z : CompareReadsFrom u m.place.0 (run.At y) = rw e at second in
+          let z : CompareReadsFrom u m.place.0 (Ok y) = rw e at second in
           (record { passes = c.passes; other_passes = c.other_passes; low = c.low; reads = here.0; other_reads = z.0; left = c.left }, here.1, z.1)
 
 -- Two runs; n bytes of each are compared.
@@ -209,8 +209,8 @@ module _ (t u : List ℕ) (x y : TreeRange) (p : ℕ) (c : Comparing t u (record
     on = sym (places_same t u p k (omega (arith, g.most, in_both)) agreed) ∙ c.left
 
     -- The next do not.
-    pub compare-differs : k < n → (z : CompareAnswer) → replied (compare_reply z) ≡ by_byte (get_or t (x.from + k) 0) (get_or u (y.from + k) 0) (p + k)
-        → IsCompareAnswer t u z
+    pub compare-differs : k < n → (z : Ordering × ℕ)
+        → replied (compare_reply (Ok z)) ≡ by_byte (get_or t (x.from + k) 0) (get_or u (y.from + k) 0) (p + k) → IsCompareAnswer t u (Ok z)
     compare-differs less z z-is =
         let a = one_is k less in
         let b = other_is k less in
@@ -242,27 +242,27 @@ module _ (t u : List ℕ) (p : ℕ) (r : Round) (a : RoundAnswer t u p r) where
   pub round-on : (m : Progress) → r ≡ round.On m → Comparing t u m × (p < m.place.0)
   round-on m e = let z : RoundAnswer t u p (round.On m) = rw e at a in z
 
-  pub round-settled : (x : CompareAnswer) → r ≡ round.Settled x → IsCompareAnswer t u x
+  pub round-settled : (x : Result (Ordering × ℕ) Refusal) → r ≡ round.Settled x → IsCompareAnswer t u x
   round-settled x e = let z : RoundAnswer t u p (round.Settled x) = rw e at a in z
 
 -- A range from a place.
-pub read-anew : (t : List ℕ) (p most : ℕ) (r : RunRangeAnswer) → IsRangeAnswer t p most r → CompareReadsFrom t p r
-read-anew t p most (run.At part) a = (a.0, a.1)
-read-anew t p most (run.Refused q) a = a.1
+pub read-anew : (t : List ℕ) (p most : ℕ) (r : Result TreeRange Refusal) → IsRangeAnswer t p most r → CompareReadsFrom t p r
+read-anew t p most (Ok part) a = (a.0, a.1)
+read-anew t p most (Err q) a = a.1
 
 -- A tree that does not pass questions 5 to 7, the first or the second.
-module _ (t u : List ℕ) (x : HeaderAnswer) (q : ℕ) (e : x ≡ header.Refused q) where
-  pub first-unread : x ≡ header_answer t → IsCompareAnswer t u (compare.Refused q)
+module _ (t u : List ℕ) (x : Result Header Refusal) (q : Refusal) (e : x ≡ Err q) where
+  pub first-unread : x ≡ header_answer t → IsCompareAnswer t u (Err q)
   unfolding compare_answer
   first-unread x-is =
       let z = header_refused t x x-is q e in
-      record { answers = unless-refused (header_result t) z.0 q _ z.1 z.2 }
+      record { answers = unless-refused (header_result t) z.0 (refusal_number q) _ z.1 z.2 }
 
-  pub second-unread : header_result t ≡ 0 → x ≡ header_answer u → IsCompareAnswer t u (compare.Refused q)
+  pub second-unread : header_result t ≡ 0 → x ≡ header_answer u → IsCompareAnswer t u (Err q)
   unfolding compare_answer
   second-unread r x-is =
       let z = header_refused u x x-is q e in
-      record { answers = rw r (unless-refused (header_result u) z.0 q _ z.1 z.2) }
+      record { answers = rw r (unless-refused (header_result u) z.0 (refusal_number q) _ z.1 z.2) }
 
 -- A byte of one range beside that of the other.
 abbrev pub Differ : ℕ × ℕ → Type 0

@@ -1,5 +1,12 @@
 -- The demands on comparing two trees, as theorems over what the calls promise.
 -- docs/FORMAT.md: "The order of books".
+use Rattle.std.specs.Prelude.{Result, Ok, Err}
+use Rattle.std.specs.declared.cmp.Ordering.{Ordering}
+use Rattle.std.specs.declared.cmp.Ordering.TheVariants.{Less, Equal, Greater}
+use Rattle.refusals.specs.declared.Refusal.{Refusal}
+use Rattle.refusals.specs.declared.Refusal.TheVariants.{PathBroken}
+use Rattle.refusals.specs.Refusals.{refusal_number, result_refusal}
+use Rattle.refusals.specs.RefusalsLaws.{number-above, refused-as}
 use mathlib.Core.List.{List, [], ◌∷◌}
 use mathlib.Core.Bool.{true, cond}
 use mathlib.Core.Path.{◌≡◌, refl, ap, ◌∙◌}
@@ -17,9 +24,7 @@ use Rattle.format.specs.Layout as at
 use Rattle.format.specs.TreeReading.{links_ok, text_of, header_result}
 use Rattle.format.specs.Answers.{Answer, refused, replied, unless, byte_answer}
 use Rattle.theory_paths.specs.Theorems as paths
-use Rattle.query_compare.specs.declared.CompareAnswer.{CompareAnswer}
-use Rattle.query_compare.specs.declared.CompareAnswer.TheVariants as compare
-use Rattle.query_compare.specs.OrderAnswers.{Ordering, before, same, after, code, order_answer, by_lengths, compared_from, compare_answer, compare_reply}
+use Rattle.query_compare.specs.OrderAnswers.{code, order_answer, by_lengths, compared_from, compare_answer, compare_reply}
 use Rattle.query_compare.specs.OrderAnswers.{IsFirstAnswer}
 use Rattle.query_compare.specs.TextOrder.{text_ordering, shared, outcome, first_of}
 use Rattle.query_compare.specs.OrderLaws.{Which, below, equal, above, which, ordering-below, ordering-equal, ordering-above, shared-equal, shared-other}
@@ -29,17 +34,17 @@ use Rattle.query_compare.proofs.compare.Reads as compare-reads
 use Rattle.query_compare.proofs.first.Reads as first_reads
 
 -- r is an answer that the contract of `compare` allows to a call with these arguments
-abbrev pub Compare : (κs : Lfts 2) → Bor (List ℕ) → Bor (List ℕ) → CompareAnswer → Type 0
+abbrev pub Compare : (κs : Lfts 2) → Bor (List ℕ) → Bor (List ℕ) → Result (Ordering × ℕ) Refusal → Type 0
 Compare κs t u r = compare-reads.Post κs (t, (u, tt)) r (t, (u, tt))
 
 -- One byte of each, at place p: these bytes decide the order, or what follows them does.
 by_first : (x y : ℕ) (A B : List ℕ) (p : ℕ) (rest : Answer) → rest ≡ order_answer (text_ordering A B) (suc p + shared A B)
-    → cond (ltb x y) (order_answer before p) (cond (ltb y x) (order_answer after p) rest)
+    → cond (ltb x y) (order_answer Less p) (cond (ltb y x) (order_answer Greater p) rest)
     ≡ order_answer (text_ordering (x ∷ A) (y ∷ B)) (p + shared (x ∷ A) (y ∷ B))
 by_first x y A B p rest r = go (which x y)
   where
     go : Which x y
-        → cond (ltb x y) (order_answer before p) (cond (ltb y x) (order_answer after p) rest)
+        → cond (ltb x y) (order_answer Less p) (cond (ltb y x) (order_answer Greater p) rest)
         ≡ order_answer (text_ordering (x ∷ A) (y ∷ B)) (p + shared (x ∷ A) (y ∷ B))
     go (below h) = rw (lt-ltb x y h, ordering-below x y A B h, shared-other x y A B (λ e. omega arith), add-zero p)
     go (above h) =
@@ -98,8 +103,8 @@ module _ (t u : List ℕ) (rt : header_result t ≡ 0) (ru : header_result u ≡
 
     at_place : (rest : Answer) → rest ≡ Left (p + 1)
         → unless (byte_answer t p).number (unless (byte_answer u p).number
-        (cond (ltb (byte_answer t p).value (byte_answer u p).value) (order_answer before p)
-        (cond (ltb (byte_answer u p).value (byte_answer t p).value) (order_answer after p) rest)))
+        (cond (ltb (byte_answer t p).value (byte_answer u p).value) (order_answer Less p)
+        (cond (ltb (byte_answer u p).value (byte_answer t p).value) (order_answer Greater p) rest)))
         ≡ Left p
     at_place rest r =
         let a = drop-cons T p 0 (omega (arith, n-is)) in
@@ -121,45 +126,44 @@ module _ (t u : List ℕ) (rt : header_result t ≡ 0) (ru : header_result u ≡
       start = let z : 0 + shared T U ≡ shared T U = omega arith in rw z
 
 -- The answer in each case.
-outcome-is : (r : CompareAnswer) (s : Ordering) (n : ℕ) → replied (compare_reply r) ≡ order_answer s n → r ≡ outcome s n
-outcome-is r s n e = go r s (ap (λ (x : Answer). x.value) e) (ap (λ (x : Answer). x.entered) e)
-  where
-    go : (r : CompareAnswer) (s : Ordering) → (replied (compare_reply r)).value ≡ code s → (replied (compare_reply r)).entered ≡ n → r ≡ outcome s n
-    go (compare.Before k) before o l = ap compare.Before l
-    go (compare.Before k) same o l = absurd (let z : ⊥ = omega arith in z)
-    go (compare.Before k) after o l = absurd (let z : ⊥ = omega arith in z)
-    go (compare.Same k) before o l = absurd (let z : ⊥ = omega arith in z)
-    go (compare.Same k) same o l = ap compare.Same l
-    go (compare.Same k) after o l = absurd (let z : ⊥ = omega arith in z)
-    go (compare.After k) before o l = absurd (let z : ⊥ = omega arith in z)
-    go (compare.After k) same o l = absurd (let z : ⊥ = omega arith in z)
-    go (compare.After k) after o l = ap compare.After l
-    go (compare.Refused q) before o l = absurd (let z : ⊥ = omega arith in z)
-    go (compare.Refused q) same o l = absurd (let z : ⊥ = omega arith in z)
-    go (compare.Refused q) after o l = absurd (let z : ⊥ = omega arith in z)
+one-code : (s r : Ordering) → code s ≡ code r → s ≡ r
+one-code Less Less e = refl
+one-code Less Equal e = absurd (let z : ⊥ = omega arith in z)
+one-code Less Greater e = absurd (let z : ⊥ = omega arith in z)
+one-code Equal Less e = absurd (let z : ⊥ = omega arith in z)
+one-code Equal Equal e = refl
+one-code Equal Greater e = absurd (let z : ⊥ = omega arith in z)
+one-code Greater Less e = absurd (let z : ⊥ = omega arith in z)
+one-code Greater Equal e = absurd (let z : ⊥ = omega arith in z)
+one-code Greater Greater e = refl
 
--- A refusal has no order.
-refusal_is : (r : CompareAnswer) (q : ℕ) → replied (compare_reply r) ≡ refused q → r ≡ compare.Refused q
-refusal_is r q e = go r (ap (λ (x : Answer). x.value) e) (ap (λ (x : Answer). x.number) e)
-  where
-    go : (r : CompareAnswer) → (replied (compare_reply r)).value ≡ 0 → (replied (compare_reply r)).number ≡ q → r ≡ compare.Refused q
-    go (compare.Before k) o n = absurd (let z : ⊥ = omega arith in z)
-    go (compare.Same k) o n = absurd (let z : ⊥ = omega arith in z)
-    go (compare.After k) o n = absurd (let z : ⊥ = omega arith in z)
-    go (compare.Refused k) o n = ap compare.Refused n
+outcome-is : (r : Result (Ordering × ℕ) Refusal) (s : Ordering) (n : ℕ) → replied (compare_reply r) ≡ order_answer s n → r ≡ outcome s n
+outcome-is (Ok x) s n e =
+    let z : x.0 ≡ s = one-code x.0 s (ap (λ (y : Answer). y.value) e) in
+    let y : x.1 ≡ n = ap (λ (y : Answer). y.entered) e in
+    ap Ok (λ i. (z i, y i))
+outcome-is (Err q) s n e = absurd (let low = number-above q in let z : refusal_number q ≡ 0 = ap (λ (y : Answer). y.number) e in let w : ⊥ = omega arith in w)
+
+compare-refusal : (r : Result (Ordering × ℕ) Refusal) → result_refusal r ≡ (replied (compare_reply r)).number
+compare-refusal (Ok x) = refl
+compare-refusal (Err q) = refl
+
+refusal_is : (r : Result (Ordering × ℕ) Refusal) (q : Refusal) → replied (compare_reply r) ≡ refused (refusal_number q) → r ≡ Err q
+refusal_is r q e = refused-as r q (compare-refusal r ∙ ap (λ (x : Answer). x.number) e)
 
 -- For any bytes.
-module _ (κs : Lfts 2) (t u : Bor (List ℕ)) (r : CompareAnswer) (a : Compare κs t u r) where
+module _ (κs : Lfts 2) (t u : Bor (List ℕ)) (r : Result (Ordering × ℕ) Refusal) (a : Compare κs t u r) where
   -- Questions 5 to 7 of the first tree come first.
-  pub order-unread : (q : ℕ) → header_result t.now ≡ suc q → r ≡ compare.Refused (suc q)
+  pub order-unread : (q : ℕ) → header_result t.now ≡ suc q → result_refusal r ≡ suc q
   unfolding compare_answer
-  order-unread q e = refusal_is r (suc q) (a.answers ∙ rw e)
+  order-unread q e = let said : replied (compare_reply r) ≡ refused (suc q) = a.answers ∙ rw e in compare-refusal r ∙ ap (λ (x : Answer). x.number) said
 
   module _ (rt : header_result t.now ≡ 0) where
     -- Those of the second tree are next.
-    pub order-unread-2 : (q : ℕ) → header_result u.now ≡ suc q → r ≡ compare.Refused (suc q)
+    pub order-unread-2 : (q : ℕ) → header_result u.now ≡ suc q → result_refusal r ≡ suc q
     unfolding compare_answer
-    order-unread-2 q e = refusal_is r (suc q) (a.answers ∙ rw (rt, e))
+    order-unread-2 q e =
+        let said : replied (compare_reply r) ≡ refused (suc q) = a.answers ∙ rw (rt, e) in compare-refusal r ∙ ap (λ (x : Answer). x.number) said
 
     -- The reading comes to place p if p is a place of both texts and the bytes at all places before p are equal.
     module _ (ru : header_result u.now ≡ 0) (p : ℕ) (low : p < shortest t.now u.now) (all : (x : ℕ) → x < p → SameAt t.now u.now x) where
@@ -172,27 +176,27 @@ module _ (κs : Lfts 2) (t u : Bor (List ℕ)) (r : CompareAnswer) (a : Compare 
           rw (rt, ru) (rw (z, y) at e)
 
       -- Refused with 14: the path of p breaks in the first tree.
-      pub order-broken : (byte_answer t.now p).number ≡ 14 → r ≡ compare.Refused 14
-      order-broken e = refusal_is r 14 (a.answers ∙ from-there ∙ first-broken t.now u.now p low e)
+      pub order-broken : (byte_answer t.now p).number ≡ 14 → r ≡ Err PathBroken
+      order-broken e = refusal_is r PathBroken (a.answers ∙ from-there ∙ first-broken t.now u.now p low e)
 
       module _ (there : (byte_answer t.now p).number ≡ 0) where
         -- Refused with 14: the path of p holds in the first tree and breaks in the second.
-        pub order-broken-2 : (byte_answer u.now p).number ≡ 14 → r ≡ compare.Refused 14
-        order-broken-2 e = refusal_is r 14 (a.answers ∙ from-there ∙ second-broken t.now u.now p low there e)
+        pub order-broken-2 : (byte_answer u.now p).number ≡ 14 → r ≡ Err PathBroken
+        order-broken-2 e = refusal_is r PathBroken (a.answers ∙ from-there ∙ second-broken t.now u.now p low there e)
 
         -- A difference is the answer, whatever comes after it.
         module _ (there-2 : (byte_answer u.now p).number ≡ 0) where
-          pub order_below : (byte_answer t.now p).value < (byte_answer u.now p).value → r ≡ compare.Before p
+          pub order_below : (byte_answer t.now p).value < (byte_answer u.now p).value → r ≡ Ok (Less, p)
           unfolding by_byte
           order_below h =
               let e = place-differs t.now u.now p low there there-2 (λ z. omega arith) in
-              outcome-is r before p (a.answers ∙ from-there ∙ e ∙ rw (lt-ltb _ _ h))
+              outcome-is r Less p (a.answers ∙ from-there ∙ e ∙ rw (lt-ltb _ _ h))
 
-          pub order-above : (byte_answer u.now p).value < (byte_answer t.now p).value → r ≡ compare.After p
+          pub order-above : (byte_answer u.now p).value < (byte_answer t.now p).value → r ≡ Ok (Greater, p)
           unfolding by_byte
           order-above h =
               let e = place-differs t.now u.now p low there there-2 (λ z. omega arith) in
-              outcome-is r after p (a.answers ∙ from-there ∙ e ∙ rw (le-ltb (byte_answer t.now p).value (byte_answer u.now p).value (omega arith)))
+              outcome-is r Greater p (a.answers ∙ from-there ∙ e ∙ rw (le-ltb (byte_answer t.now p).value (byte_answer u.now p).value (omega arith)))
 
 -- r is a slice that the contract of `first` allows to be returned, with these figures.
 abbrev pub CompareFirst : (κs : Lfts 4) → (t u : Bor (List ℕ)) → (number order length number' order' length' : MutBor ℕ) → Bor (List ℕ) → Type 0
@@ -209,7 +213,7 @@ module _ (t u : Bor (List ℕ)) (rt : header_result t.now ≡ 0) (ru : header_re
   n = shared (text_of t.now) (text_of u.now)
 
   -- The result is the lexicographic order of the texts and the length of their longest common prefix.
-  pub compare-texts : (κs : Lfts 2) (r : CompareAnswer) → Compare κs t u r → r ≡ outcome s n
+  pub compare-texts : (κs : Lfts 2) (r : Result (Ordering × ℕ) Refusal) → Compare κs t u r → r ≡ outcome s n
   compare-texts κs r a = outcome-is r s n (a.answers ∙ order-of-texts t.now u.now rt ru lt lu)
 
   -- `first` returns the tree whose text comes first, the first argument if the texts are equal, with the figures of the comparison.
@@ -221,6 +225,6 @@ module _ (t u : Bor (List ℕ)) (rt : header_result t.now ≡ 0) (ru : header_re
       (whole s n (rw e at a.1), a.0 ∙ e)
     where
       whole : (s : Ordering) (n : ℕ) → IsFirstAnswer (order_answer s n) t u r → r ≡ first_of s t u
-      whole before n h = h.given refl
-      whole same n h = h.given refl
-      whole after n h = h.given refl
+      whole Less n h = h.given refl
+      whole Equal n h = h.given refl
+      whole Greater n h = h.given refl

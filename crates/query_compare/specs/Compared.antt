@@ -1,20 +1,21 @@
 -- Two trees read side by side.
-use Rattle.std.specs.Prelude.{List, cond, ◌≡◌, ℕ, ◌+◌, ◌-◌, ◌≤◌, ◌<◌, min, get_or, ltb}
+use Rattle.std.specs.Prelude.{List, cond, ◌≡◌, ℕ, ◌+◌, ◌-◌, ◌≤◌, ◌<◌, min, get_or, ltb, Result, Ok, Err}
+use Rattle.std.specs.declared.cmp.Ordering.TheVariants.{Less, Greater}
+use Rattle.refusals.specs.declared.Refusal.{Refusal}
 use Rattle.format.specs.Answers.{Answer, byte_answer}
 use Rattle.format.specs.Layout as at
 use Rattle.format.specs.TreeReading.{header_result}
-use Rattle.query_access.specs.declared.read_by_header.RunRangeAnswer.{RunRangeAnswer}
-use Rattle.query_access.specs.declared.read_by_header.RunRangeAnswer.TheVariants as run
+use Rattle.query_access.specs.declared.read_by_header.TreeRange.{TreeRange}
 use Rattle.query_access.specs.ReadByRuns.{ReadsOn}
 use Rattle.query_compare.specs.declared.side_by_side.Progress.{Progress}
 use Rattle.query_compare.specs.declared.side_by_side.Round.{Round}
 use Rattle.query_compare.specs.declared.side_by_side.Round.TheVariants as round
-use Rattle.query_compare.specs.OrderAnswers.{before, after, order_answer, compared_from, compare_answer, IsCompareAnswer}
+use Rattle.query_compare.specs.OrderAnswers.{order_answer, compared_from, compare_answer, IsCompareAnswer}
 
 -- Bytes of the text from place p, at least one, or none because the path of p breaks.
-abbrev pub CompareReadsFrom : List ℕ → ℕ → RunRangeAnswer → Type 0
-CompareReadsFrom t p (run.At part) = ReadsOn t p part.from part.length × (1 ≤ part.length)
-CompareReadsFrom t p (run.Refused q) = (byte_answer t p).number ≡ 14
+abbrev pub CompareReadsFrom : List ℕ → ℕ → Result TreeRange Refusal → Type 0
+CompareReadsFrom t p (Ok part) = ReadsOn t p part.from part.length × (1 ≤ part.length)
+CompareReadsFrom t p (Err q) = (byte_answer t p).number ≡ 14
 
 -- The n bytes of s from a and of t from b agree in their first r, and not in the next.
 pub record Agrees (s : List ℕ) (a : ℕ) (t : List ℕ) (b n r : ℕ) : Type 0 where
@@ -24,7 +25,7 @@ pub record Agrees (s : List ℕ) (a : ℕ) (t : List ℕ) (b n r : ℕ) : Type 0
 
 -- The order by the first byte that differs, at place p.
 unfoldable pub by_byte : ℕ → ℕ → ℕ → Answer
-by_byte x y p = cond (ltb x y) (order_answer before p) (order_answer after p)
+by_byte x y p = cond (ltb x y) (order_answer Less p) (order_answer Greater p)
 
 -- The length of the shorter text.
 abbrev pub shortest : List ℕ → List ℕ → ℕ

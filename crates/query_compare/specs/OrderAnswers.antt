@@ -1,26 +1,23 @@
 -- What compare returns.
 -- docs/FORMAT.md: "The order of books".
-use Rattle.std.specs.Prelude.{List, [], cond, ℕ, zero, suc, ◌+◌, min, ◌≤◌, ltb, eqb, ◌≡◌}
+use Rattle.std.specs.Prelude.{List, [], cond, ℕ, zero, suc, ◌+◌, min, ◌≤◌, ltb, eqb, ◌≡◌, Result, Ok, Err}
+use Rattle.std.specs.declared.cmp.Ordering.{Ordering}
+use Rattle.std.specs.declared.cmp.Ordering.TheVariants.{Less, Equal, Greater}
+use Rattle.refusals.specs.declared.Refusal.{Refusal}
+use Rattle.refusals.specs.Refusals.{refusal_number}
 use Rattle.format.specs.Answers.{Answer, unless, Reply, figures, refusal, replied, byte_answer}
 use Rattle.format.specs.Layout as at
 use Rattle.format.specs.TreeReading.{header_result}
 use Rattle.std.specs.Borrow.{Bor}
-use Rattle.query_compare.specs.declared.CompareAnswer.{CompareAnswer}
-use Rattle.query_compare.specs.declared.CompareAnswer.TheVariants as compare
 
 -- The lexicographic order of texts, and what compare returns for any bytes given as two trees.
 -- docs/FORMAT.md: "The order of books".
 
--- Whether the first of two texts comes before the second, is equal, or comes after.
-pub data Ordering : Type 0 where
-  before : Ordering
-  same : Ordering
-  after : Ordering
-
+-- The number of an order of the first of two texts: before the second, equal to it, after it.
 abbrev pub code : Ordering → ℕ
-code before = 1
-code same = 2
-code after = 3
+code Less = 1
+code Equal = 2
+code Greater = 3
 
 -- An order with the length of the longest common prefix.
 abbrev pub order_answer : Ordering → ℕ → Answer
@@ -28,7 +25,7 @@ order_answer s n = record { number = 0; value = code s; entered = n }
 
 -- Two texts of n and m bytes whose shared beginning is the whole of the shorter.
 unfoldable pub by_lengths : ℕ → ℕ → ℕ → Answer
-by_lengths n m p = cond (ltb n m) (order_answer before p) (cond (ltb m n) (order_answer after p) (order_answer same p))
+by_lengths n m p = cond (ltb n m) (order_answer Less p) (cond (ltb m n) (order_answer Greater p) (order_answer Equal p))
 
 module _ (t u : List ℕ) where
   -- From place p on, with this many places left in the shorter text: each is read in the first tree and then in the second.
@@ -38,7 +35,7 @@ module _ (t u : List ℕ) where
       let rest = compared_from more (p + 1) in
       let x = (byte_answer t p).value in
       let y = (byte_answer u p).value in
-      unless (byte_answer t p).number (unless (byte_answer u p).number (cond (ltb x y) (order_answer before p) (cond (ltb y x) (order_answer after p) rest)))
+      unless (byte_answer t p).number (unless (byte_answer u p).number (cond (ltb x y) (order_answer Less p) (cond (ltb y x) (order_answer Greater p) rest)))
 
   -- The answer of compare: questions 5 to 7 for the first tree, then for the second, then the places.
   unfoldable pub compare_answer : Answer
@@ -46,14 +43,12 @@ module _ (t u : List ℕ) where
 
 -- The answers of compare and first by their refusals and figures (docs/FORMAT.md, "The order of books").
 
-abbrev pub compare_reply : CompareAnswer → Reply
-compare_reply (compare.Before n) = figures (code before) n
-compare_reply (compare.Same n) = figures (code same) n
-compare_reply (compare.After n) = figures (code after) n
-compare_reply (compare.Refused q) = refusal q
+abbrev pub compare_reply : Result (Ordering × ℕ) Refusal → Reply
+compare_reply (Ok x) = figures (code x.0) x.1
+compare_reply (Err q) = refusal (refusal_number q)
 
 -- The answer of compare for two trees; the first figure is never 0, so a refusal is distinct from every answer.
-pub record IsCompareAnswer (t u : List ℕ) (r : CompareAnswer) : Type 0 where
+pub record IsCompareAnswer (t u : List ℕ) (r : Result (Ordering × ℕ) Refusal) : Type 0 where
   pub answers : replied (compare_reply r) ≡ compare_answer t u
 
 -- What first returns: the one of the two given references whose text comes first, the first one if the texts are equal; an empty slice if refused.

@@ -1,5 +1,6 @@
 -- Trees of short texts compared, valid and damaged ones, computed from the definitions.
 use Rattle.std.specs.Prelude.{List, [], ◌∷◌, ◌++◌, ◌≡◌, refl, ℕ, replicate, length, take}
+use Rattle.std.specs.declared.cmp.Ordering.TheVariants.{Less, Equal, Greater}
 use Rattle.text.specs.Text.{tabulate, concat, sum_below, count_below, all_below, same_list, substring, leftmost, first_from, count_in}
 use Rattle.format.specs.Answers.{refused, byte_answer}
 use Rattle.format.specs.Layout.{word_at, words_bytes, word_bytes, set_word, Settings, block_length, pieces, record_length, length_ok, sizes_ok, counted_ok, rising}
@@ -9,7 +10,7 @@ use Rattle.format.specs.Layout.{edges_of, filled_out, rising_after}
 use Rattle.format.specs.Layout as at
 use Rattle.format.specs.TreeReading.{path_of, path_from, target_place, target_block, pointing_block}
 use Rattle.format.specs.TreeReading.{is_kept_block, resolves, resolved_block, resolved_place, resolved_visits, header_result}
-use Rattle.query_compare.specs.OrderAnswers.{before, same, after, order_answer, by_lengths, compared_from, compare_answer}
+use Rattle.query_compare.specs.OrderAnswers.{order_answer, by_lengths, compared_from, compare_answer}
 use Rattle.query_compare.specs.TextOrder.{text_ordering, shared}
 
 nine : List ℕ
@@ -66,21 +67,21 @@ early : List ℕ
 early = set_word w 104 2
 
 pub record CompareMarked : Type 0 where
-  texts : (text_ordering nine compare-book ≡ before) × (text_ordering compare-book nine ≡ after) × (text_ordering compare-book compare-book ≡ same)
+  texts : (text_ordering nine compare-book ≡ Less) × (text_ordering compare-book nine ≡ Greater) × (text_ordering compare-book compare-book ≡ Equal)
       × (shared nine compare-book ≡ 9)
-  settings : compare_answer w w' ≡ order_answer same 20
-  layouts : (compare_answer w compare-older ≡ order_answer same 20) × (compare_answer compare-older p ≡ order_answer after 9)
-  beginning : (compare_answer w p ≡ order_answer after 9) × (compare_answer p w ≡ order_answer before 9)
-  unsigned : (compare_answer high low ≡ order_answer after 0) × (compare_answer low high ≡ order_answer before 0)
-  differ : (compare_answer p x ≡ order_answer before 8) × (compare_answer x p ≡ order_answer after 8)
-      × (compare_answer w x ≡ order_answer before 8) × (compare_answer x w ≡ order_answer after 8)
+  settings : compare_answer w w' ≡ order_answer Equal 20
+  layouts : (compare_answer w compare-older ≡ order_answer Equal 20) × (compare_answer compare-older p ≡ order_answer Greater 9)
+  beginning : (compare_answer w p ≡ order_answer Greater 9) × (compare_answer p w ≡ order_answer Less 9)
+  unsigned : (compare_answer high low ≡ order_answer Greater 0) × (compare_answer low high ≡ order_answer Less 0)
+  differ : (compare_answer p x ≡ order_answer Less 8) × (compare_answer x p ≡ order_answer Greater 8)
+      × (compare_answer w x ≡ order_answer Less 8) × (compare_answer x w ≡ order_answer Greater 8)
   -- The empty text comes before every other, and no place is read.
-  empties : (compare_answer compare-empty w ≡ order_answer before 0) × (compare_answer compare-older compare-empty ≡ order_answer after 0)
-      × (compare_answer compare-empty empty' ≡ order_answer same 0) × (compare_answer early compare-empty ≡ order_answer after 0)
+  empties : (compare_answer compare-empty w ≡ order_answer Less 0) × (compare_answer compare-older compare-empty ≡ order_answer Greater 0)
+      × (compare_answer compare-empty empty' ≡ order_answer Equal 0) × (compare_answer early compare-empty ≡ order_answer Greater 0)
   -- A path that breaks, and one that breaks past the first difference or the shorter end, which is not read.
   broken : (compare_answer late w ≡ refused 14) × (compare_answer w late ≡ refused 14) × (compare_answer late late ≡ refused 14)
       × (compare_answer early high ≡ refused 14)
-  unseen : (compare_answer late x ≡ order_answer before 8) × (compare_answer x late ≡ order_answer after 8) × (compare_answer late p ≡ order_answer after 9)
+  unseen : (compare_answer late x ≡ order_answer Less 8) × (compare_answer x late ≡ order_answer Greater 8) × (compare_answer late p ≡ order_answer Greater 9)
   -- 5 to 7 of the first, then of the second, before any 14
   unread : (compare_answer (take 99 w) [] ≡ refused 5) × (compare_answer w (take 99 w) ≡ refused 5)
       × (compare_answer (set_word w 0 9) (take 99 w) ≡ refused 6)

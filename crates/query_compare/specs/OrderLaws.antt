@@ -3,7 +3,8 @@ use Rattle.std.specs.Prelude.{List, [], ◌∷◌, cond, ◌≡◌, refl, ◌⊎
 use Rattle.std.proofs.Common.{sym, ap, ◌∙◌, inl, inr, arith, add-one}
 use borrow.Author.Tests.{lt-ltb, le-ltb, eq-eqb, ne_eqb}
 use Rattle.text.specs.ListLaws.{lt-or-ge}
-use Rattle.query_compare.specs.OrderAnswers.{Ordering, before, same, after}
+use Rattle.std.specs.declared.cmp.Ordering.{Ordering}
+use Rattle.std.specs.declared.cmp.Ordering.TheVariants.{Less, Equal, Greater}
 use Rattle.query_compare.specs.TextOrder.{text_ordering, shared}
 
 -- One byte of each.
@@ -23,11 +24,11 @@ which x y = go (lt-or-ge x y) (lt-or-ge y x)
     go (inr h) (inr k) = equal (omega arith)
 
 module _ (x y : ℕ) (T U : List ℕ) where
-  pub ordering-below : x < y → text_ordering (x ∷ T) (y ∷ U) ≡ before
+  pub ordering-below : x < y → text_ordering (x ∷ T) (y ∷ U) ≡ Less
   unfolding text_ordering
   ordering-below h = rw (lt-ltb x y h)
 
-  pub ordering-above : y < x → text_ordering (x ∷ T) (y ∷ U) ≡ after
+  pub ordering-above : y < x → text_ordering (x ∷ T) (y ∷ U) ≡ Greater
   unfolding text_ordering
   ordering-above h = rw (le-ltb x y (omega arith), lt-ltb y x h)
 
@@ -46,17 +47,17 @@ module _ (x y : ℕ) (T U : List ℕ) where
 -- The three outcomes differ.
 
 abbrev number : Ordering → ℕ
-number before = 0
-number same = 1
-number after = 2
+number Less = 0
+number Equal = 1
+number Greater = 2
 
 pub clash {ℓ} : {A : Type ℓ} (s r : Ordering) → (number s ≡ number r → ⊥) → s ≡ r → A
 clash s r n e = absurd (n (ap number e))
 
 abbrev pub flip : Ordering → Ordering
-flip before = after
-flip same = same
-flip after = before
+flip Less = Greater
+flip Equal = Equal
+flip Greater = Less
 
 -- The other way round the outcome is turned.
 pub ordering-flip : (T U : List ℕ) → text_ordering U T ≡ flip (text_ordering T U)
@@ -72,45 +73,45 @@ ordering-flip (x ∷ T) (y ∷ U) = go (which x y) (ordering-flip T U)
     go (above h) r = ordering-below y x U T h ∙ ap flip (sym (ordering-above x y T U h))
 
 -- A text compares as same with itself.
-pub ordering-refl : (T : List ℕ) → text_ordering T T ≡ same
+pub ordering-refl : (T : List ℕ) → text_ordering T T ≡ Equal
 unfolding text_ordering
 ordering-refl [] = refl
 ordering-refl (x ∷ T) = ordering-equal x x T T refl ∙ ordering-refl T
 
 -- Only equal texts compare as same.
-pub ordering-same : (T U : List ℕ) → text_ordering T U ≡ same → T ≡ U
+pub ordering-same : (T U : List ℕ) → text_ordering T U ≡ Equal → T ≡ U
 unfolding text_ordering
 ordering-same [] [] e = refl
-ordering-same [] (y ∷ U) e = clash before same (λ z. omega arith) e
-ordering-same (x ∷ T) [] e = clash after same (λ z. omega arith) e
+ordering-same [] (y ∷ U) e = clash Less Equal (λ z. omega arith) e
+ordering-same (x ∷ T) [] e = clash Greater Equal (λ z. omega arith) e
 ordering-same (x ∷ T) (y ∷ U) e = go (which x y) (ordering-same T U)
   where
-    go : Which x y → (text_ordering T U ≡ same → T ≡ U) → x ∷ T ≡ y ∷ U
-    go (below h) r = clash before same (λ z. omega arith) (sym (ordering-below x y T U h) ∙ e)
+    go : Which x y → (text_ordering T U ≡ Equal → T ≡ U) → x ∷ T ≡ y ∷ U
+    go (below h) r = clash Less Equal (λ z. omega arith) (sym (ordering-below x y T U h) ∙ e)
     go (equal z) r = rw (z, r (sym (ordering-equal x y T U z) ∙ e))
-    go (above h) r = clash after same (λ z. omega arith) (sym (ordering-above x y T U h) ∙ e)
+    go (above h) r = clash Greater Equal (λ z. omega arith) (sym (ordering-above x y T U h) ∙ e)
 
 -- The order is transitive.
-pub ordering-trans : (A B C : List ℕ) → text_ordering A B ≡ before → text_ordering B C ≡ before → text_ordering A C ≡ before
+pub ordering-trans : (A B C : List ℕ) → text_ordering A B ≡ Less → text_ordering B C ≡ Less → text_ordering A C ≡ Less
 unfolding text_ordering
-ordering-trans [] [] C e f = clash same before (λ z. omega arith) e
-ordering-trans [] (y ∷ B) [] e f = clash after before (λ z. omega arith) f
+ordering-trans [] [] C e f = clash Equal Less (λ z. omega arith) e
+ordering-trans [] (y ∷ B) [] e f = clash Greater Less (λ z. omega arith) f
 ordering-trans [] (y ∷ B) (z ∷ C) e f = refl
-ordering-trans (x ∷ A) [] C e f = clash after before (λ z. omega arith) e
-ordering-trans (x ∷ A) (y ∷ B) [] e f = clash after before (λ z. omega arith) f
+ordering-trans (x ∷ A) [] C e f = clash Greater Less (λ z. omega arith) e
+ordering-trans (x ∷ A) (y ∷ B) [] e f = clash Greater Less (λ z. omega arith) f
 ordering-trans (x ∷ A) (y ∷ B) (z ∷ C) e f = go (which x y) (which y z) (ordering-trans A B C)
   where
-    go : Which x y → Which y z → (text_ordering A B ≡ before → text_ordering B C ≡ before → text_ordering A C ≡ before) → text_ordering (x ∷ A) (z ∷ C) ≡ before
+    go : Which x y → Which y z → (text_ordering A B ≡ Less → text_ordering B C ≡ Less → text_ordering A C ≡ Less) → text_ordering (x ∷ A) (z ∷ C) ≡ Less
     go (below h) (below k) r = ordering-below x z A C (omega arith)
     go (below h) (equal k) r = ordering-below x z A C (omega arith)
     go (equal h) (below k) r = ordering-below x z A C (omega arith)
     go (equal h) (equal k) r = ordering-equal x z A C (h ∙ k) ∙ r (sym (ordering-equal x y A B h) ∙ e) (sym (ordering-equal y z B C k) ∙ f)
-    go (above h) w r = clash after before (λ v. omega arith) (sym (ordering-above x y A B h) ∙ e)
-    go (below h) (above k) r = clash after before (λ v. omega arith) (sym (ordering-above y z B C k) ∙ f)
-    go (equal h) (above k) r = clash after before (λ v. omega arith) (sym (ordering-above y z B C k) ∙ f)
+    go (above h) w r = clash Greater Less (λ v. omega arith) (sym (ordering-above x y A B h) ∙ e)
+    go (below h) (above k) r = clash Greater Less (λ v. omega arith) (sym (ordering-above y z B C k) ∙ f)
+    go (equal h) (above k) r = clash Greater Less (λ v. omega arith) (sym (ordering-above y z B C k) ∙ f)
 
 -- The empty text comes before every other.
-pub empty-first : (T : List ℕ) → (T ≡ [] → ⊥) → text_ordering [] T ≡ before
+pub empty-first : (T : List ℕ) → (T ≡ [] → ⊥) → text_ordering [] T ≡ Less
 unfolding text_ordering
 empty-first [] n = absurd (n refl)
 empty-first (y ∷ T) n = refl
@@ -118,7 +119,7 @@ empty-first (y ∷ T) n = refl
 -- The total order: before or same.
 
 abbrev pub Upto : List ℕ → List ℕ → Type 0
-Upto T U = text_ordering T U ≡ after → ⊥
+Upto T U = text_ordering T U ≡ Greater → ⊥
 
 pub record TotalOrder (R : List ℕ → List ℕ → Type 0) : Type 0 where
   pub reflexive : (T : List ℕ) → R T T
@@ -128,33 +129,33 @@ pub record TotalOrder (R : List ℕ → List ℕ → Type 0) : Type 0 where
 
 module _ (T U : List ℕ) where
   -- At or before is before or the same.
-  upto : (s : Ordering) → text_ordering T U ≡ s → Upto T U → (text_ordering T U ≡ before) ⊎ (T ≡ U)
-  upto before e n = inl e
-  upto same e n = inr (ordering-same T U e)
-  upto after e n = absurd (n e)
+  upto : (s : Ordering) → text_ordering T U ≡ s → Upto T U → (text_ordering T U ≡ Less) ⊎ (T ≡ U)
+  upto Less e n = inl e
+  upto Equal e n = inr (ordering-same T U e)
+  upto Greater e n = absurd (n e)
 
 pub text-order : TotalOrder Upto
 text-order = record {
-  reflexive = λ T e. clash same after (λ z. omega arith) (sym (ordering-refl T) ∙ e);
+  reflexive = λ T e. clash Equal Greater (λ z. omega arith) (sym (ordering-refl T) ∙ e);
   antisymmetric = λ T U a b. anti T U (upto T U (text_ordering T U) refl a) b;
   transitive = λ A B C a b. trans A B C (upto A B (text_ordering A B) refl a) (upto B C (text_ordering B C) refl b);
   total = λ T U. either T U (text_ordering T U) refl;
 }
   where
-    anti : (T U : List ℕ) → (text_ordering T U ≡ before) ⊎ (T ≡ U) → Upto U T → T ≡ U
+    anti : (T U : List ℕ) → (text_ordering T U ≡ Less) ⊎ (T ≡ U) → Upto U T → T ≡ U
     anti T U (inl e) b = absurd (b (ordering-flip T U ∙ ap flip e))
     anti T U (inr e) b = e
 
-    trans : (A B C : List ℕ) → (text_ordering A B ≡ before) ⊎ (A ≡ B) → (text_ordering B C ≡ before) ⊎ (B ≡ C) → text_ordering A C ≡ after → ⊥
-    trans A B C (inl e) (inl f) z = clash before after (λ v. omega arith) (sym (ordering-trans A B C e f) ∙ z)
-    trans A B C (inl e) (inr f) z = clash before after (λ v. omega arith) (sym e ∙ rw (← f) at z)
-    trans A B C (inr e) (inl f) z = clash before after (λ v. omega arith) (sym f ∙ rw e at z)
-    trans A B C (inr e) (inr f) z = clash same after (λ v. omega arith) (sym (ordering-refl C) ∙ rw (e ∙ f) at z)
+    trans : (A B C : List ℕ) → (text_ordering A B ≡ Less) ⊎ (A ≡ B) → (text_ordering B C ≡ Less) ⊎ (B ≡ C) → text_ordering A C ≡ Greater → ⊥
+    trans A B C (inl e) (inl f) z = clash Less Greater (λ v. omega arith) (sym (ordering-trans A B C e f) ∙ z)
+    trans A B C (inl e) (inr f) z = clash Less Greater (λ v. omega arith) (sym e ∙ rw (← f) at z)
+    trans A B C (inr e) (inl f) z = clash Less Greater (λ v. omega arith) (sym f ∙ rw e at z)
+    trans A B C (inr e) (inr f) z = clash Equal Greater (λ v. omega arith) (sym (ordering-refl C) ∙ rw (e ∙ f) at z)
 
     either : (T U : List ℕ) (s : Ordering) → text_ordering T U ≡ s → Upto T U ⊎ Upto U T
-    either T U before e = inl (λ z. clash before after (λ v. omega arith) (sym e ∙ z))
-    either T U same e = inl (λ z. clash same after (λ v. omega arith) (sym e ∙ z))
-    either T U after e = inr (λ z. clash before after (λ v. omega arith) (sym (ordering-flip T U ∙ ap flip e) ∙ z))
+    either T U Less e = inl (λ z. clash Less Greater (λ v. omega arith) (sym e ∙ z))
+    either T U Equal e = inl (λ z. clash Equal Greater (λ v. omega arith) (sym e ∙ z))
+    either T U Greater e = inr (λ z. clash Less Greater (λ v. omega arith) (sym (ordering-flip T U ∙ ap flip e) ∙ z))
 
 -- The longest common prefix: its bytes are equal, and those after it are not.
 pub record Beginning (T U : List ℕ) (n : ℕ) : Type 0 where
@@ -211,11 +212,11 @@ shared-itself (x ∷ T) = shared-equal x x T T refl ∙ add-one (shared T T) ∙
 -- The order is decided by the byte after the longest common prefix, or by the end of the shorter text.
 pub record OrderedBy (T U : List ℕ) : Type 0 where
   -- At the first difference the smaller byte decides.
-  pub by_byte : shared T U < length T → shared T U < length U → text_ordering T U ≡ cond (ltb (get_or T (shared T U) 0) (get_or U (shared T U) 0)) before after
+  pub by_byte : shared T U < length T → shared T U < length U → text_ordering T U ≡ cond (ltb (get_or T (shared T U) 0) (get_or U (shared T U) 0)) Less Greater
   -- A proper prefix comes first.
-  pub by_end : length T ≤ shared T U → shared T U < length U → text_ordering T U ≡ before
-  pub by_other_end : shared T U < length T → length U ≤ shared T U → text_ordering T U ≡ after
-  pub by_both : length T ≤ shared T U → length U ≤ shared T U → text_ordering T U ≡ same
+  pub by_end : length T ≤ shared T U → shared T U < length U → text_ordering T U ≡ Less
+  pub by_other_end : shared T U < length T → length U ≤ shared T U → text_ordering T U ≡ Greater
+  pub by_both : length T ≤ shared T U → length U ≤ shared T U → text_ordering T U ≡ Equal
 
 pub ordered-by : (T U : List ℕ) → OrderedBy T U
 unfolding text_ordering shared
@@ -239,7 +240,7 @@ ordered-by (x ∷ T) [] = record {
 }
 ordered-by (x ∷ T) (y ∷ U) = go (which x y) (ordered-by T U)
   where
-    none : (s : Ordering) → text_ordering (x ∷ T) (y ∷ U) ≡ s → s ≡ cond (ltb x y) before after → (x ≡ y → ⊥) → OrderedBy (x ∷ T) (y ∷ U)
+    none : (s : Ordering) → text_ordering (x ∷ T) (y ∷ U) ≡ s → s ≡ cond (ltb x y) Less Greater → (x ≡ y → ⊥) → OrderedBy (x ∷ T) (y ∷ U)
     none s e f other =
         let z : shared (x ∷ T) (y ∷ U) ≡ 0 = shared-other x y T U other in record {
           by_byte = λ h k. rw z (e ∙ f);
@@ -249,8 +250,8 @@ ordered-by (x ∷ T) (y ∷ U) = go (which x y) (ordered-by T U)
         }
 
     go : Which x y → OrderedBy T U → OrderedBy (x ∷ T) (y ∷ U)
-    go (below h) r = none before (ordering-below x y T U h) (rw (lt-ltb x y h)) (λ e. omega arith)
-    go (above h) r = none after (ordering-above x y T U h) (rw (le-ltb x y (omega arith))) (λ e. omega arith)
+    go (below h) r = none Less (ordering-below x y T U h) (rw (lt-ltb x y h)) (λ e. omega arith)
+    go (above h) r = none Greater (ordering-above x y T U h) (rw (le-ltb x y (omega arith))) (λ e. omega arith)
     go (equal e) r =
         let z : shared (x ∷ T) (y ∷ U) ≡ suc (shared T U) = shared-equal x y T U e ∙ add-one (shared T U) in
         let s = ordering-equal x y T U e in record {

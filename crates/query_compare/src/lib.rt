@@ -8,38 +8,25 @@ ghost use Rattle.layout.specs.HeaderFields.{HeaderOf};
 ghost use Rattle.query_compare.specs.OrderAnswers.{compare_answer, IsCompareAnswer, IsFirstAnswer};
 
 use layout::header;
-use layout::header::{Header, HeaderAnswer};
+use layout::header::Header;
+use refusals::Refusal;
+use std::cmp::Ordering;
 
-// The order of the first text, with the length of the longest common prefix; or the refusal.
-#[derive(Clone, Copy)]
-pub enum CompareAnswer {
-    Before(u32),
-    Same(u32),
-    After(u32),
-    Refused(u32),
-}
-
-// Compares two trees of any settings.
-pub fn compare(one: &[u8], other: &[u8]) -> CompareAnswer
+// Compares two trees of any settings: the order of the first text, with the length of the longest common prefix.
+pub fn compare(one: &[u8], other: &[u8]) -> Result<(Ordering, u32), Refusal>
     ensures { IsCompareAnswer one.now other.now result }
 {
-    let read = header::read_header(one);
-    match read {
-        HeaderAnswer::Good(h) => compare_with(one, h, other),
-        HeaderAnswer::Refused(number) => CompareAnswer::Refused(number),
-    }
+    let h = header::read_header(one)?;
+    compare_with(one, h, other)
 }
 
 // The first tree passes questions 5 to 7.
-fn compare_with(one: &[u8], h: Header, other: &[u8]) -> CompareAnswer
+fn compare_with(one: &[u8], h: Header, other: &[u8]) -> Result<(Ordering, u32), Refusal>
     requires { HeaderOf one.now h }
     ensures { IsCompareAnswer one.now other.now result }
 {
-    let read = header::read_header(other);
-    match read {
-        HeaderAnswer::Good(g) => side_by_side::by_places(one, h, other, g),
-        HeaderAnswer::Refused(number) => CompareAnswer::Refused(number),
-    }
+    let g = header::read_header(other)?;
+    side_by_side::by_places(one, h, other, g)
 }
 
 // Compares two trees and returns the one whose text comes first, the first one if the texts are equal; an empty slice if refused. `order` is 1, 2 or 3:
@@ -57,26 +44,26 @@ pub fn first<'a>(
 {
     let compared = compare(one, other);
     match compared {
-        CompareAnswer::Before(length) => {
+        Ok((side, length)) => {
             *number = 0;
-            *order = 1;
             *shared = length;
-            one
+            match side {
+                Ordering::Less => {
+                    *order = 1;
+                    one
+                }
+                Ordering::Equal => {
+                    *order = 2;
+                    one
+                }
+                Ordering::Greater => {
+                    *order = 3;
+                    other
+                }
+            }
         }
-        CompareAnswer::Same(length) => {
-            *number = 0;
-            *order = 2;
-            *shared = length;
-            one
-        }
-        CompareAnswer::After(length) => {
-            *number = 0;
-            *order = 3;
-            *shared = length;
-            other
-        }
-        CompareAnswer::Refused(q) => {
-            *number = q;
+        Err(refusal) => {
+            *number = refusal.number();
             *order = 0;
             *shared = 0;
             &one[0..0]

@@ -1,16 +1,17 @@
 // Reads two trees side by side by runs, which are parts of their own bytes.
-ghost use Rattle.std.specs.Prelude.{true, ◌≡◌, ℕ, ◌+◌, ◌-◌, ◌≤◌, ◌<◌, min, length, get_or};
+ghost use Rattle.std.specs.Prelude.{true, ◌≡◌, ℕ, ◌+◌, ◌-◌, ◌≤◌, ◌<◌, min, length, get_or, Ok};
 ghost use Rattle.format.specs.Answers.{replied};
 ghost use Rattle.layout.specs.HeaderFields.{HeaderOf};
 ghost use Rattle.query_access.specs.ReadByRuns.{ReadsOn};
 ghost use Rattle.query_compare.specs.OrderAnswers.{by_lengths, compare_reply, IsCompareAnswer};
 ghost use Rattle.query_compare.specs.Compared.{CompareReadsFrom, Agrees, by_byte, Comparing, RoundAnswer};
 
-use crate::CompareAnswer;
 use layout::header::Header;
 use layout::place::TextPlace;
 use query_access::read_by_header;
-use query_access::read_by_header::{RunRangeAnswer, TreeRange};
+use query_access::read_by_header::TreeRange;
+use refusals::Refusal;
+use std::cmp::Ordering;
 
 // The largest number of bytes of a tree that are read at once: the first difference is often near.
 const MOST: u32 = 1024;
@@ -27,11 +28,11 @@ pub struct Progress {
 #[derive(Clone, Copy)]
 pub enum Round {
     On(Progress),
-    Settled(CompareAnswer),
+    Settled(Result<(Ordering, u32), Refusal>),
 }
 
 // Compares place by place, until the bytes differ or a text ends: question 14.
-pub fn by_places(one: &[u8], h: Header, other: &[u8], g: Header) -> CompareAnswer
+pub fn by_places(one: &[u8], h: Header, other: &[u8], g: Header) -> Result<(Ordering, u32), Refusal>
     requires { (HeaderOf one.now h) × (HeaderOf other.now g) }
     ensures { IsCompareAnswer one.now other.now result }
 {
@@ -53,7 +54,7 @@ pub fn by_places(one: &[u8], h: Header, other: &[u8], g: Header) -> CompareAnswe
             }
         }
     }
-    by_length(h.text_length, g.text_length, m.place.0)
+    Ok(by_length(h.text_length, g.text_length, m.place.0))
 }
 
 // Reads the next place in the first tree, then in the second, and compares along their runs.
@@ -63,23 +64,23 @@ fn read_on(one: &[u8], h: Header, other: &[u8], g: Header, m: Progress) -> Round
     ensures { RoundAnswer one.now other.now m.place.0 result }
 {
     let first = run_from(one, h, m.place, m.one);
-    let RunRangeAnswer::At(x) = first else {
-        return Round::Settled(CompareAnswer::Refused(14));
+    let Ok(x) = first else {
+        return Round::Settled(Err(Refusal::PathBroken));
     };
     let second = run_from(other, g, m.place, m.other);
-    let RunRangeAnswer::At(y) = second else {
-        return Round::Settled(CompareAnswer::Refused(14));
+    let Ok(y) = second else {
+        return Round::Settled(Err(Refusal::PathBroken));
     };
     compare_runs(one, x, other, y, m.place)
 }
 
 // The run of a place, or the rest of one that was read.
-fn run_from(t: &[u8], h: Header, at: TextPlace, held: TreeRange) -> RunRangeAnswer
+fn run_from(t: &[u8], h: Header, at: TextPlace, held: TreeRange) -> Result<TreeRange, Refusal>
     requires { (HeaderOf t.now h) × (at.0 < h.text_length) × ReadsOn t.now at.0 held.from held.length }
     ensures { CompareReadsFrom t.now at.0 result }
 {
     if 0 < held.length {
-        return RunRangeAnswer::At(held);
+        return Ok(held);
     }
     read_by_header::range_at(t, h, at, MOST)
 }
@@ -92,7 +93,7 @@ fn compare_runs(one: &[u8], x: TreeRange, other: &[u8], y: TreeRange, place: Tex
     let n = min(x.length, y.length);
     let same = agree(one, x.from, other, y.from, n);
     if same < n {
-        return Round::Settled(by_byte(one, x.from, other, y.from, same, place));
+        return Round::Settled(Ok(by_byte(one, x.from, other, y.from, same, place)));
     }
     let first = rest(x, n);
     let second = rest(y, n);
@@ -163,26 +164,26 @@ fn by_byte(
     at: usize,
     k: usize,
     place: TextPlace,
-) -> CompareAnswer
+) -> (Ordering, u32)
     requires { (from + k < length one.now) × (at + k < length other.now) × (place.0 + k < 4294967296) }
-    ensures { replied (compare_reply result) ≡ by_byte (get_or one.now (from + k) 0) (get_or other.now (at + k) 0) (place.0 + k) }
+    ensures { replied (compare_reply (Ok result)) ≡ by_byte (get_or one.now (from + k) 0) (get_or other.now (at + k) 0) (place.0 + k) }
 {
     let length = place.0 + k as u32;
     if one[from + k] < other[at + k] {
-        return CompareAnswer::Before(length);
+        return (Ordering::Less, length);
     }
-    CompareAnswer::After(length)
+    (Ordering::Greater, length)
 }
 
 // The order if one text is a prefix of the other: by their lengths.
-fn by_length(n: u32, m: u32, at: u32) -> CompareAnswer
-    ensures { replied (compare_reply result) ≡ by_lengths n m at }
+fn by_length(n: u32, m: u32, at: u32) -> (Ordering, u32)
+    ensures { replied (compare_reply (Ok result)) ≡ by_lengths n m at }
 {
     if n < m {
-        return CompareAnswer::Before(at);
+        return (Ordering::Less, at);
     }
     if m < n {
-        return CompareAnswer::After(at);
+        return (Ordering::Greater, at);
     }
-    CompareAnswer::Same(at)
+    (Ordering::Equal, at)
 }

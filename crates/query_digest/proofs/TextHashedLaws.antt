@@ -1,4 +1,8 @@
 -- Laws for the proofs of src/lib.rt: a text read and hashed part by part.
+use Rattle.std.specs.Prelude.{Some, None, Result, Ok, Err}
+use Rattle.refusals.specs.declared.Refusal.{Refusal}
+use Rattle.refusals.specs.Refusals.{refusal_number}
+use Rattle.refusals.specs.RefusalsLaws.{number-above}
 use mathlib.Core.List.{List, ◌++◌}
 use mathlib.Core.Bool.{Bool, true, false, ◌&&◌}
 use mathlib.Core.Path.{◌≡◌, refl, sym, ap, ◌∙◌}
@@ -17,14 +21,11 @@ use Rattle.theory_paths.specs.OneText.{text-length}
 use Rattle.theory_paths.specs.PlaceBytes.{hold_at, holds-split, byte-text}
 use Rattle.layout.specs.declared.header.Header.{Header}
 use Rattle.layout.specs.HeaderFields.{HeaderOf}
-use Rattle.query_access.specs.declared.SpanAnswer.{SpanAnswer}
-use Rattle.query_access.specs.declared.SpanAnswer.TheVariants.{Bytes, Refused}
 use Rattle.query_access.specs.ReadAnswers.{span_reply}
 use Rattle.query_access.specs.ReadByRuns.{IsCopyAnswer}
 use Rattle.sha256.specs.declared.HashState.{HashState}
 use Rattle.sha256.specs.Sha256.{initial_state, padding, state_after, hash_of}
 use Rattle.sha256.specs.Sha256Laws.{state-continued, hash-by-parts}
-use Rattle.query_digest.specs.declared.HashAnswer.TheVariants.{Value, BrokenPath}
 use Rattle.query_digest.specs.TextHashed.{hash_answer, PartRead, HashedUpTo}
 
 -- One part: the result of `copy` decides whether its paths hold.
@@ -38,7 +39,7 @@ asked-broken true q l e = absurd (let z : ⊥ = omega arith in z)
 asked-broken false q l e = refl
 
 module _ (t : List ℕ) (h : Header) (k : HeaderOf t h) (p len : ℕ) (low : p + len ≤ h.text_length) (d after : List ℕ) (room : len ≤ length d)
-    (r : SpanAnswer) (a : IsCopyAnswer t p len (length d) r) (after_is : after ≡ copy_buffer t p len d) where
+    (r : Result (ℕ × ℕ) Refusal) (a : IsCopyAnswer t p len (length d) r) (after_is : after ≡ copy_buffer t p len d) where
   number_is : copy_refusal t p len (length d) ≡ ask 14 (paths_hold t p len) 0
   unfolding copy_refusal span_questions
   number_is = rw (k.passes, le-leb (p + len) (at.text_length t) (omega (arith, k.length_is)), le-leb len (length d) room)
@@ -48,9 +49,9 @@ module _ (t : List ℕ) (h : Header) (k : HeaderOf t h) (p len : ℕ) (low : p +
   answer-number = ap (λ (s : Answer). s.number) a.answers
       ∙ unless-number (copy_refusal t p len (length d)) (record { number = 0; value = len; entered = 0 }) refl ∙ number_is
 
-  module _ (n e : ℕ) (is : r ≡ Bytes n e) where
+  module _ (x : ℕ × ℕ) (is : r ≡ Ok x) where
     hold : paths_hold t p len ≡ true
-    hold = asked-good (paths_hold t p len) (sym (ap (λ (x : SpanAnswer). (replied (span_reply x)).number) is) ∙ answer-number)
+    hold = asked-good (paths_hold t p len) (sym (ap (λ (x : Result (ℕ × ℕ) Refusal). (replied (span_reply x)).number) is) ∙ answer-number)
 
     left : after ≡ tabulate len (λ x. (byte_answer t (p + x)).value) ++ drop len d
     unfolding copy_buffer buffer_after
@@ -65,10 +66,10 @@ module _ (t : List ℕ) (h : Header) (k : HeaderOf t h) (p len : ℕ) (low : p +
               ∙ byte-text t k.passes (p + x) (omega (arith, k.length_is)) (hold_at t len p x hold l));
         }
 
-  pub part-broken : (q : ℕ) → r ≡ Refused q → PartRead t p len false after
+  pub part-broken : (q : Refusal) → r ≡ Err q → PartRead t p len false after
   part-broken q is =
-      let pos : 1 ≤ q = rw is at a.numbered in
-      let b = asked-broken (paths_hold t p len) q pos (sym (ap (λ (x : SpanAnswer). (replied (span_reply x)).number) is) ∙ answer-number) in
+      let z : refusal_number q ≡ ask 14 (paths_hold t p len) 0 = sym (ap (λ (x : Result (ℕ × ℕ) Refusal). (replied (span_reply x)).number) is) ∙ answer-number in
+      let b = asked-broken (paths_hold t p len) (refusal_number q) (number-above q) z in
       record { holds = sym b; bytes = λ y. bool_clash false y refl }
 
 -- Parts hashed one after the other.
@@ -125,10 +126,10 @@ module _ (t : List ℕ) (p x : ℕ) (in_text : p + x ≤ at.text_length t) where
   unfolding hash_answer
   from_on e q q-is = rw (q-is, rest_is, e)
 
-  pub from-broken : paths_hold t p x ≡ false → BrokenPath ≡ hash_answer t p
+  pub from-broken : paths_hold t p x ≡ false → None ≡ hash_answer t p
   unfolding hash_answer
   from-broken e = rw (rest_is, e)
 
-pub from_all : (t : List ℕ) (p n : ℕ) → n ≡ at.text_length t → paths_hold t p (n - p) ≡ true → (f : HashState) → f ≡ hash_of (text_of t) → Value f ≡ hash_answer t p
+pub from_all : (t : List ℕ) (p n : ℕ) → n ≡ at.text_length t → paths_hold t p (n - p) ≡ true → (f : HashState) → f ≡ hash_of (text_of t) → Some f ≡ hash_answer t p
 unfolding hash_answer
 from_all t p n n-is e f f-is = let z : paths_hold t p (at.text_length t - p) ≡ true = rw n-is at e in rw (z, f-is)

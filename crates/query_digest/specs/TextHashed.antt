@@ -1,19 +1,17 @@
 -- Definitions that only the contracts of inner functions use: the text is read and hashed part by part.
-use Rattle.std.specs.Prelude.{List, Bool, true, ◌≡◌, ℕ, ◌+◌, ◌-◌, ◌/◌, ◌%◌, ◌≤◌, ◌<◌, get_or}
+use Rattle.std.specs.Prelude.{List, Option, Some, None, Bool, true, ◌≡◌, ℕ, ◌+◌, ◌-◌, ◌/◌, ◌%◌, ◌≤◌, ◌<◌, get_or}
 use Rattle.std.proofs.Math.Bool.{cond}
 use Rattle.format.specs.Layout as at
 use Rattle.format.specs.TreeReading.{text_of}
 use Rattle.format.specs.Answers.{paths_hold}
 use Rattle.sha256.specs.declared.HashState.{HashState}
 use Rattle.sha256.specs.Sha256.{initial_state, state_after, hash_of}
-use Rattle.query_digest.specs.declared.HashAnswer.{HashAnswer}
-use Rattle.query_digest.specs.declared.HashAnswer.TheVariants.{Value, BrokenPath}
 
 module _ (t : List ℕ) where
   -- The answer when the paths from place p on are still to be read.
-  unfoldable pub hash_answer : ℕ → HashAnswer
+  unfoldable pub hash_answer : ℕ → Option HashState
   unfolding at.text_length
-  hash_answer p = cond (paths_hold t p (at.text_length t - p)) (Value (hash_of (text_of t))) BrokenPath
+  hash_answer p = cond (paths_hold t p (at.text_length t - p)) (Some (hash_of (text_of t))) None
 
   -- The start of a buffer holds the len bytes of the text from p on, if none of their paths breaks (r).
   pub record PartRead (p len : ℕ) (r : Bool) (after : List ℕ) : Type 0 where

@@ -3,13 +3,15 @@
 
 ghost use Rattle.std.specs.Prelude.{◌≡◌, ◌+◌, ◌-◌, ◌≤◌, ◌<◌, length};
 ghost use Rattle.layout.specs.HeaderFields.{HeaderOf};
+ghost use Rattle.refusals.specs.Refusals.{result_refusal};
 ghost use Rattle.query_digest.specs.Digest.{digest_refusal, digest_buffer};
 ghost use Rattle.query_digest.specs.TextHashed.{hash_answer, PartRead, HashedUpTo};
 
 use layout::header;
-use layout::header::{Header, HeaderAnswer};
+use layout::header::Header;
 use layout::place::TextPlace;
-use query_access::{SpanAnswer, read_by_header};
+use query_access::read_by_header;
+use refusals::Refusal;
 use sha256::HashState;
 
 // The text is read in parts of this many bytes, whole blocks of SHA-256.
@@ -17,45 +19,36 @@ const PART: u32 = 1024;
 
 const PART_BLOCKS: usize = 16;
 
-// The hash value of the whole text, or the path of some place breaks.
-#[derive(Clone, Copy)]
-pub enum HashAnswer {
-    Value(HashState),
-    BrokenPath,
-}
-
 // Writes the SHA-256 of the bytes that the tree's paths give to the first 32 bytes of `out`.
-pub fn digest(t: &[u8], out: &mut [u8]) -> u32
-    ensures value { result ≡ digest_refusal t.now (length out.old) }
+pub fn digest(t: &[u8], out: &mut [u8]) -> Result<(), Refusal>
+    ensures value { result_refusal result ≡ digest_refusal t.now (length out.old) }
     ensures out_after { out.new ≡ digest_buffer t.now out.old }
 {
-    let read = header::read_header(t);
-    match read {
-        HeaderAnswer::Good(h) => digest_at(t, h, out),
-        HeaderAnswer::Refused(number) => number,
-    }
+    let h = header::read_header(t)?;
+    digest_at(t, h, out)
 }
 
-// Zeros on 14: a caller who ignores the number and compares finds no old digest in the buffer.
-fn digest_at(t: &[u8], h: Header, out: &mut [u8]) -> u32
+// Zeros where a path breaks: a caller who ignores the refusal and compares finds no old digest in the buffer.
+fn digest_at(t: &[u8], h: Header, out: &mut [u8]) -> Result<(), Refusal>
     requires { HeaderOf t.now h }
-    ensures value { result ≡ digest_refusal t.now (length out.old) }
+    ensures value { result_refusal result ≡ digest_refusal t.now (length out.old) }
     ensures out_after { out.new ≡ digest_buffer t.now out.old }
 {
     if out.len() < 32 {
-        return 13;
+        return Err(Refusal::AnswerDoesNotFit);
     }
     let hashed = hash(t, h);
-    let HashAnswer::Value(value) = hashed else {
+    let Some(value) = hashed else {
         byte_slices::clear(out, 32);
-        return 14;
+        return Err(Refusal::PathBroken);
     };
     sha256::write_state(value, out);
-    0
+    Ok(())
 }
 
-// Hashes the text. The array is made here and not in the loop's function, whose proof would carry its 1,024 entries.
-fn hash(t: &[u8], h: Header) -> HashAnswer
+// Hashes the text: the hash value of the whole text, none if the path of some place breaks. The array is made here and not in the loop's function, whose proof
+// would carry its 1,024 entries.
+fn hash(t: &[u8], h: Header) -> Option<HashState>
     requires { HeaderOf t.now h }
     ensures { result ≡ hash_answer t.now 0 }
 {
@@ -64,7 +57,7 @@ fn hash(t: &[u8], h: Header) -> HashAnswer
 }
 
 // Hashes the text part by part in the buffer `part`.
-fn hash_parts(t: &[u8], h: Header, part: &mut [u8]) -> HashAnswer
+fn hash_parts(t: &[u8], h: Header, part: &mut [u8]) -> Option<HashState>
     requires { (HeaderOf t.now h) × (length part.old ≡ 1024) }
     ensures { result ≡ hash_answer t.now 0 }
 {
@@ -72,7 +65,7 @@ fn hash_parts(t: &[u8], h: Header, part: &mut [u8]) -> HashAnswer
     let parts = h.text_length / PART;
     for k in 0..parts {
         if !read_part(t, h, PART * k, PART, part) {
-            return HashAnswer::BrokenPath;
+            return None;
         }
         s = sha256::hash_blocks(s, part, PART_BLOCKS);
     }
@@ -80,19 +73,19 @@ fn hash_parts(t: &[u8], h: Header, part: &mut [u8]) -> HashAnswer
 }
 
 // Hashes the rest of the text from `at` on, less than a part, and the padding.
-fn last_part(t: &[u8], h: Header, at: u32, s: HashState, part: &mut [u8]) -> HashAnswer
+fn last_part(t: &[u8], h: Header, at: u32, s: HashState, part: &mut [u8]) -> Option<HashState>
     requires { (HeaderOf t.now h) × (HashedUpTo t.now at s) × (h.text_length - at ≤ length part.old) }
     ensures { result ≡ hash_answer t.now at }
 {
     let left = h.text_length - at;
     if !read_part(t, h, at, left, part) {
-        return HashAnswer::BrokenPath;
+        return None;
     }
     let end = left as usize;
     let n = end / 64;
     let from = 64 * n;
     let v = sha256::hash_blocks(s, part, n);
-    HashAnswer::Value(sha256::finalize(v, &part[from..end], h.text_length as u64))
+    Some(sha256::finalize(v, &part[from..end], h.text_length as u64))
 }
 
 // Reads `len` bytes of the text from `at` on to the start of `part`. Returns whether all their paths hold.
@@ -102,7 +95,7 @@ fn read_part(t: &[u8], h: Header, at: u32, len: u32, part: &mut [u8]) -> bool
 {
     let copied = read_by_header::copy(t, h, TextPlace(at), len, part);
     match copied {
-        SpanAnswer::Bytes(_, _) => true,
-        SpanAnswer::Refused(_) => false,
+        Ok(_) => true,
+        Err(_) => false,
     }
 }

@@ -1,4 +1,7 @@
 -- The figures, one by one.
+use Rattle.std.specs.Prelude.{Result, Err}
+use Rattle.refusals.specs.declared.Refusal.{Refusal}
+use Rattle.refusals.specs.Refusals.{refusal_number}
 use mathlib.Core.List.{List, [], ◌∷◌}
 use mathlib.Core.Path.{◌≡◌, sym, ◌∙◌}
 use Prim.Native.Nat.{ℕ, ◌≤◌, ◌<◌}
@@ -11,8 +14,6 @@ use Rattle.format.specs.Layout as at
 use Rattle.format.specs.TreeReading.{header_result}
 use Rattle.format.specs.Answers.{total}
 use Rattle.layout.specs.declared.header.Header.{Header}
-use Rattle.layout.specs.declared.header.HeaderAnswer.{HeaderAnswer}
-use Rattle.layout.specs.declared.header.HeaderAnswer.TheVariants as header
 use Rattle.layout.specs.Header.{header_answer}
 use Rattle.layout.specs.HeaderFields.{HeaderOf, header_refused}
 use Rattle.query_info.specs.Info.{figure_count, counted_byte, total_of, figures_of, info_buffer}
@@ -53,7 +54,7 @@ module _ (t : List ℕ) (h : Header) (k : HeaderOf t h) where
   figures-answered figures e = (sym k.passes, rw k.passes e)
 
 -- A tree that does not pass questions 5 to 7.
-pub info-unread : (t : List ℕ) (x : HeaderAnswer) → x ≡ header_answer t → (q : ℕ) → x ≡ header.Refused q → (q ≡ header_result t)
+pub info-unread : (t : List ℕ) (x : Result Header Refusal) → x ≡ header_answer t → (q : Refusal) → x ≡ Err q → (refusal_number q ≡ header_result t)
     × (replicate figure_count 0 ≡ info_buffer t)
 unfolding info_buffer
 info-unread t x x-is q e =

@@ -1,5 +1,9 @@
 -- What a caller learns of a tree, as theorems over what the calls promise.
 -- docs/FORMAT.md: "Figures and sizes".
+use Rattle.std.specs.Prelude.{Result, Ok}
+use Rattle.refusals.specs.declared.Refusal.{Refusal}
+use Rattle.refusals.specs.Refusals.{result_refusal}
+use Rattle.refusals.specs.RefusalsLaws.{answered-with}
 use mathlib.Core.List.{List}
 use mathlib.Core.Path.{◌≡◌, refl, sym, ap, ◌∙◌}
 use Prim.Native.Nat.{ℕ, zero, suc, ◌+◌, ◌<◌}
@@ -25,7 +29,7 @@ use Rattle.query_info.specs.Info.{plain_figures, totals_from, figure_count, coun
 use Rattle.query_info.proofs.info.Reads as info-reads
 use Rattle.query_info.proofs.version.Reads as version-reads
 
-abbrev pub Info : (κs : Lfts 2) → (t : Bor (List ℕ)) (figures after : MutBor (List ℕ)) → ℕ → Type 0
+abbrev pub Info : (κs : Lfts 2) → (t : Bor (List ℕ)) (figures after : MutBor (List ℕ)) → Result (Unit {0}) Refusal → Type 0
 Info κs t figures after r = info-reads.Post κs (t, (figures, tt)) r (t, (after, tt))
 
 abbrev pub Version : ℕ → Type 0
@@ -63,14 +67,14 @@ total_right t v c h low =
     let e = finds.total_is t (header-facts t (accepted-header t v)) (linked-facts t (accepted-links t v)) (counts.levels t v) c h in
     rw (lt-ltb c (at.counted_count t) h, ← counted-at t c h low) e
 
-module _ (κs : Lfts 2) (t : Bor (List ℕ)) (figures after : MutBor (List ℕ)) (r : ℕ) (a : Info κs t figures after r) where
+module _ (κs : Lfts 2) (t : Bor (List ℕ)) (figures after : MutBor (List ℕ)) (r : Result (Unit {0}) Refusal) (a : Info κs t figures after r) where
   -- Questions 5 to 7 pass: the figures are the definition's.
-  pub info-answered : header_result t.now ≡ 0 → (r ≡ 0) × (after.now ≡ figures_of t.now)
+  pub info-answered : header_result t.now ≡ 0 → (r ≡ Ok tt) × (after.now ≡ figures_of t.now)
   unfolding info_buffer
-  info-answered pass = (a.0 ∙ pass, a.1 ∙ rw pass)
+  info-answered pass = (answered-with r tt (a.0 ∙ pass) (λ y is. refl), a.1 ∙ rw pass)
 
   -- Refused by one of them: its number, and every figure is 0.
-  pub info-refused : (q : ℕ) → header_result t.now ≡ suc q → (r ≡ suc q) × (after.now ≡ replicate figure_count 0)
+  pub info-refused : (q : ℕ) → header_result t.now ≡ suc q → (result_refusal r ≡ suc q) × (after.now ≡ replicate figure_count 0)
   unfolding info_buffer
   info-refused q e = (a.0 ∙ e, a.1 ∙ rw (e, ne_eqb (suc q) 0 (λ z. omega arith)))
 

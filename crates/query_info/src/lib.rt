@@ -8,11 +8,13 @@ ghost use Rattle.format.specs.Layout.{max_levels, max_counted, header_length};
 ghost use Rattle.format.specs.Layout as at;
 ghost use Rattle.format.specs.TreeReading.{header_result};
 ghost use Rattle.layout.specs.HeaderFields.{HeaderOf};
+ghost use Rattle.refusals.specs.Refusals.{result_refusal};
 ghost use Rattle.query_info.specs.Info.{counted_byte, total_of, figures_of, info_buffer, version_number};
 
-use layout::header::{Header, HeaderAnswer};
+use layout::header::Header;
 use layout::settings::Settings;
 use layout::{header, record};
+use refusals::Refusal;
 
 // The number of figures.
 pub const FIGURES: usize = PLAIN + 2 * Settings::MAX_COUNTED + LEVELS;
@@ -37,19 +39,19 @@ pub fn version() -> u32
 }
 
 // Writes the figures of a tree in order. Any bytes may be given as a tree: questions 5 to 7. If refused, every figure is 0.
-pub fn info(t: &[u8], figures: &mut [u64; FIGURES]) -> u32
-    ensures value { result ≡ header_result t.now }
+pub fn info(t: &[u8], figures: &mut [u64; FIGURES]) -> Result<(), Refusal>
+    ensures value { result_refusal result ≡ header_result t.now }
     ensures figures_after { figures.new ≡ info_buffer t.now }
 {
     let read = header::read_header(t);
     match read {
-        HeaderAnswer::Good(h) => {
+        Ok(h) => {
             *figures = figures_of(t, h);
-            0
+            Ok(())
         }
-        HeaderAnswer::Refused(number) => {
+        Err(refusal) => {
             *figures = [0; FIGURES];
-            number
+            Err(refusal)
         }
     }
 }

@@ -1,4 +1,5 @@
 -- A pass over the text: the places found so far, and the result at the end.
+use Rattle.std.specs.Prelude.{Some, None}
 use mathlib.Core.List.{List, [], ◌∷◌, ◌++◌, append-nil}
 use mathlib.Core.Bool.{Bool, true, false, cond}
 use mathlib.Core.Path.{◌≡◌, sym, ap, ◌∙◌}
@@ -23,7 +24,6 @@ use Rattle.query_access.specs.ReadByRuns.{ReadsOn}
 use Rattle.query_access.proofs.RunLaws.{reads-rest}
 use Rattle.search_kmp.specs.Borders.{Ends, Longest}
 use Rattle.query_places.specs.declared.pattern_seek.Progress.{Progress}
-use Rattle.query_places.specs.declared.pattern_seek.Sought.TheVariants.{All, Broken}
 use Rattle.query_places.specs.Places.{occurs_at, places_below, places_in, places_of}
 use Rattle.query_places.specs.TableFilled.{Even, Stepped, filled, so_far, Seeking, SeekAnswer}
 use Rattle.query_places.proofs.FillLaws.{filled_none, filled-length, filled_more, filled-full}
@@ -238,7 +238,7 @@ module _ (t P : List ℕ) (room : ℕ) (before : List ℕ) (m : Progress) (table
       rw e (sym (holds-run t m.place.0 size (at.text_length t - (m.place.0 + size)) a.holds) ∙ rw z at hold)
 
   -- A path breaks.
-  pub seek-broken : m.place.0 < at.text_length t → (byte_answer t m.place.0).number ≡ 14 → SeekAnswer t P room before Broken table
+  pub seek-broken : m.place.0 < at.text_length t → (byte_answer t m.place.0).number ≡ 14 → SeekAnswer t P room before None table
   unfolding paths_hold
   seek-broken low b =
       let z : at.text_length t - m.place.0 ≡ suc (at.text_length t - m.place.0 - 1) = omega arith in
@@ -249,13 +249,13 @@ module _ (t P : List ℕ) (room : ℕ) (before : List ℕ) (m : Progress) (table
       }
 
   -- All was read.
-  pub seek-end : 1 ≤ length P → at.text_length t ≤ m.place.0 → SeekAnswer t P room before (All m.found) table
+  pub seek-end : 1 ≤ length P → at.text_length t ≤ m.place.0 → SeekAnswer t P room before (Some m.found) table
   unfolding paths_hold
   seek-end some_byte past =
       let z : at.text_length t - m.place.0 ≡ 0 = omega arith in
       let all : paths_hold t 0 (at.text_length t) ≡ true = sym (rw z at hold) in
       let e : so_far t P m.place.0 ≡ places_of t P = so-far-end t P some_byte m.place.0 (omega (arith, s.in_text, text-length t)) in record {
-        answers = rw all (rw e at (ap All s.found-is));
+        answers = rw all (rw e at (ap Some s.found-is));
         table_is = λ y. s.table_is ∙ ap (λ (ps : List ℕ). filled ps room before) e;
       }
 

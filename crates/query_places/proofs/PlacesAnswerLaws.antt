@@ -1,4 +1,9 @@
 -- The places of a pattern: each refusal, and the table afterwards.
+use Rattle.std.specs.Prelude.{Option, Some, None, Result, Ok, Err}
+use Rattle.std.specs.Option.{ok_or}
+use Rattle.refusals.specs.declared.Refusal.{Refusal}
+use Rattle.refusals.specs.declared.Refusal.TheVariants.{PathBroken}
+use Rattle.refusals.specs.Refusals.{refusal_number}
 use mathlib.Core.List.{List, ◌++◌}
 use mathlib.Core.Bool.{Bool, true, false, cond}
 use mathlib.Core.Path.{◌≡◌, refl, sym, ap, ◌∙◌}
@@ -12,13 +17,9 @@ use Rattle.format.specs.Layout as at
 use Rattle.format.specs.TreeReading.{links_ok, ask, header_result}
 use Rattle.format.specs.Answers.{Answer, refused, NeverZero, replied, paths_hold}
 use Rattle.theory_paths.specs.Theorems.{paths-all}
-use Rattle.layout.specs.declared.header.HeaderAnswer.{HeaderAnswer}
-use Rattle.layout.specs.declared.header.HeaderAnswer.TheVariants as header
+use Rattle.layout.specs.declared.header.Header.{Header}
 use Rattle.layout.specs.Header.{header_answer}
 use Rattle.layout.specs.HeaderFields.{header_refused}
-use Rattle.query_places.specs.declared.PlacesAnswer.{PlacesAnswer}
-use Rattle.query_places.specs.declared.pattern_seek.Sought.{Sought}
-use Rattle.query_places.specs.declared.pattern_seek.Sought.TheVariants.{All, Broken}
 use Rattle.query_places.specs.Places.{max_pattern, pattern_ok, places_of, places_refusal, places_answer, places_buffer, places_reply, IsPlacesAnswer}
 use Rattle.query_places.specs.TableFilled.{SeekAnswer}
 use Rattle.query_places.proofs.FillLaws.{filled-all, filled-take}
@@ -29,16 +30,16 @@ pub record Listed (t P table : List ℕ) (s : Answer) (after : List ℕ) : Type 
   pub answers : s ≡ places_answer t P (length table)
   pub leaves : after ≡ places_buffer t P table
 
-pub places-answered : (t P table after : List ℕ) (r : PlacesAnswer) → NeverZero (places_reply r) → Listed t P table (replied (places_reply r)) after
+pub places-answered : (t P table after : List ℕ) (r : Result ℕ Refusal) → NeverZero (places_reply r) → Listed t P table (replied (places_reply r)) after
     → IsPlacesAnswer t P (length table) r × (after ≡ places_buffer t P table)
 places-answered t P table after r numbered k = (record { answers = k.answers; numbered = numbered }, k.leaves)
 
 -- The result of a pass.
-all-cases : (b : Bool) (x n : ℕ) → All n ≡ cond b (All x) Broken → (b ≡ true) × (n ≡ x)
+all-cases : (b : Bool) (x n : ℕ) → Some n ≡ cond b (Some x) None → (b ≡ true) × (n ≡ x)
 all-cases true x n e = (refl, cc)
 all-cases false x n e = absurd (let z : ◌≡◌ {A = ℕ} 0 1 = cc in omega arith)
 
-broken-cases : (b : Bool) (x : ℕ) → Broken ≡ cond b (All x) Broken → b ≡ false
+broken-cases : (b : Bool) (x : ℕ) → None ≡ cond b (Some x) None → b ≡ false
 broken-cases true x e = absurd (let z : ◌≡◌ {A = ℕ} 0 1 = cc in omega arith)
 broken-cases false x e = refl
 
@@ -49,12 +50,12 @@ module _ (t P table : List ℕ) where
   number-leaves q e = record { answers = rw e; leaves = rw (e, ne_eqb (suc q) 0 (λ z. omega arith)) }
 
   -- A tree that does not pass questions 5 to 7.
-  pub unread : (x : HeaderAnswer) → x ≡ header_answer t → (q : ℕ) → x ≡ header.Refused q → (1 ≤ q) × Listed t P table (refused q) table
+  pub unread : (x : Result Header Refusal) → x ≡ header_answer t → (q : Refusal) → x ≡ Err q → Listed t P table (refused (refusal_number q)) table
   unfolding places_refusal
   unread x x-is q e =
       let z = header_refused t x x-is q e in
       let n : places_refusal t P (length table) ≡ suc z.0 = rw (ne_eqb (header_result t) 0 (λ y. omega arith)) z.1 in
-      (omega arith, rw z.2 (number-leaves z.0 n))
+      rw z.2 (number-leaves z.0 n)
 
   -- One that does.
   module _ (passes : header_result t ≡ 0) where
@@ -78,13 +79,13 @@ module _ (t P table : List ℕ) where
       number-asked = rw (passes, le-leb 1 (length P) low, le-leb (length P) max_pattern high)
 
       -- The first pass, which leaves the table alone.
-      module _ (room : ℕ) (zeros few : List ℕ) (x : Sought) (k : SeekAnswer t P room zeros x few) where
-        pub path-breaks : x ≡ Broken → Listed t P table (refused 14) table
+      module _ (room : ℕ) (zeros few : List ℕ) (x : Option ℕ) (k : SeekAnswer t P room zeros x few) where
+        pub path-breaks : x ≡ None → Listed t P table (refused 14) table
         path-breaks e =
             let b = broken-cases (paths_hold t 0 (at.text_length t)) (length (places_of t P)) (sym e ∙ k.answers) in
             number-leaves 13 (number-asked ∙ rw b)
 
-        module _ (n : ℕ) (e : x ≡ All n) where
+        module _ (n : ℕ) (e : x ≡ Some n) where
           all : (paths_hold t 0 (at.text_length t) ≡ true) × (n ≡ length (places_of t P))
           all = all-cases (paths_hold t 0 (at.text_length t)) (length (places_of t P)) n (sym e ∙ k.answers)
 
@@ -107,22 +108,29 @@ module _ (t P table : List ℕ) where
                 written last (rw kept at is)
 
             -- many, written in the second
-            pub written_all : (y : Sought) (last : List ℕ) → SeekAnswer t P n table y last
+            pub written_all : (y : Option ℕ) (last : List ℕ) → SeekAnswer t P n table y last
                 → Listed t P table (record { number = 0; value = n; entered = 0 }) last
             written_all y last w =
                 written last (w.table_is all.0
                 ∙ filled-all (places_of t P) n table (omega (arith, all.1)) ∙ ap (λ (m : ℕ). places_of t P ++ drop m table) (sym all.1))
 
       -- One pass, with room for all places that there can be.
-      pub no-break : (room : ℕ) (before last : List ℕ) (x : Sought) → SeekAnswer t P room before x last → links_ok t ≡ true → x ≡ Broken → ⊥
+      no-break : (room : ℕ) (before last : List ℕ) (x : Option ℕ) → SeekAnswer t P room before x last → links_ok t ≡ true → x ≡ None → ⊥
       no-break room before last x k linked e =
           bool_clash _ (paths-all t passes linked 0 (at.text_length t) (omega arith))
           (broken-cases (paths_hold t 0 (at.text_length t)) (length (places_of t P)) (sym e ∙ k.answers))
 
-      pub written_once : (room : ℕ) (last : List ℕ) (x : Sought) → SeekAnswer t P room table x last → (n : ℕ) → x ≡ All n
+      written_once : (room : ℕ) (last : List ℕ) (x : Option ℕ) → SeekAnswer t P room table x last → (n : ℕ) → x ≡ Some n
           → room ≡ at.text_length t + 1 - length P → room ≤ length table → Listed t P table (record { number = 0; value = n; entered = 0 }) last
       written_once room last x k n e is fits =
           let few : length (places_of t P) ≤ room = omega (arith, places-few t P low) in
           let a = all room table last x k n e in
           written room table last x k n e (omega (arith, a.1)) last (k.table_is a.0
           ∙ filled-all (places_of t P) room table few ∙ ap (λ (m : ℕ). places_of t P ++ drop m table) (sym a.1))
+
+      pub once-answered : (room : ℕ) (last : List ℕ) (x : Option ℕ) → SeekAnswer t P room table x last → links_ok t ≡ true
+          → room ≡ at.text_length t + 1 - length P → room ≤ length table
+          → IsPlacesAnswer t P (length table) (ok_or x PathBroken) × (last ≡ places_buffer t P table)
+      once-answered room last None k linked is fits = absurd (no-break room table last None k linked refl)
+      once-answered room last (Some n) k linked is fits =
+          places-answered t P table last (Ok n) tt (written_once room last (Some n) k n refl is fits)

@@ -1,8 +1,11 @@
 -- The size of a table: each of the questions, and that it is enough.
+use Rattle.std.specs.Prelude.{Result, Err}
+use Rattle.refusals.specs.declared.Refusal.{Refusal}
+use Rattle.refusals.specs.Refusals.{refusal_number}
+use Rattle.refusals.specs.RefusalsLaws.{number-above}
 use mathlib.Core.List.{List}
 use mathlib.Core.Path.{◌≡◌, sym, ap, ◌∙◌}
 use Prim.Native.Nat.{ℕ, ◌+◌, ◌-◌, ◌≤◌, ◌<◌}
-use native.Mathlib.Omega.{arith}
 use borrow.Author.Tests.{le-leb, lt-leb, leb-true}
 use lib.ListN.{length}
 use lib.Dec.{leb}
@@ -15,12 +18,8 @@ use Rattle.format.specs.AnswerLaws.{unless-refused, unless-passes}
 use Rattle.format.specs.LayoutLaws.{ask-test}
 use Rattle.theory_paths.specs.OneText.{text-length}
 use Rattle.layout.specs.declared.header.Header.{Header}
-use Rattle.layout.specs.declared.header.HeaderAnswer.{HeaderAnswer}
-use Rattle.layout.specs.declared.header.HeaderAnswer.TheVariants as header
 use Rattle.layout.specs.Header.{header_answer}
 use Rattle.layout.specs.HeaderFields.{HeaderOf, header_refused}
-use Rattle.query_places.specs.declared.PlacesWordsAnswer.{PlacesWordsAnswer}
-use Rattle.query_places.specs.declared.PlacesWordsAnswer.TheVariants as places-words
 use Rattle.query_places.specs.Places.{max_pattern, occurs_at, places_of, words_for, places_words_answer, places_words_reply, IsPlacesWordsAnswer}
 use Rattle.query_places.specs.TableFilled.{so_far}
 use Rattle.query_places.proofs.PatternSeekLaws.{below-few, so-far-end}
@@ -41,17 +40,17 @@ module _ (n len : ℕ) where
 
 module _ (t : List ℕ) (len : ℕ) where
   -- A tree that passes questions 5 to 7, and one that does not.
-  pub answered : (h : Header) → HeaderOf t h → (r : PlacesWordsAnswer) → (replied (places_words_reply r) ≡ words_for h.text_length len)
+  pub answered : (h : Header) → HeaderOf t h → (r : Result ℕ Refusal) → (replied (places_words_reply r) ≡ words_for h.text_length len)
       × NeverZero (places_words_reply r)
       → IsPlacesWordsAnswer t len r
   unfolding places_words_answer
   answered h k r e = record { answers = rw k.passes (e.0 ∙ ap (λ (n : ℕ). words_for n len) k.length_is); numbered = e.1 }
 
-  pub unread : (x : HeaderAnswer) → x ≡ header_answer t → (q : ℕ) → x ≡ header.Refused q → IsPlacesWordsAnswer t len (places-words.Refused q)
+  pub unread : (x : Result Header Refusal) → x ≡ header_answer t → (q : Refusal) → x ≡ Err q → IsPlacesWordsAnswer t len (Err q)
   unfolding places_words_answer
   unread x x-is q e =
       let z = header_refused t x x-is q e in
-      record { answers = unless-refused (header_result t) z.0 q (words_for (at.text_length t) len) z.1 z.2; numbered = omega (arith, z.2) }
+      record { answers = unless-refused (header_result t) z.0 (refusal_number q) (words_for (at.text_length t) len) z.1 z.2; numbered = number-above q }
 
 -- A pattern has no more places than that.
 pub places-few : (t P : List ℕ) → 1 ≤ length P → length (places_of t P) ≤ at.text_length t + 1 - length P

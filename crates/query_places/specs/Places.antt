@@ -1,14 +1,12 @@
 -- The places of a pattern, and what the calls return.
 -- docs/FORMAT.md: "Places".
-use Rattle.std.specs.Prelude.{List, [], ◌∷◌, ◌++◌, Bool, cond, ◌&&◌, ℕ, zero, suc, ◌+◌, ◌-◌, length, drop, leb, eqb}
+use Rattle.std.specs.Prelude.{List, [], ◌∷◌, ◌++◌, Bool, cond, ◌&&◌, ℕ, zero, suc, ◌+◌, ◌-◌, length, drop, leb, eqb, Result, Ok, Err}
+use Rattle.refusals.specs.declared.Refusal.{Refusal}
+use Rattle.refusals.specs.Refusals.{refusal_number}
 use Rattle.text.specs.Text.{same_list, substring}
 use Rattle.format.specs.Layout as at
 use Rattle.format.specs.TreeReading.{text_of, asks, or_next, header_result}
 use Rattle.format.specs.Answers.{Answer, unless, Reply, figures, refusal, Is, paths_hold}
-use Rattle.query_places.specs.declared.PlacesAnswer.{PlacesAnswer}
-use Rattle.query_places.specs.declared.PlacesAnswer.TheVariants as places
-use Rattle.query_places.specs.declared.PlacesWordsAnswer.{PlacesWordsAnswer}
-use Rattle.query_places.specs.declared.PlacesWordsAnswer.TheVariants as places-words
 
 -- What places (locate) returns for any bytes given as a tree, and what the caller's table of words contains afterwards.
 -- docs/FORMAT.md: "Places", "Figures and sizes".
@@ -68,18 +66,18 @@ places_words_answer t len = unless (header_result t) (words_for (at.text_length 
 -- The answers of places and places_words by their refusals and figures (docs/FORMAT.md, "Questions and refusals").
 
 -- How many places there are.
-abbrev pub places_reply : PlacesAnswer → Reply
-places_reply (places.Number n) = figures n 0
-places_reply (places.Refused number) = refusal number
+abbrev pub places_reply : Result ℕ Refusal → Reply
+places_reply (Ok n) = figures n 0
+places_reply (Err e) = refusal (refusal_number e)
 
 -- The answer of places with a table of `room` words.
-abbrev pub IsPlacesAnswer : (t P : List ℕ) (room : ℕ) → PlacesAnswer → Type 0
+abbrev pub IsPlacesAnswer : (t P : List ℕ) (room : ℕ) → Result ℕ Refusal → Type 0
 IsPlacesAnswer t P room = Is places_reply (places_answer t P room)
 
 -- How many words a table must have.
-abbrev pub places_words_reply : PlacesWordsAnswer → Reply
-places_words_reply (places-words.Words n) = figures n 0
-places_words_reply (places-words.Refused number) = refusal number
+abbrev pub places_words_reply : Result ℕ Refusal → Reply
+places_words_reply (Ok n) = figures n 0
+places_words_reply (Err e) = refusal (refusal_number e)
 
-abbrev pub IsPlacesWordsAnswer : (t : List ℕ) (len : ℕ) → PlacesWordsAnswer → Type 0
+abbrev pub IsPlacesWordsAnswer : (t : List ℕ) (len : ℕ) → Result ℕ Refusal → Type 0
 IsPlacesWordsAnswer t len = Is places_words_reply (places_words_answer t len)

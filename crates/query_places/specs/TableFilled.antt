@@ -1,13 +1,11 @@
 -- One pass over the text: how far the table is filled where the text was read up to a place.
-use Rattle.std.specs.Prelude.{List, ◌++◌, true, cond, ◌≡◌, ℕ, ◌+◌, ◌-◌, ◌≤◌, ◌<◌, length, get_or, take, drop, set, ltb, eqb}
+use Rattle.std.specs.Prelude.{List, Option, Some, None, ◌++◌, true, cond, ◌≡◌, ℕ, ◌+◌, ◌-◌, ◌≤◌, ◌<◌, length, get_or, take, drop, set, ltb, eqb}
 use Rattle.format.specs.Layout as at
 use Rattle.format.specs.TreeReading.{text_of}
 use Rattle.format.specs.Answers.{paths_hold}
 use Rattle.search_byte.specs.FirstByte.{Without}
 use Rattle.search_kmp.specs.Borders.{Longest, Next}
 use Rattle.query_places.specs.declared.pattern_seek.Progress.{Progress}
-use Rattle.query_places.specs.declared.pattern_seek.Sought.{Sought}
-use Rattle.query_places.specs.declared.pattern_seek.Sought.TheVariants.{All, Broken}
 use Rattle.query_places.specs.Places.{occurs_at, places_below, places_of}
 
 -- The figures stay within what was read.
@@ -53,6 +51,6 @@ module _ (t P : List ℕ) where
     pub on : (room : ℕ) (before table : List ℕ) → Seeking room before m table → Seeking room before r table
 
   -- The result of the whole pass.
-  pub record SeekAnswer (room : ℕ) (before : List ℕ) (r : Sought) (after : List ℕ) : Type 0 where
-    pub answers : r ≡ cond (paths_hold t 0 (at.text_length t)) (All (length (places_of t P))) Broken
+  pub record SeekAnswer (room : ℕ) (before : List ℕ) (r : Option ℕ) (after : List ℕ) : Type 0 where
+    pub answers : r ≡ cond (paths_hold t 0 (at.text_length t)) (Some (length (places_of t P))) None
     pub table_is : paths_hold t 0 (at.text_length t) ≡ true → after ≡ filled (places_of t P) room before

@@ -10,9 +10,9 @@ ghost use Rattle.layout.specs.HeaderFields.{HeaderOf};
 ghost use Rattle.search_kmp.specs.Borders.{Borders};
 ghost use Rattle.query_places.specs.Places.{max_pattern, places_buffer, IsPlacesAnswer, IsPlacesWordsAnswer};
 
-use crate::pattern_seek::Sought;
 use layout::header;
-use layout::header::{Header, HeaderAnswer};
+use layout::header::Header;
+use refusals::Refusal;
 
 // The length of the longest pattern.
 pub const MAX_PATTERN: usize = 256;
@@ -20,57 +20,34 @@ pub const MAX_PATTERN: usize = 256;
 // The number of places that are stored during the first pass over the text; if there are more, a second pass writes them.
 const FEW: usize = 256;
 
-// The refusal if a path breaks.
-const PATH_BREAKS: u32 = 14;
-
-// The number of places, or the refusal.
-#[derive(Clone, Copy)]
-pub enum PlacesAnswer {
-    Number(u32),
-    Refused(u32),
-}
-
-// The number of words that are enough for a table, or the refusal.
-#[derive(Clone, Copy)]
-pub enum PlacesWordsAnswer {
-    Words(u32),
-    Refused(u32),
-}
-
 // The number of words that are enough for all places of any pattern of `len` bytes: as many as there are places where it fits.
-pub fn places_words(t: &[u8], len: u32) -> PlacesWordsAnswer
+pub fn places_words(t: &[u8], len: u32) -> Result<u32, Refusal>
     ensures { IsPlacesWordsAnswer t.now len result }
 {
-    let read = header::read_header(t);
-    match read {
-        HeaderAnswer::Good(h) => room::of_length(h.text_length, len),
-        HeaderAnswer::Refused(number) => PlacesWordsAnswer::Refused(number),
-    }
+    let h = header::read_header(t)?;
+    room::of_length(h.text_length, len)
 }
 
 // Writes all places of a pattern to the start of the table, in rising order.
-pub fn places(t: &[u8], pattern: &[u8], table: &mut [u32]) -> PlacesAnswer
+pub fn places(t: &[u8], pattern: &[u8], table: &mut [u32]) -> Result<u32, Refusal>
     ensures places_answer { IsPlacesAnswer t.now pattern.now (length table.old) result }
     ensures table_after { table.new ≡ places_buffer t.now pattern.now table.old }
 {
-    let read = header::read_header(t);
-    match read {
-        HeaderAnswer::Good(h) => places_at(t, h, pattern, table),
-        HeaderAnswer::Refused(number) => PlacesAnswer::Refused(number),
-    }
+    let h = header::read_header(t)?;
+    places_at(t, h, pattern, table)
 }
 
 // Question 16.
-fn places_at(t: &[u8], h: Header, pattern: &[u8], table: &mut [u32]) -> PlacesAnswer
+fn places_at(t: &[u8], h: Header, pattern: &[u8], table: &mut [u32]) -> Result<u32, Refusal>
     requires { HeaderOf t.now h }
     ensures places_answer { IsPlacesAnswer t.now pattern.now (length table.old) result }
     ensures table_after { table.new ≡ places_buffer t.now pattern.now table.old }
 {
     if pattern.len() < 1 {
-        return PlacesAnswer::Refused(16);
+        return Err(Refusal::PatternLengthWrong);
     }
     if MAX_PATTERN < pattern.len() {
-        return PlacesAnswer::Refused(16);
+        return Err(Refusal::PatternLengthWrong);
     }
     let mut borders = [0u8; MAX_PATTERN];
     search_kmp::prepare(pattern, &mut borders);
@@ -78,7 +55,13 @@ fn places_at(t: &[u8], h: Header, pattern: &[u8], table: &mut [u32]) -> PlacesAn
 }
 
 // Questions 14 and 17. A refusal must leave the table unchanged, so it is written in the first pass only if neither can fail.
-fn fill(t: &[u8], h: Header, pattern: &[u8], borders: &[u8], table: &mut [u32]) -> PlacesAnswer
+fn fill(
+    t: &[u8],
+    h: Header,
+    pattern: &[u8],
+    borders: &[u8],
+    table: &mut [u32],
+) -> Result<u32, Refusal>
     requires { (HeaderOf t.now h) × (1 ≤ length pattern.now) × (length pattern.now ≤ max_pattern)
         × (length pattern.now ≤ length borders.now) × Borders pattern.now borders.now (length pattern.now) }
     ensures places_answer { IsPlacesAnswer t.now pattern.now (length table.old) result }
@@ -102,18 +85,14 @@ fn fill_once(
     borders: &[u8],
     most: u32,
     table: &mut [u32],
-) -> PlacesAnswer
+) -> Result<u32, Refusal>
     requires header_of { (HeaderOf t.now h) × (1 ≤ length pattern.now) × (length pattern.now ≤ max_pattern)
         × (length pattern.now ≤ length borders.now) × Borders pattern.now borders.now (length pattern.now) }
     requires t_value { (links_ok t.now ≡ true) × (most ≡ h.text_length + 1 - length pattern.now) × (most ≤ length table.old) }
     ensures places_answer { IsPlacesAnswer t.now pattern.now (length table.old) result }
     ensures table_after { table.new ≡ places_buffer t.now pattern.now table.old }
 {
-    let written = pattern_seek::seek(t, h, pattern, borders, most, table);
-    let Sought::All(number) = written else {
-        return PlacesAnswer::Refused(PATH_BREAKS);
-    };
-    PlacesAnswer::Number(number)
+    pattern_seek::seek(t, h, pattern, borders, most, table).ok_or(Refusal::PathBroken)
 }
 
 // Counts all places before the table is written.
@@ -123,7 +102,7 @@ fn fill_counted(
     pattern: &[u8],
     borders: &[u8],
     table: &mut [u32],
-) -> PlacesAnswer
+) -> Result<u32, Refusal>
     requires { (HeaderOf t.now h) × (1 ≤ length pattern.now) × (length pattern.now ≤ max_pattern)
         × (length pattern.now ≤ length borders.now) × Borders pattern.now borders.now (length pattern.now) }
     ensures places_answer { IsPlacesAnswer t.now pattern.now (length table.old) result }
@@ -131,19 +110,19 @@ fn fill_counted(
 {
     let mut few = [0u32; FEW];
     let counted = pattern_seek::seek(t, h, pattern, borders, FEW as u32, &mut few);
-    let Sought::All(number) = counted else {
-        return PlacesAnswer::Refused(PATH_BREAKS);
+    let Some(number) = counted else {
+        return Err(Refusal::PathBroken);
     };
     let words = number as usize;
     if table.len() < words {
-        return PlacesAnswer::Refused(17);
+        return Err(Refusal::PatternTableTooShort);
     }
     if words <= FEW {
         copy(&few, words, table);
-        return PlacesAnswer::Number(number);
+        return Ok(number);
     }
     pattern_seek::seek(t, h, pattern, borders, number, table);
-    PlacesAnswer::Number(number)
+    Ok(number)
 }
 
 // Copies the first n words.

@@ -8,7 +8,7 @@ ghost use Rattle.query_places.specs.TableFilled.{Stepped, Skips, ReadsMatching, 
 use layout::header::Header;
 use layout::place::TextPlace;
 use query_access::read_by_header;
-use query_access::read_by_header::{RunRangeAnswer, TreeRange};
+use query_access::read_by_header::TreeRange;
 
 // The largest number of bytes that are read at once.
 const MOST: u32 = 65536;
@@ -26,13 +26,6 @@ pub struct Progress {
 struct Unread {
     part: TreeRange,
     before: Progress,
-}
-
-// The number of places, or that a path breaks.
-#[derive(Clone, Copy)]
-pub enum Sought {
-    All(u32),
-    Broken,
 }
 
 // Writes a place that was found, if it is among the first `room`.
@@ -136,7 +129,7 @@ fn feed(
     at
 }
 
-// Reads the whole text; writes the first `room` places to the table.
+// Reads the whole text; writes the first `room` places to the table. The number of places, none if a path breaks.
 pub fn seek(
     t: &[u8],
     h: Header,
@@ -144,7 +137,7 @@ pub fn seek(
     borders: &[u8],
     room: u32,
     table: &mut [u32],
-) -> Sought
+) -> Option<u32>
     requires header_of { (HeaderOf t.now h) × (1 ≤ length pattern.now) × (room ≤ length table.old) }
     requires pattern_len_bound { (length pattern.now ≤ 256) × (length pattern.now ≤ length borders.now) × Borders pattern.now borders.now (length pattern.now) }
     ensures { SeekAnswer t.now pattern.now room table.old result table.new }
@@ -157,10 +150,10 @@ pub fn seek(
     // A `while`: each part's length is found when it is read, so there is no range to go over.
     while m.place.0 < h.text_length {
         let range = read_by_header::range_at(t, h, m.place, MOST);
-        let RunRangeAnswer::At(part) = range else {
-            return Sought::Broken;
+        let Ok(part) = range else {
+            return None;
         };
         m = feed(t, Unread { part, before: m }, pattern, borders, room, table);
     }
-    Sought::All(m.found)
+    Some(m.found)
 }

@@ -3,19 +3,19 @@ ghost use Rattle.std.specs.Prelude.{◌≡◌, ◌+◌, ◌-◌, ◌≤◌};
 ghost use Rattle.format.specs.Answers.{NeverZero, replied};
 ghost use Rattle.query_places.specs.Places.{words_for, places_words_reply};
 
-use crate::PlacesWordsAnswer;
+use refusals::Refusal;
 
 // Question 16; then one word for each place where a pattern of len bytes fits in a text of n bytes.
-pub fn of_length(n: u32, len: u32) -> PlacesWordsAnswer
+pub fn of_length(n: u32, len: u32) -> Result<u32, Refusal>
     ensures { (replied (places_words_reply result) ≡ words_for n len) × (NeverZero (places_words_reply result)) }
 {
     if len < 1 {
-        return PlacesWordsAnswer::Refused(16);
+        return Err(Refusal::PatternLengthWrong);
     }
     if crate::MAX_PATTERN < len as usize {
-        return PlacesWordsAnswer::Refused(16);
+        return Err(Refusal::PatternLengthWrong);
     }
-    PlacesWordsAnswer::Words(most(n, len))
+    Ok(most(n, len))
 }
 
 // The number of places where a pattern of len bytes fits in a text of n bytes.

@@ -1,5 +1,4 @@
 use mathlib.Core.Path.{◌∙◌}
-use Prim.Native.Nat.{◌-◌}
 use native.Mathlib.Omega.{arith}
 use Rattle.query_columns.proofs.ColumnRowLaws as laws
 use Rattle.query_columns.proofs.copy.Goals as goal
@@ -21,7 +20,7 @@ shape_of-buffer-in_default c = c.clear.auto.buffer ∙ c.loop-b.invariant.1.same
 
 pub returns-in_default : goal.returns-in_default
 returns-in_default c = let both = laws.read-broken _ _ _ _ _ c.args.buffer.now
-    c.requires _ _ c.loop-b.invariant.1 (omega arith) _ c.byte_at-answer.ensures _ c.in_default.is _ c.number.ensures _ c.clear.ensures in record { row_by_columns_answer = both.0; buffer_after = both.1 }
+    c.requires _ _ c.loop-b.invariant.1 (omega arith) _ c.byte_at-answer.ensures _ c.unwrap_err.ensures _ c.clear.ensures in record { row_by_columns_answer = both.0; buffer_after = both.1 }
 
 pub bounds-buffer-b : goal.bounds-buffer-b
 bounds-buffer-b c = omega (arith, c.requires.fits, c.loop-b.invariant.1.same_length)
@@ -36,7 +35,7 @@ pub loop-b-preserved : goal.loop-b-preserved
 loop-b-preserved c = (
   omega arith,
   laws.read_more
-      _ _ _ _ _ c.args.buffer.now c.requires _ _ c.loop-b.invariant.1 (omega arith) _ c.byte_at-answer.ensures _ _ c.in-Byte.is,
+      _ _ _ _ _ c.args.buffer.now c.requires _ _ c.loop-b.invariant.1 (omega arith) _ c.byte_at-answer.ensures _ _ c.in-Ok.is,
 )
 
 pub shape_of-buffer : goal.shape_of-buffer

@@ -10,4 +10,4 @@ returns-in_default c = let both = laws.broken c.args.t.now c.args.out.now c.requ
 
 pub returns : goal.returns
 returns c = let both = laws.answered c.args.t.now c.args.out.now c.requires.passes c.if-out-lt32.false _ c.hash-hashed.ensures _
-    c.in-Value.is _ c.write_state.ensures in record { value = both.0; out_after = both.1 }
+    c.in-Some.is _ c.write_state.ensures in record { value = both.0; out_after = both.1 }

@@ -14,12 +14,12 @@ run_from-second-requires c = (c.requires.1, (laws.below_both _ _ _ _ c.requires.
 pub returns-in_default-second : goal.returns-in_default-second
 returns-in_default-second c = laws.compare-broken-2 _ _ _
     c.requires.2 (laws.below-shortest _ _ _ _ c.requires.0 c.requires.1 _ c.requires.3) _ c.run_from-first.ensures
-    _ c.in-At.is _ c.run_from-second.ensures _ c.in_default-second.is
+    _ c.in-Ok.is _ c.run_from-second.ensures _ c.in_default-second.is
 
 pub compare_runs-requires : goal.compare_runs-requires
 compare_runs-requires c = laws.compare-runs _ _ _ c.requires.2
     (laws.below-shortest _ _ _ _ c.requires.0 c.requires.1 _ c.requires.3) _ c.run_from-first.ensures _
-    c.in-At.is _ c.run_from-second.ensures _ c.in-At-second.is
+    c.in-Ok.is _ c.run_from-second.ensures _ c.in-Ok-second.is
 
 pub returns : goal.returns
 returns c = c.compare_runs.ensures

@@ -20,8 +20,8 @@ returns-in_default c =
 
 pub feed-m-requires : goal.feed-m-requires
 feed-m-requires c =
-    let part : ReadsOn c.args.t.now c.loop-m.m.place.0 c.in-At.part.from c.in-At.part.length
-    × (1 ≤ c.in-At.part.length) × (c.in-At.part.length ≤ 65536) = range-reads _ _ 65536 _ c.range_at-range.ensures _ c.in-At.is in record {
+    let part : ReadsOn c.args.t.now c.loop-m.m.place.0 c.in-Ok.part.from c.in-Ok.part.length
+    × (1 ≤ c.in-Ok.part.length) × (c.in-Ok.part.length ≤ 65536) = range-reads _ _ 65536 _ c.range_at-range.ensures _ c.in-Ok.is in record {
       reads_on = (
         part.0,
         omega (arith, part.0.in_text, laws.places-text-small _ _ c.requires.header_of.0),
@@ -33,15 +33,15 @@ feed-m-requires c =
 
 pub loop-m-smaller : goal.loop-m-smaller
 loop-m-smaller c =
-    let part : ReadsOn c.args.t.now c.loop-m.m.place.0 c.in-At.part.from c.in-At.part.length
-    × (1 ≤ c.in-At.part.length) × (c.in-At.part.length ≤ 65536) = range-reads _ _ 65536 _ c.range_at-range.ensures _ c.in-At.is in
+    let part : ReadsOn c.args.t.now c.loop-m.m.place.0 c.in-Ok.part.from c.in-Ok.part.length
+    × (1 ≤ c.in-Ok.part.length) × (c.in-Ok.part.length ≤ 65536) = range-reads _ _ 65536 _ c.range_at-range.ensures _ c.in-Ok.is in
     let z = part in
     omega (arith, z.0.in_text, z.1, c.feed-m.ensures.0)
 
 pub loop-m-preserved : goal.loop-m-preserved
 loop-m-preserved c =
-    let part : ReadsOn c.args.t.now c.loop-m.m.place.0 c.in-At.part.from c.in-At.part.length
-    × (1 ≤ c.in-At.part.length) × (c.in-At.part.length ≤ 65536) = range-reads _ _ 65536 _ c.range_at-range.ensures _ c.in-At.is in
+    let part : ReadsOn c.args.t.now c.loop-m.m.place.0 c.in-Ok.part.from c.in-Ok.part.length
+    × (1 ≤ c.in-Ok.part.length) × (c.in-Ok.part.length ≤ 65536) = range-reads _ _ 65536 _ c.range_at-range.ensures _ c.in-Ok.is in
     (c.feed-m.ensures.1 _ c.loop-m.invariant.0, laws.seek-on _ _ _ _ _ _ c.loop-m.invariant.0 c.loop-m.invariant.1 _ _ _ part.0 c.feed-m.ensures.0)
 
 pub shape_of-table : goal.shape_of-table
