@@ -14,6 +14,10 @@ use Rattle.text.specs.ListLaws.{bool_clash, lt-or-ge, eq-same_list, ne-same_list
 use Rattle.format.specs.Layout.{word_at, words_bytes, set_word, max_text}
 use Rattle.format.specs.WordLaws.{length-set_word}
 use Rattle.format.specs.Layout as at
+use Rattle.std.specs.Prelude.{Result, Ok, Err, ⊤}
+use Rattle.refusals.specs.declared.Refusal.{Refusal}
+use Rattle.refusals.specs.Refusals.{refusal_number, result_refusal}
+use Rattle.refusals.specs.RefusalsLaws.{number-above}
 use Rattle.format.specs.TreeReading.{ask, header_result, check_result}
 use Rattle.format.specs.CheckResultLaws.{accepted-header}
 use Rattle.format.specs.Answers.{refused, total}
@@ -188,6 +192,14 @@ next-right t guide from e w before read is i low high = go (lt-or-ge i (from + e
     go : (i < from + e) ⊎ (from + e ≤ i) → word_at guide (4 * i) ≡ get_or (guide_of t) i 0
     go (inl m) = before i low m
     go (inr m) = let q : from + e ≡ i = omega arith in rw q at (read ∙ is)
+
+-- What the check of the tree says, accepted or refused.
+pub check-passes : (t : List ℕ) (x : Result ⊤ Refusal) → result_refusal x ≡ check_result t → (u : ⊤) → x ≡ Ok u → check_result t ≡ 0
+check-passes t x says u e = sym says ∙ ap result_refusal e
+
+pub check-refuses : (t : List ℕ) (x : Result ⊤ Refusal) → result_refusal x ≡ check_result t → (q : Refusal) → x ≡ Err q
+    → (refusal_number q ≡ check_result t) × (refusal_number q ≡ 0 → ⊥)
+check-refuses t x says q e = (sym (ap result_refusal e) ∙ says, λ z. omega (arith, number-above q))
 
 -- An accepted tree's header is not refused.
 pub guide-not-refused : (t : List ℕ) (k : ℕ) → check_result t ≡ 0 → header_result t ≡ suc k → ⊥

@@ -7,7 +7,7 @@ ghost use Rattle.layout.specs.HeaderFields.{HeaderOf};
 ghost use Rattle.query_guide.specs.Guides.{entries_of, entries_before, guide_bytes};
 ghost use Rattle.build_guide.specs.EntriesWritten.{GuideCompared};
 
-use layout::header::{Header, HeaderAnswer};
+use layout::header::Header;
 use layout::place::BlockNumber;
 use layout::{header, word};
 use query_guide::entry_words;
@@ -60,9 +60,8 @@ pub fn guide_right(t: &[u8], guide: &[u8]) -> bool
     requires { check_result t.now ≡ 0 }
     ensures { result ≡ same_list guide.now (guide_bytes t.now) }
 {
-    let read = header::read_header(t);
-    match read {
-        HeaderAnswer::Good(h) => right_by(t, h, guide),
-        HeaderAnswer::Refused(_) => false,
-    }
+    let Ok(h) = header::read_header(t) else {
+        return false;
+    };
+    right_by(t, h, guide)
 }

@@ -8,10 +8,11 @@ ghost use Rattle.layout.specs.HeaderFields.{HeaderOf};
 ghost use Rattle.query_guide.specs.Guides.{entries_of, entries_before, guide_words, make_guide_answer, make_guide_buffer, guide_words_reply};
 ghost use Rattle.build_guide.specs.EntriesWritten.{Puts};
 
-use layout::header::{Header, HeaderAnswer};
+use layout::header::Header;
 use layout::place::BlockNumber;
 use layout::{header, word};
-use query_guide::{GuideWordsAnswer, entry_words};
+use query_guide::entry_words;
+use refusals::Refusal;
 
 // Writes the entries of a counted byte; `place` is the number of entries of the counted bytes before it.
 fn put_entries(table: &mut [u8], t: &[u8], h: Header, number: u32, place: usize, count: u64)
@@ -47,28 +48,25 @@ fn put_all(table: &mut [u8], t: &[u8], h: Header)
 }
 
 // Question 25, for an accepted tree, given its header.
-fn put_by(t: &[u8], h: Header, table: &mut [u8]) -> GuideWordsAnswer
+fn put_by(t: &[u8], h: Header, table: &mut [u8]) -> Result<u64, Refusal>
     requires { (HeaderOf t.now h) × (check_result t.now ≡ 0) }
     ensures result_value { (replied (guide_words_reply result) ≡ make_guide_answer t.now table.old) × (NeverZero (guide_words_reply result)) }
     ensures table_after { table.new ≡ make_guide_buffer t.now table.old }
 {
     let all = entry_words::entries_before(t, h, h.settings.counted);
     if (table.len() as u64) < 4 * all {
-        return GuideWordsAnswer::Refused(25);
+        return Err(Refusal::GuideTableTooShort);
     }
     put_all(table, t, h);
-    GuideWordsAnswer::Words(all)
+    Ok(all)
 }
 
 // Writes the guide of an accepted tree.
-pub fn put_guide(t: &[u8], table: &mut [u8]) -> GuideWordsAnswer
+pub fn put_guide(t: &[u8], table: &mut [u8]) -> Result<u64, Refusal>
     requires { check_result t.now ≡ 0 }
     ensures result_value { (replied (guide_words_reply result) ≡ make_guide_answer t.now table.old) × (NeverZero (guide_words_reply result)) }
     ensures table_after { table.new ≡ make_guide_buffer t.now table.old }
 {
-    let read = header::read_header(t);
-    match read {
-        HeaderAnswer::Good(h) => put_by(t, h, table),
-        HeaderAnswer::Refused(number) => GuideWordsAnswer::Refused(number),
-    }
+    let h = header::read_header(t)?;
+    put_by(t, h, table)
 }

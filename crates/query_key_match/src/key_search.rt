@@ -6,15 +6,16 @@ use keys::ranges;
 use keys::ranges::Ranges;
 use layout::header::Header;
 use query_row_filter::rows_after::RowsStart;
-use query_row_filter::{NextRowAnswer, rows_after};
+use query_row_filter::{NextRow, rows_after};
+use refusals::Refusal;
 
 // Questions 19, 11 and 14.
-pub fn match_at(t: &[u8], h: Header, question: &[u8], mark: u32) -> NextRowAnswer
+pub fn match_at(t: &[u8], h: Header, question: &[u8], mark: u32) -> Result<NextRow, Refusal>
     requires { HeaderOf t.now h }
     ensures { IsMatchAnswer t.now question.now mark result }
 {
     if !ranges::are_ranges(question) {
-        return NextRowAnswer::Refused(19);
+        return Err(Refusal::CutsWrong);
     }
     let ranges = Ranges { bytes: question };
     let start = rows_after::begin(t, h, &t[0..0], false, mark);

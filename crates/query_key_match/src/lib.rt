@@ -8,8 +8,8 @@ ghost use Rattle.query_row_filter.specs.AllowedRows.{outcome_of};
 ghost use Rattle.query_key_match.specs.MatchAnswer.{IsMatchAnswer, Moved};
 
 use layout::header;
-use layout::header::HeaderAnswer;
-use query_row_filter::NextRowAnswer;
+use query_row_filter::NextRow;
+use refusals::Refusal;
 
 // A mark: the number of the last row returned, 0 before the first row.
 #[derive(Clone, Copy)]
@@ -18,7 +18,7 @@ pub struct Mark {
 }
 
 // Moves the caller's mark to the next row that matches, and returns the row.
-pub fn advance_mark(mark: &mut Mark, t: &[u8], question: &[u8]) -> NextRowAnswer
+pub fn advance_mark(mark: &mut Mark, t: &[u8], question: &[u8]) -> Result<NextRow, Refusal>
     ensures { Moved t.now question.now mark.old.row result mark.new.row }
 {
     let at = mark.row;
@@ -31,7 +31,7 @@ pub fn advance_mark(mark: &mut Mark, t: &[u8], question: &[u8]) -> NextRowAnswer
 // The answer of `advance_mark`, and the mark after it.
 #[derive(Clone, Copy)]
 pub struct AdvanceAnswer {
-    pub answer: NextRowAnswer,
+    pub answer: Result<NextRow, Refusal>,
     pub row: u32,
 }
 
@@ -46,23 +46,20 @@ pub fn advance(t: &[u8], question: &[u8], row: u32) -> AdvanceAnswer
 }
 
 // The first row after a mark that matches.
-pub fn next_match(t: &[u8], question: &[u8], mark: u32) -> NextRowAnswer
+pub fn next_match(t: &[u8], question: &[u8], mark: u32) -> Result<NextRow, Refusal>
     ensures { IsMatchAnswer t.now question.now mark result }
 {
-    let read = header::read_header(t);
-    match read {
-        HeaderAnswer::Good(h) => key_search::match_at(t, h, question, mark),
-        HeaderAnswer::Refused(number) => NextRowAnswer::Refused(number),
-    }
+    let h = header::read_header(t)?;
+    key_search::match_at(t, h, question, mark)
 }
 
 // The mark after an answer; a refusal does not move it.
-pub fn after(answer: NextRowAnswer, mark: u32) -> u32
+pub fn after(answer: Result<NextRow, Refusal>, mark: u32) -> u32
     ensures { result ≡ (outcome_of mark answer).mark }
 {
     match answer {
-        NextRowAnswer::Row(q) => q,
-        NextRowAnswer::Nothing(m) => m,
-        NextRowAnswer::Refused(_) => mark,
+        Ok(NextRow::Row(q)) => q,
+        Ok(NextRow::Nothing(m)) => m,
+        Err(_) => mark,
     }
 }

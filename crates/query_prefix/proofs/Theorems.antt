@@ -3,7 +3,7 @@ use mathlib.Core.List.{List, [], ◌++◌}
 use mathlib.Core.Bool.{true, false, cond}
 use mathlib.Core.Path.{◌≡◌, ◌∙◌}
 use mathlib.Core.Logic.{◌⊎◌}
-use Prim.Native.Nat.{ℕ, suc, ◌≤◌, ◌<◌}
+use Prim.Native.Nat.{ℕ, ◌≤◌, ◌<◌}
 use contract.Lifetimes.{Lfts}
 use denote.Ref.{Bor}
 use lib.ListN.{length}
@@ -19,41 +19,45 @@ use Rattle.prefix_match.specs.PrefixRowLaws.{longer-sublist, longer-in, newline-
 use Rattle.query_places.specs.Places.{pattern_ok}
 use Rattle.query_guide.specs.Guides.{guide_refusal}
 use Rattle.query_guide.proofs.GuideList.{guide-checked}
-use Rattle.query_row_filter.specs.declared.NextRowAnswer.{NextRowAnswer}
-use Rattle.query_row_filter.specs.declared.NextRowAnswer.TheVariants.{Row, Nothing, Refused}
+use Rattle.std.specs.Prelude.{Result, Ok, Err}
+use Rattle.refusals.specs.declared.Refusal.{Refusal}
+use Rattle.refusals.specs.declared.Refusal.TheVariants.{ByteNotCounted, PathBroken, PatternLengthWrong}
+use Rattle.refusals.specs.Refusals.{refusal_number}
+use Rattle.query_row_filter.specs.declared.NextRow.{NextRow}
+use Rattle.query_row_filter.specs.declared.NextRow.TheVariants.{Row, Nothing}
 use Rattle.query_row_filter.specs.AllowedRows.{max_rows, query_refusal, AllowedAnswer, MarkMoved}
 use Rattle.query_row_filter.proofs.NextRowTheorems as next_row
 use Rattle.query_prefix.proofs.next_with_prefix.Reads as next-reads
 use Rattle.query_prefix.proofs.next_with_prefix_guided.Reads as guided-reads
 
 -- The contract of `next_with_prefix` allows the answer r to these arguments.
-abbrev pub NextRowWithPrefix : (κs : Lfts 2) → (t prefix : Bor (List ℕ)) → ℕ → NextRowAnswer → Type 0
+abbrev pub NextRowWithPrefix : (κs : Lfts 2) → (t prefix : Bor (List ℕ)) → ℕ → Result NextRow Refusal → Type 0
 NextRowWithPrefix κs t prefix mark r = next-reads.Post κs (t, (prefix, (mark, tt))) r (t, (prefix, (mark, tt)))
 
 -- The contract of `next_with_prefix_guided`.
-abbrev pub NextRowWithPrefixGuided : (κs : Lfts 3) → (t guide prefix : Bor (List ℕ)) → ℕ → NextRowAnswer → Type 0
+abbrev pub NextRowWithPrefixGuided : (κs : Lfts 3) → (t guide prefix : Bor (List ℕ)) → ℕ → Result NextRow Refusal → Type 0
 NextRowWithPrefixGuided κs t guide prefix mark r = guided-reads.Post κs (t, (guide, (prefix, (mark, tt)))) r (t, (guide, (prefix, (mark, tt))))
 
 -- `ok` is 0 if the answer is determined: the check's result without a guide, that of checking the guide with one.
-abbrev pub IsPrefixAnswer : List ℕ → ℕ → List ℕ → ℕ → NextRowAnswer → Type 0
+abbrev pub IsPrefixAnswer : List ℕ → ℕ → List ℕ → ℕ → Result NextRow Refusal → Type 0
 IsPrefixAnswer t ok prefix mark r = AllowedAnswer t ok (query_refusal t 16 (pattern_ok prefix)) (starts_with prefix) mark r
 
 -- An allowed answer, and the mark before and after it.
-abbrev pub PrefixMoved : List ℕ → ℕ → List ℕ → ℕ → NextRowAnswer → ℕ → Type 0
+abbrev pub PrefixMoved : List ℕ → ℕ → List ℕ → ℕ → Result NextRow Refusal → ℕ → Type 0
 PrefixMoved t ok prefix before r after = MarkMoved t ok (query_refusal t 16 (pattern_ok prefix)) (starts_with prefix) before r after
 
 -- The contracts are `IsPrefixAnswer`.
-pub next-answers : (κs : Lfts 2) (t prefix : Bor (List ℕ)) (mark : ℕ) (r : NextRowAnswer) → NextRowWithPrefix κs t prefix mark r
+pub next-answers : (κs : Lfts 2) (t prefix : Bor (List ℕ)) (mark : ℕ) (r : Result NextRow Refusal) → NextRowWithPrefix κs t prefix mark r
     → IsPrefixAnswer t.now (check_result t.now) prefix.now mark r
 next-answers κs t prefix mark r p = p
 
-pub guided-answers : (κs : Lfts 3) (t guide prefix : Bor (List ℕ)) (mark : ℕ) (r : NextRowAnswer) → NextRowWithPrefixGuided κs t guide prefix mark r
+pub guided-answers : (κs : Lfts 3) (t guide prefix : Bor (List ℕ)) (mark : ℕ) (r : Result NextRow Refusal) → NextRowWithPrefixGuided κs t guide prefix mark r
     → IsPrefixAnswer t.now (guide_refusal t.now guide.now) prefix.now mark r
 guided-answers κs t guide prefix mark r p = p
 
 -- For an accepted tree and guide the answer is that without the guide.
-pub guided-as-prefix : (κs : Lfts 3) (t guide prefix : Bor (List ℕ)) (mark : ℕ) (r : NextRowAnswer) → NextRowWithPrefixGuided κs t guide prefix mark r
-    → guide_refusal t.now guide.now ≡ 0 → (κ : Lfts 2) (s : NextRowAnswer) → NextRowWithPrefix κ t prefix mark s → r ≡ s
+pub guided-as-prefix : (κs : Lfts 3) (t guide prefix : Bor (List ℕ)) (mark : ℕ) (r : Result NextRow Refusal) → NextRowWithPrefixGuided κs t guide prefix mark r
+    → guide_refusal t.now guide.now ≡ 0 → (κ : Lfts 2) (s : Result NextRow Refusal) → NextRowWithPrefix κ t prefix mark s → r ≡ s
 guided-as-prefix κs t guide prefix mark r a g κ s b =
     next_row.one-next-row t.now (query_refusal t.now 16 (pattern_ok prefix.now)) (starts_with prefix.now) mark
     (guide_refusal t.now guide.now) (check_result t.now) g (guide-checked t.now guide.now g) r s a b
@@ -69,40 +73,41 @@ module _ (t prefix : List ℕ) where
 module _ (t : List ℕ) (ok : ℕ) (sound : ok ≡ 0 → check_result t ≡ 0) (prefix : List ℕ) where
   -- For any bytes.
 
-  module _ (mark : ℕ) (r : NextRowAnswer) (a : IsPrefixAnswer t ok prefix mark r) where
+  module _ (mark : ℕ) (r : Result NextRow Refusal) (a : IsPrefixAnswer t ok prefix mark r) where
     -- Questions 5 to 7.
-    pub prefix-unread : (q : ℕ) → header_result t ≡ suc q → r ≡ Refused (suc q)
+    pub prefix-unread : (q : Refusal) → header_result t ≡ refusal_number q → r ≡ Err q
     prefix-unread q e =
         next_row.refused-first t ok sound (query_refusal t 16 (pattern_ok prefix)) (starts_with prefix) mark r a q
         (next_row.asked-unread t 16 (pattern_ok prefix) q e)
 
     module _ (pass : header_result t ≡ 0) where
       -- 16, after question 7: the prefix has no byte or more than 256
-      pub prefix_length : pattern_ok prefix ≡ false → r ≡ Refused 16
+      pub prefix_length : pattern_ok prefix ≡ false → r ≡ Err PatternLengthWrong
       prefix_length e =
-          next_row.refused-first t ok sound (query_refusal t 16 (pattern_ok prefix)) (starts_with prefix) mark r a 15
+          next_row.refused-first t ok sound (query_refusal t 16 (pattern_ok prefix)) (starts_with prefix) mark r a PatternLengthWrong
           (next_row.asked-bad t 16 (pattern_ok prefix) pass e)
 
       -- 11, after 16
-      pub prefix-uncounted : pattern_ok prefix ≡ true → is_counted t 10 ≡ false → r ≡ Refused 11
+      pub prefix-uncounted : pattern_ok prefix ≡ true → is_counted t 10 ≡ false → r ≡ Err ByteNotCounted
       prefix-uncounted good e =
-          next_row.refused-first t ok sound (query_refusal t 16 (pattern_ok prefix)) (starts_with prefix) mark r a 10
+          next_row.refused-first t ok sound (query_refusal t 16 (pattern_ok prefix)) (starts_with prefix) mark r a ByteNotCounted
           (next_row.asked-uncounted t 16 (pattern_ok prefix) pass good e)
 
   -- A refusal leaves the mark.
-  pub prefix-keeps-mark : (mark n after : ℕ) → PrefixMoved t ok prefix mark (Refused n) after → after ≡ mark
+  pub prefix-keeps-mark : (mark : ℕ) (n : Refusal) (after : ℕ) → PrefixMoved t ok prefix mark (Err n) after → after ≡ mark
   prefix-keeps-mark = next_row.refusal-leaves t ok sound (query_refusal t 16 (pattern_ok prefix)) (starts_with prefix)
 
   -- A refusal is that of the questions before the walk; or 14, if the answer is not determined.
-  pub prefix-refusal : (mark n : ℕ) → IsPrefixAnswer t ok prefix mark (Refused n) → (n ≡ query_refusal t 16 (pattern_ok prefix)) ⊎ ((n ≡ 14) × (ok ≡ 0 → ⊥))
+  pub prefix-refusal : (mark : ℕ) (n : Refusal) → IsPrefixAnswer t ok prefix mark (Err n)
+      → (refusal_number n ≡ query_refusal t 16 (pattern_ok prefix)) ⊎ ((n ≡ PathBroken) × (ok ≡ 0 → ⊥))
   prefix-refusal = next_row.refusal_is t ok sound (query_refusal t 16 (pattern_ok prefix)) (starts_with prefix)
 
   -- A returned row, unspecified or not, is after the mark and at most total + 1 of byte 10.
-  pub prefix-row-after : (mark n : ℕ) → IsPrefixAnswer t ok prefix mark (Row n) → (mark < n) × (n ≤ max_rows t)
+  pub prefix-row-after : (mark n : ℕ) → IsPrefixAnswer t ok prefix mark (Ok (Row n)) → (mark < n) × (n ≤ max_rows t)
   prefix-row-after = next_row.row-after t ok sound (query_refusal t 16 (pattern_ok prefix)) (starts_with prefix) (counted_of t prefix)
 
   -- None leaves the mark, or moves it forward up to that number.
-  pub prefix-none-after : (mark m : ℕ) → IsPrefixAnswer t ok prefix mark (Nothing m) → (mark ≤ m) × ((m ≡ mark) ⊎ (m ≤ max_rows t))
+  pub prefix-none-after : (mark m : ℕ) → IsPrefixAnswer t ok prefix mark (Ok (Nothing m)) → (mark ≤ m) × ((m ≡ mark) ⊎ (m ≤ max_rows t))
   prefix-none-after = next_row.none_after t ok sound (query_refusal t 16 (pattern_ok prefix)) (starts_with prefix) (counted_of t prefix)
 
   -- A determined answer: for an accepted tree, and an accepted guide if there is one.
@@ -111,14 +116,14 @@ module _ (t : List ℕ) (ok : ℕ) (sound : ok ≡ 0 → check_result t ≡ 0) (
     rows = rows_of (text_of t)
 
     -- Where no question refuses: the row `next_with_prefix`; or none, with the mark moved to the number of rows, never back.
-    pub prefix-is : (mark : ℕ) (r : NextRowAnswer) → IsPrefixAnswer t ok prefix mark r → query_refusal t 16 (pattern_ok prefix) ≡ 0
-        → r ≡ cond (eqb (next_with_prefix prefix rows mark) 0)
-        (Nothing (outcome_at (next_with_prefix prefix rows mark) (length rows) mark).mark) (Row (next_with_prefix prefix rows mark))
+    pub prefix-is : (mark : ℕ) (r : Result NextRow Refusal) → IsPrefixAnswer t ok prefix mark r → query_refusal t 16 (pattern_ok prefix) ≡ 0
+        → r ≡ Ok (cond (eqb (next_with_prefix prefix rows mark) 0)
+        (Nothing (outcome_at (next_with_prefix prefix rows mark) (length rows) mark).mark) (Row (next_with_prefix prefix rows mark)))
     unfolding next_with_prefix next_outcome
     prefix-is = next_row.answer_is t ok sound (query_refusal t 16 (pattern_ok prefix)) (starts_with prefix) v
 
     -- A returned row is after the mark and becomes the mark.
-    pub prefix-rises : (mark n after : ℕ) → PrefixMoved t ok prefix mark (Row n) after → (mark < n) × (n ≤ length rows) × (after ≡ n)
+    pub prefix-rises : (mark n after : ℕ) → PrefixMoved t ok prefix mark (Ok (Row n)) after → (mark < n) × (n ≤ length rows) × (after ≡ n)
     prefix-rises = next_row.row-rises t ok sound (query_refusal t 16 (pattern_ok prefix)) (starts_with prefix) v
 
     -- repeated calls with the same prefix, each from the mark that the one before left, return these rows, then none
@@ -149,7 +154,7 @@ module _ (t : List ℕ) (ok : ℕ) (sound : ok ≡ 0 → check_result t ≡ 0) (
 
     -- Calls that keep the contract do return them all, then none.
     pub comes-to-none : query_refusal t 16 (pattern_ok prefix) ≡ 0
-        → ((mark : ℕ) → mark ≤ length rows → (r : NextRowAnswer) × IsPrefixAnswer t ok prefix mark r) → PrefixCalls 0 (rows_with_prefix prefix rows)
+        → ((mark : ℕ) → mark ≤ length rows → (r : Result NextRow Refusal) × IsPrefixAnswer t ok prefix mark r) → PrefixCalls 0 (rows_with_prefix prefix rows)
     unfolding rows_with_prefix
     comes-to-none = next_row.comes-to-none t ok sound (query_refusal t 16 (pattern_ok prefix)) (starts_with prefix) v
 

@@ -8,7 +8,8 @@ ghost use Rattle.query_row_filter.specs.AllowedRows.{AllowedAnswer, query_refusa
 use layout::header::Header;
 use prefix_match::prefix_scan::Prefix;
 use query_row_filter::rows_after::RowsStart;
-use query_row_filter::{NextRowAnswer, rows_after};
+use query_row_filter::{NextRow, rows_after};
+use refusals::Refusal;
 
 // Questions 16, 11 and 14. The guide is used if `used` is true.
 pub fn next_at(
@@ -18,16 +19,16 @@ pub fn next_at(
     used: bool,
     prefix: &[u8],
     mark: u32,
-) -> NextRowAnswer
+) -> Result<NextRow, Refusal>
     requires { HeaderOf t.now h }
     ensures { AllowedAnswer t.now (settled_by t.now guide.now used)
         (query_refusal t.now 16 (pattern_ok prefix.now)) (starts_with prefix.now) mark result }
 {
     if prefix.len() < 1 {
-        return NextRowAnswer::Refused(16);
+        return Err(Refusal::PatternLengthWrong);
     }
     if query_places::MAX_PATTERN < prefix.len() {
-        return NextRowAnswer::Refused(16);
+        return Err(Refusal::PatternLengthWrong);
     }
     let start = rows_after::begin(t, h, guide, used, mark);
     match start {

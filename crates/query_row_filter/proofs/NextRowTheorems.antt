@@ -18,31 +18,36 @@ use Rattle.theory_counts.specs.RowsOfText.{rows-total}
 use Rattle.row_filter.specs.SelectedRows.{NextRowOutcome, next_selected, outcome_at, next_outcome}
 use Rattle.row_filter.specs.SelectedRowNumbers.{selected_rows}
 use Rattle.row_filter.specs.SelectedRowLaws.{Next, no_more, next, next_of, Shows, shown-all, all_shown}
-use Rattle.query_row_filter.specs.declared.NextRowAnswer.{NextRowAnswer}
-use Rattle.query_row_filter.specs.declared.NextRowAnswer.TheVariants.{Row, Nothing, Refused}
+use Rattle.std.specs.Prelude.{Result, Ok, Err}
+use Rattle.refusals.specs.declared.Refusal.{Refusal}
+use Rattle.refusals.specs.declared.Refusal.TheVariants.{PathBroken}
+use Rattle.refusals.specs.Refusals.{refusal_number}
+use Rattle.refusals.specs.RefusalsLaws.{number-above, one-number}
+use Rattle.query_row_filter.specs.declared.NextRow.{NextRow}
+use Rattle.query_row_filter.specs.declared.NextRow.TheVariants.{Row, Nothing}
 use Rattle.query_row_filter.specs.AllowedRows.{refused_at, newline_refusal, query_refusal, max_rows, FreeOutcome}
 use Rattle.query_row_filter.specs.AllowedRows.{outcome_of, Numbered, AllowedAnswer, MarkMoved}
 
 -- The outcome of a refusal determines the answer.
-filter-refused-is : (mark : ℕ) (r : NextRowAnswer) (q : ℕ) → outcome_of mark r ≡ refused_at (suc q) mark → r ≡ Refused (suc q)
-filter-refused-is mark (Row n) q e = absurd (let z : ⊥ = omega (arith, ap (λ (s : NextRowOutcome). s.refusal) e) in z)
-filter-refused-is mark (Nothing m) q e = absurd (let z : ⊥ = omega (arith, ap (λ (s : NextRowOutcome). s.refusal) e) in z)
-filter-refused-is mark (Refused p) q e = ap Refused (ap (λ (s : NextRowOutcome). s.refusal) e)
+filter-refused-is : (mark : ℕ) (r : Result NextRow Refusal) (q : Refusal) → outcome_of mark r ≡ refused_at (refusal_number q) mark → r ≡ Err q
+filter-refused-is mark (Ok (Row n)) q e = absurd (let z : ⊥ = omega (arith, ap (λ (s : NextRowOutcome). s.refusal) e, number-above q) in z)
+filter-refused-is mark (Ok (Nothing m)) q e = absurd (let z : ⊥ = omega (arith, ap (λ (s : NextRowOutcome). s.refusal) e, number-above q) in z)
+filter-refused-is mark (Err p) q e = ap Err (one-number p q (ap (λ (s : NextRowOutcome). s.refusal) e))
 
 -- Two answers with the same outcome are the same.
-same-next-row : (mark : ℕ) (x y : NextRowAnswer) → Numbered x → Numbered y → outcome_of mark x ≡ outcome_of mark y → x ≡ y
-same-next-row mark (Row a) (Row b) k l e = ap Row (ap (λ (s : NextRowOutcome). s.row) e)
-same-next-row mark (Row a) (Nothing m) k l e = absurd (let z : ⊥ = omega (arith, ap (λ (s : NextRowOutcome). s.row) e) in z)
-same-next-row mark (Row a) (Refused n) k l e = absurd (let z : ⊥ = omega (arith, ap (λ (s : NextRowOutcome). s.refusal) e) in z)
-same-next-row mark (Nothing m) (Row b) k l e = absurd (let z : ⊥ = omega (arith, ap (λ (s : NextRowOutcome). s.row) e) in z)
-same-next-row mark (Nothing m) (Nothing n) k l e = ap Nothing (ap (λ (s : NextRowOutcome). s.mark) e)
-same-next-row mark (Nothing m) (Refused n) k l e = absurd (let z : ⊥ = omega (arith, ap (λ (s : NextRowOutcome). s.refusal) e) in z)
-same-next-row mark (Refused n) (Row b) k l e = absurd (let z : ⊥ = omega (arith, ap (λ (s : NextRowOutcome). s.refusal) e) in z)
-same-next-row mark (Refused n) (Nothing m) k l e = absurd (let z : ⊥ = omega (arith, ap (λ (s : NextRowOutcome). s.refusal) e) in z)
-same-next-row mark (Refused n) (Refused m) k l e = ap Refused (ap (λ (s : NextRowOutcome). s.refusal) e)
+same-next-row : (mark : ℕ) (x y : Result NextRow Refusal) → Numbered x → Numbered y → outcome_of mark x ≡ outcome_of mark y → x ≡ y
+same-next-row mark (Ok (Row a)) (Ok (Row b)) k l e = ap (λ (n : ℕ). Ok (Row n)) (ap (λ (s : NextRowOutcome). s.row) e)
+same-next-row mark (Ok (Row a)) (Ok (Nothing m)) k l e = absurd (let z : ⊥ = omega (arith, ap (λ (s : NextRowOutcome). s.row) e) in z)
+same-next-row mark (Ok (Row a)) (Err n) k l e = absurd (let z : ⊥ = omega (arith, ap (λ (s : NextRowOutcome). s.refusal) e) in z)
+same-next-row mark (Ok (Nothing m)) (Ok (Row b)) k l e = absurd (let z : ⊥ = omega (arith, ap (λ (s : NextRowOutcome). s.row) e) in z)
+same-next-row mark (Ok (Nothing m)) (Ok (Nothing n)) k l e = ap (λ (n : ℕ). Ok (Nothing n)) (ap (λ (s : NextRowOutcome). s.mark) e)
+same-next-row mark (Ok (Nothing m)) (Err n) k l e = absurd (let z : ⊥ = omega (arith, ap (λ (s : NextRowOutcome). s.refusal) e) in z)
+same-next-row mark (Err n) (Ok (Row b)) k l e = absurd (let z : ⊥ = omega (arith, ap (λ (s : NextRowOutcome). s.refusal) e) in z)
+same-next-row mark (Err n) (Ok (Nothing m)) k l e = absurd (let z : ⊥ = omega (arith, ap (λ (s : NextRowOutcome). s.refusal) e) in z)
+same-next-row mark (Err n) (Err m) k l e = ap Err (one-number n m (ap (λ (s : NextRowOutcome). s.refusal) e))
 
 -- Determined answers to the same search are equal.
-pub one-next-row : (t : List ℕ) (refusal : ℕ) (selected : List ℕ → Bool) (mark ok other : ℕ) → ok ≡ 0 → other ≡ 0 → (x y : NextRowAnswer)
+pub one-next-row : (t : List ℕ) (refusal : ℕ) (selected : List ℕ → Bool) (mark ok other : ℕ) → ok ≡ 0 → other ≡ 0 → (x y : Result NextRow Refusal)
     → AllowedAnswer t ok refusal selected mark x → AllowedAnswer t other refusal selected mark y → x ≡ y
 one-next-row t refusal selected mark ok other v w x y a b = same-next-row mark x y a.numbered b.numbered (go (lt-or-ge 0 refusal))
   where
@@ -77,8 +82,8 @@ module _ (q R mark : ℕ) where
       go false f = let z : (outcome_at q R mark).refusal ≡ 0 = rw f in omega (arith, ap (λ (s : NextRowOutcome). s.refusal) e)
 
   -- The outcome determines the answer.
-  next-answer : (r : NextRowAnswer) → Numbered r → outcome_of mark r ≡ outcome_at q R mark
-      → r ≡ cond (eqb q 0) (Nothing (outcome_at q R mark).mark) (Row q)
+  next-answer : (r : Result NextRow Refusal) → Numbered r → outcome_of mark r ≡ outcome_at q R mark
+      → r ≡ Ok (cond (eqb q 0) (Nothing (outcome_at q R mark).mark) (Row q))
   unfolding outcome_at
   next-answer r low s = go r low s (eqb q 0) refl
     where
@@ -88,19 +93,19 @@ module _ (q R mark : ℕ) where
       one : (b : Bool) → eqb q 0 ≡ b → b ≡ false → (outcome_at q R mark).row ≡ q
       one b e f = rw (e ∙ f)
 
-      go : (x : NextRowAnswer) → Numbered x
-          → outcome_of mark x ≡ outcome_at q R mark → (b : Bool) → eqb q 0 ≡ b → x ≡ cond b (Nothing (outcome_at q R mark).mark) (Row q)
-      go (Row n) low s true e = absurd (let y : ⊥ = omega (arith, ap (λ (w : NextRowOutcome). w.row) s, none true e refl) in y)
-      go (Row n) low s false e = ap Row (ap (λ (w : NextRowOutcome). w.row) s ∙ one false e refl)
-      go (Nothing m) low s true e = ap Nothing (ap (λ (w : NextRowOutcome). w.mark) s)
-      go (Nothing m) low s false e = absurd (let y : ⊥ = omega (arith, ap (λ (w : NextRowOutcome). w.row) s, one false e refl, eqb-false q 0 e) in y)
-      go (Refused n) low s b e = absurd (next-only n low s)
+      go : (x : Result NextRow Refusal) → Numbered x
+          → outcome_of mark x ≡ outcome_at q R mark → (b : Bool) → eqb q 0 ≡ b → x ≡ Ok (cond b (Nothing (outcome_at q R mark).mark) (Row q))
+      go (Ok (Row n)) low s true e = absurd (let y : ⊥ = omega (arith, ap (λ (w : NextRowOutcome). w.row) s, none true e refl) in y)
+      go (Ok (Row n)) low s false e = ap (λ (m : ℕ). Ok (Row m)) (ap (λ (w : NextRowOutcome). w.row) s ∙ one false e refl)
+      go (Ok (Nothing m)) low s true e = ap (λ (n : ℕ). Ok (Nothing n)) (ap (λ (w : NextRowOutcome). w.mark) s)
+      go (Ok (Nothing m)) low s false e = absurd (let y : ⊥ = omega (arith, ap (λ (w : NextRowOutcome). w.row) s, one false e refl, eqb-false q 0 e) in y)
+      go (Err n) low s b e = absurd (next-only (refusal_number n) low s)
 
 -- The questions before the walk: 5 to 7, the query's own, and 11.
 module _ (t : List ℕ) (k : ℕ) (ok : Bool) where
-  pub asked-unread : (q : ℕ) → header_result t ≡ suc q → query_refusal t k ok ≡ suc q
+  pub asked-unread : (q : Refusal) → header_result t ≡ refusal_number q → query_refusal t k ok ≡ refusal_number q
   unfolding query_refusal
-  asked-unread q e = rw (e, ne_eqb (suc q) 0 (λ z. omega arith))
+  asked-unread q e = rw (e, ne_eqb (refusal_number q) 0 (λ z. omega (arith, number-above q)))
 
   pub asked-bad : header_result t ≡ 0 → ok ≡ false → query_refusal t k ok ≡ k
   unfolding query_refusal
@@ -126,13 +131,13 @@ module _ (t : List ℕ) (ok : ℕ) (sound : ok ≡ 0 → check_result t ≡ 0) (
   -- For any bytes.
 
   -- A refusal leaves the mark.
-  pub refusal-leaves : (mark n after : ℕ) → MarkMoved t ok refusal selected mark (Refused n) after → after ≡ mark
+  pub refusal-leaves : (mark : ℕ) (n : Refusal) (after : ℕ) → MarkMoved t ok refusal selected mark (Err n) after → after ≡ mark
   refusal-leaves mark n after m = m.mark_is
 
-  module _ (mark : ℕ) (r : NextRowAnswer) (a : AllowedAnswer t ok refusal selected mark r) where
+  module _ (mark : ℕ) (r : Result NextRow Refusal) (a : AllowedAnswer t ok refusal selected mark r) where
     -- A question that refuses before the walk determines the answer.
-    pub refused-first : (q : ℕ) → refusal ≡ suc q → r ≡ Refused (suc q)
-    refused-first q e = filter-refused-is mark r q (a.answers.asked (rw e (omega arith)) ∙ rw e)
+    pub refused-first : (q : Refusal) → refusal ≡ refusal_number q → r ≡ Err q
+    refused-first q e = filter-refused-is mark r q (a.answers.asked (omega (arith, e, number-above q)) ∙ rw e)
 
     -- An answer that is no refusal passed every question before the walk.
     let_through : (outcome_of mark r).refusal ≡ 0 → refusal ≡ 0
@@ -148,22 +153,22 @@ module _ (t : List ℕ) (ok : ℕ) (sound : ok ≡ 0 → check_result t ≡ 0) (
     abbrev rows : List (List ℕ)
     rows = rows_of (text_of t)
 
-    settled : (mark : ℕ) (r : NextRowAnswer) → AllowedAnswer t ok refusal selected mark r → (outcome_of mark r).refusal ≡ 0
+    settled : (mark : ℕ) (r : Result NextRow Refusal) → AllowedAnswer t ok refusal selected mark r → (outcome_of mark r).refusal ≡ 0
         → outcome_of mark r ≡ next_outcome selected rows mark
     settled mark r a z = a.answers.accepted (let_through mark r a z) v
 
     -- Where no question refuses: the next selected row; or none, with the mark of `next_outcome`.
-    pub answer_is : (mark : ℕ) (r : NextRowAnswer) → AllowedAnswer t ok refusal selected mark r → refusal ≡ 0
-        → r ≡ cond (eqb (next_selected selected rows mark) 0) (Nothing (next_outcome selected rows mark).mark) (Row (next_selected selected rows mark))
+    pub answer_is : (mark : ℕ) (r : Result NextRow Refusal) → AllowedAnswer t ok refusal selected mark r → refusal ≡ 0
+        → r ≡ Ok (cond (eqb (next_selected selected rows mark) 0) (Nothing (next_outcome selected rows mark).mark) (Row (next_selected selected rows mark)))
     unfolding next_outcome
     answer_is mark r a z = next-answer (next_selected selected rows mark) (length rows) mark r a.numbered (a.answers.accepted z v)
 
     -- A returned row is after the mark and becomes the mark: so there are at most as many calls before none as rows.
-    pub row-rises : (mark n after : ℕ) → MarkMoved t ok refusal selected mark (Row n) after → (mark < n) × (n ≤ length rows) × (after ≡ n)
+    pub row-rises : (mark n after : ℕ) → MarkMoved t ok refusal selected mark (Ok (Row n)) after → (mark < n) × (n ≤ length rows) × (after ≡ n)
     row-rises mark n after m = go (next_of selected rows mark)
       where
         is : record { refusal = 0; row = n; mark = n } ≡ next_outcome selected rows mark
-        is = settled mark (Row n) m.answer refl
+        is = settled mark (Ok (Row n)) m.answer refl
 
         go : Next selected rows mark → (mark < n) × (n ≤ length rows) × (after ≡ n)
         go (no_more f _) = absurd (let z : n ≡ 0 = ap (λ (s : NextRowOutcome). s.row) is ∙ f in let y : ⊥ = omega (arith, m.answer.numbered) in y)
@@ -172,21 +177,21 @@ module _ (t : List ℕ) (ok : ℕ) (sound : ok ≡ 0 → check_result t ≡ 0) (
             (omega arith, omega arith, m.mark_is)
 
     -- None is returned only if no selected row is left, and the mark is then that of `next_outcome`.
-    pub none_moves : (mark m after : ℕ) → MarkMoved t ok refusal selected mark (Nothing m) after
+    pub none_moves : (mark m after : ℕ) → MarkMoved t ok refusal selected mark (Ok (Nothing m)) after
         → ((next_outcome selected rows mark).row ≡ 0) × (after ≡ (next_outcome selected rows mark).mark)
     none_moves mark m after k =
-        let e = settled mark (Nothing m) k.answer refl in
+        let e = settled mark (Ok (Nothing m)) k.answer refl in
         (sym (ap (λ (s : NextRowOutcome). s.row) e), k.mark_is ∙ ap (λ (s : NextRowOutcome). s.mark) e)
 
     -- repeated calls with the same query, each from the mark that the one before left, return these rows, then none
     abbrev pub Calls : ℕ → List ℕ → Type 0
-    Calls mark [] = (m : ℕ) × (after : ℕ) × MarkMoved t ok refusal selected mark (Nothing m) after
-    Calls mark (n ∷ ns) = (after : ℕ) × MarkMoved t ok refusal selected mark (Row n) after × Calls after ns
+    Calls mark [] = (m : ℕ) × (after : ℕ) × MarkMoved t ok refusal selected mark (Ok (Nothing m)) after
+    Calls mark (n ∷ ns) = (after : ℕ) × MarkMoved t ok refusal selected mark (Ok (Row n)) after × Calls after ns
 
     shows : (mark : ℕ) (ns : List ℕ) → Calls mark ns → Shows selected rows mark ns
     shows mark [] a = (none_moves mark a.0 a.1 a.2).0
     shows mark (n ∷ ns) a =
-        let e = settled mark (Row n) a.1.answer refl in
+        let e = settled mark (Ok (Row n)) a.1.answer refl in
         (sym e, a.1.answer.numbered, rw a.1.mark_is at (shows a.0 ns a.2))
 
     -- repeated calls from mark 0 return exactly the selected rows
@@ -194,25 +199,25 @@ module _ (t : List ℕ) (ok : ℕ) (sound : ok ≡ 0 → check_result t ≡ 0) (
     all-called ns a = shown-all selected rows ns (shows 0 ns a)
 
     -- Where no question refuses, calls that keep the contract do return all selected rows, then none.
-    module _ (through : refusal ≡ 0) (call : (mark : ℕ) → mark ≤ length rows → (r : NextRowAnswer) × AllowedAnswer t ok refusal selected mark r) where
-      answer-row : (mark n : ℕ) (r : NextRowAnswer) → AllowedAnswer t ok refusal selected mark r → 1 ≤ n
-          → next_outcome selected rows mark ≡ record { refusal = 0; row = n; mark = n } → r ≡ Row n
+    module _ (through : refusal ≡ 0) (call : (mark : ℕ) → mark ≤ length rows → (r : Result NextRow Refusal) × AllowedAnswer t ok refusal selected mark r) where
+      answer-row : (mark n : ℕ) (r : Result NextRow Refusal) → AllowedAnswer t ok refusal selected mark r → 1 ≤ n
+          → next_outcome selected rows mark ≡ record { refusal = 0; row = n; mark = n } → r ≡ Ok (Row n)
       answer-row mark n r a low e = go r a.numbered (a.answers.accepted through v ∙ e)
         where
-          go : (x : NextRowAnswer) → Numbered x → outcome_of mark x ≡ record { refusal = 0; row = n; mark = n } → x ≡ Row n
-          go (Row k) l s = ap Row (ap (λ (w : NextRowOutcome). w.row) s)
-          go (Nothing k) l s = absurd (let y : ⊥ = omega (arith, ap (λ (w : NextRowOutcome). w.row) s) in y)
-          go (Refused k) l s = absurd (let y : ⊥ = omega (arith, ap (λ (w : NextRowOutcome). w.refusal) s) in y)
+          go : (x : Result NextRow Refusal) → Numbered x → outcome_of mark x ≡ record { refusal = 0; row = n; mark = n } → x ≡ Ok (Row n)
+          go (Ok (Row k)) l s = ap (λ (m : ℕ). Ok (Row m)) (ap (λ (w : NextRowOutcome). w.row) s)
+          go (Ok (Nothing k)) l s = absurd (let y : ⊥ = omega (arith, ap (λ (w : NextRowOutcome). w.row) s) in y)
+          go (Err k) l s = absurd (let y : ⊥ = omega (arith, ap (λ (w : NextRowOutcome). w.refusal) s) in y)
 
-      answer-none : (mark : ℕ) (r : NextRowAnswer) → AllowedAnswer t ok refusal selected mark r → (next_outcome selected rows mark).row ≡ 0
-          → (m : ℕ) × (r ≡ Nothing m)
+      answer-none : (mark : ℕ) (r : Result NextRow Refusal) → AllowedAnswer t ok refusal selected mark r → (next_outcome selected rows mark).row ≡ 0
+          → (m : ℕ) × (r ≡ Ok (Nothing m))
       unfolding next_outcome
       answer-none mark r a e = go r a.numbered (a.answers.accepted through v)
         where
-          go : (x : NextRowAnswer) → Numbered x → outcome_of mark x ≡ next_outcome selected rows mark → (m : ℕ) × (x ≡ Nothing m)
-          go (Row k) l s = absurd (let y : ⊥ = omega (arith, ap (λ (w : NextRowOutcome). w.row) s) in y)
-          go (Nothing k) l s = (k, refl)
-          go (Refused k) l s = absurd (next-only (next_selected selected rows mark) (length rows) mark k l s)
+          go : (x : Result NextRow Refusal) → Numbered x → outcome_of mark x ≡ next_outcome selected rows mark → (m : ℕ) × (x ≡ Ok (Nothing m))
+          go (Ok (Row k)) l s = absurd (let y : ⊥ = omega (arith, ap (λ (w : NextRowOutcome). w.row) s) in y)
+          go (Ok (Nothing k)) l s = (k, refl)
+          go (Err k) l s = absurd (next-only (next_selected selected rows mark) (length rows) mark (refusal_number k) l s)
 
       asks : (mark : ℕ) (ns : List ℕ) → mark ≤ length rows → Shows selected rows mark ns → Calls mark ns
       asks mark [] high h =
@@ -222,7 +227,7 @@ module _ (t : List ℕ) (ok : ℕ) (sound : ok ≡ 0 → check_result t ≡ 0) (
       asks mark (n ∷ ns) high h =
           let a = call mark high in
           let e = answer-row mark n a.0 a.1 h.1 h.0 in
-          let m : MarkMoved t ok refusal selected mark (Row n) n = record { answer = rw e at a.1; mark_is = refl } in
+          let m : MarkMoved t ok refusal selected mark (Ok (Row n)) n = record { answer = rw e at a.1; mark_is = refl } in
           (n, m, asks n ns (row-rises mark n n m).1 h.2)
 
       pub comes-to-none : Calls 0 (selected_rows selected rows)
@@ -231,11 +236,11 @@ module _ (t : List ℕ) (ok : ℕ) (sound : ok ≡ 0 → check_result t ≡ 0) (
   -- For any bytes: what holds of every answer, also of an unspecified one.
   module _ (Counted-of : refusal ≡ 0 → is_counted t 10 ≡ true) where
     -- A returned row is after the mark and at most total + 1 of byte 10.
-    pub row-after : (mark n : ℕ) → AllowedAnswer t ok refusal selected mark (Row n) → (mark < n) × (n ≤ max_rows t)
+    pub row-after : (mark n : ℕ) → AllowedAnswer t ok refusal selected mark (Ok (Row n)) → (mark < n) × (n ≤ max_rows t)
     row-after mark n a = go (lt-or-ge 0 ok)
       where
         through : refusal ≡ 0
-        through = let_through mark (Row n) a refl
+        through = let_through mark (Ok (Row n)) a refl
 
         free : FreeOutcome t selected mark (record { refusal = 0; row = n; mark = n }) → (mark < n) × (n ≤ max_rows t)
         free (inl e) = absurd (let z : ⊥ = omega (arith, ap (λ (s : NextRowOutcome). s.refusal) e) in z)
@@ -250,12 +255,12 @@ module _ (t : List ℕ) (ok : ℕ) (sound : ok ≡ 0 → check_result t ≡ 0) (
             (w.0, omega (arith, w.1, (rows-total t (sound v) (Counted-of through)).1))
 
     -- None leaves the mark, or moves it forward up to that number.
-    pub none_after : (mark m : ℕ) → AllowedAnswer t ok refusal selected mark (Nothing m) → (mark ≤ m) × ((m ≡ mark) ⊎ (m ≤ max_rows t))
+    pub none_after : (mark m : ℕ) → AllowedAnswer t ok refusal selected mark (Ok (Nothing m)) → (mark ≤ m) × ((m ≡ mark) ⊎ (m ≤ max_rows t))
     unfolding next_outcome
     none_after mark m a = go (lt-or-ge 0 ok)
       where
         through : refusal ≡ 0
-        through = let_through mark (Nothing m) a refl
+        through = let_through mark (Ok (Nothing m)) a refl
 
         R : ℕ
         R = length (rows_of (text_of t))
@@ -281,18 +286,19 @@ module _ (t : List ℕ) (ok : ℕ) (sound : ok ≡ 0 → check_result t ≡ 0) (
             moved v w.1 (next_marks (next_selected selected (rows_of (text_of t)) mark) R mark w.0)
 
   -- A refusal is that of the questions before the walk; or 14, if the outcome is not determined.
-  pub refusal_is : (mark n : ℕ) → AllowedAnswer t ok refusal selected mark (Refused n) → (n ≡ refusal) ⊎ ((n ≡ 14) × (ok ≡ 0 → ⊥))
+  pub refusal_is : (mark : ℕ) (n : Refusal) → AllowedAnswer t ok refusal selected mark (Err n)
+      → (refusal_number n ≡ refusal) ⊎ ((n ≡ PathBroken) × (ok ≡ 0 → ⊥))
   unfolding next_outcome
   refusal_is mark n a = go (lt-or-ge 0 refusal) (lt-or-ge 0 ok)
     where
-      free : FreeOutcome t selected mark (refused_at n mark) → n ≡ 14
-      free (inl e) = ap (λ (s : NextRowOutcome). s.refusal) e
+      free : FreeOutcome t selected mark (refused_at (refusal_number n) mark) → n ≡ PathBroken
+      free (inl e) = one-number n PathBroken (ap (λ (s : NextRowOutcome). s.refusal) e)
       free (inr (inl h)) = absurd (let z : ⊥ = omega (arith, a.numbered, h.0) in z)
       free (inr (inr h)) = absurd (let z : ⊥ = omega (arith, a.numbered, h.0) in z)
 
-      go : (0 < refusal) ⊎ (refusal ≤ 0) → (0 < ok) ⊎ (ok ≤ 0) → (n ≡ refusal) ⊎ ((n ≡ 14) × (ok ≡ 0 → ⊥))
+      go : (0 < refusal) ⊎ (refusal ≤ 0) → (0 < ok) ⊎ (ok ≤ 0) → (refusal_number n ≡ refusal) ⊎ ((n ≡ PathBroken) × (ok ≡ 0 → ⊥))
       go (inl l) w = inl (ap (λ (s : NextRowOutcome). s.refusal) (a.answers.asked l))
       go (inr z) (inl w) = inr (free (a.answers.free (omega arith) (λ v. omega arith)), λ v. omega arith)
       go (inr z) (inr w) =
           let expected = a.answers.accepted (omega arith) (omega arith) in
-          absurd (next-only (next_selected selected (rows_of (text_of t)) mark) (length (rows_of (text_of t))) mark n a.numbered expected)
+          absurd (next-only (next_selected selected (rows_of (text_of t)) mark) (length (rows_of (text_of t))) mark (refusal_number n) a.numbered expected)

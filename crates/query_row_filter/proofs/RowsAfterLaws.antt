@@ -25,13 +25,13 @@ use Rattle.theory_counts.specs.Theorems as counts
 use Rattle.row_filter.specs.RowAutomaton.{Automaton, Scan, found, on, at_row, nothing, resume_scan, RowBetween, scan_bytes, at_end_of_text, finish_scan}
 use Rattle.row_filter.specs.RowAutomatonLaws.{scan-append}
 use Rattle.query_access.specs.declared.read_by_header.TreeRange.{TreeRange}
-use Rattle.query_access.specs.declared.read_by_header.RunRangeAnswer.{RunRangeAnswer}
-use Rattle.query_access.specs.declared.read_by_header.RunRangeAnswer.TheVariants as run
+use Rattle.std.specs.Prelude.{Some, None, Result, Ok, Err}
+use Rattle.refusals.specs.declared.Refusal.{Refusal}
+use Rattle.refusals.specs.declared.Refusal.TheVariants.{PathBroken}
 use Rattle.query_access.specs.ReadByRuns.{ReadsOn, IsRangeAnswer}
 use Rattle.query_access.proofs.RunLaws.{reads-substring}
-use Rattle.query_row_filter.specs.declared.NextRowAnswer.{NextRowAnswer}
-use Rattle.query_row_filter.specs.declared.NextRowAnswer.TheVariants.{Row, Nothing, Refused}
-use Rattle.std.proofs.Common.{Some, None}
+use Rattle.query_row_filter.specs.declared.NextRow.{NextRow}
+use Rattle.query_row_filter.specs.declared.NextRow.TheVariants.{Row, Nothing}
 use Rattle.query_row_filter.specs.RowsAfter.{FilterStartIs, PartFrom, FromRow, answer_of, end_result, SearchFrom, limited}
 
 -- The rest of a text, cut after x bytes.
@@ -40,16 +40,18 @@ unfolding substring
 rest-parts T p x = sym (take-append-drop x (drop p T)) ∙ ap (λ (r : List ℕ). take x (drop p T) ++ r) (drop-drop x p T)
 
 -- A row number above total + 1 becomes 14.
-module _ (newlines : ℕ) (x : NextRowAnswer) where
-  pub limit-row : (q : ℕ) (b : Bool) → x ≡ Row q → ltb (newlines + 1) q ≡ b → cond b (Refused 14) (Row q) ≡ limited newlines x
+module _ (newlines : ℕ) (x : Result NextRow Refusal) where
+  pub limit-row : (y : NextRow) (q : ℕ) (b : Bool) → x ≡ Ok y → y ≡ Row q → ltb (newlines + 1) q ≡ b
+      → cond b (Err PathBroken) (Ok (Row q)) ≡ limited newlines x
   unfolding limited
-  limit-row q b e g = rw (e, g)
+  limit-row y q b e f g = rw (e, f, g)
 
-  pub limit-none : (m : ℕ) (b : Bool) → x ≡ Nothing m → ltb (newlines + 1) m ≡ b → cond b (Refused 14) (Nothing m) ≡ limited newlines x
+  pub limit-none : (y : NextRow) (m : ℕ) (b : Bool) → x ≡ Ok y → y ≡ Nothing m → ltb (newlines + 1) m ≡ b
+      → cond b (Err PathBroken) (Ok (Nothing m)) ≡ limited newlines x
   unfolding limited
-  limit-none m b e g = rw (e, g)
+  limit-none y m b e f g = rw (e, f, g)
 
-  pub limit-refused : (n : ℕ) → x ≡ Refused n → Refused n ≡ limited newlines x
+  pub limit-refused : (n : Refusal) → x ≡ Err n → Err n ≡ limited newlines x
   unfolding limited
   limit-refused n e = rw e
 
@@ -84,19 +86,19 @@ pub start-asked : (t : List ℕ) (h : Header) (mark : ℕ)
 start-asked t h mark k c some high = record { pass = k.passes; counted = c; low = omega (arith, some); high = high }
 
 -- The bytes that are scanned next.
-module _ (t : List ℕ) (p : ℕ) (x : RunRangeAnswer) where
+module _ (t : List ℕ) (p : ℕ) (x : Result TreeRange Refusal) where
   pub part-from : (h : Header) → HeaderOf t h → p < h.text_length → (most : ℕ) → IsRangeAnswer t p most x → PartFrom t p x
   part-from h k low most e = by x refl e
     where
-      by : (y : RunRangeAnswer) → x ≡ y → IsRangeAnswer t p most y → PartFrom t p y
-      by (run.At part) z a = (a.0, a.1)
-      by (run.Refused number) z a = λ v. never-14 t k.passes p (omega (arith, k.length_is)) (accepted-links t v) a.1
+      by : (y : Result TreeRange Refusal) → x ≡ y → IsRangeAnswer t p most y → PartFrom t p y
+      by (Ok part) z a = (a.0, a.1)
+      by (Err q) z a = (a.0, λ v. never-14 t k.passes p (omega (arith, k.length_is)) (accepted-links t v) a.1)
 
-  pub part-reads : (part : TreeRange) → x ≡ run.At part → PartFrom t p x → (ReadsOn t p part.from part.length) × (1 ≤ part.length)
+  pub part-reads : (part : TreeRange) → x ≡ Ok part → PartFrom t p x → (ReadsOn t p part.from part.length) × (1 ≤ part.length)
   part-reads part e a = rw e at a
 
-  pub part_none : (number : ℕ) → x ≡ run.Refused number → PartFrom t p x → check_result t ≡ 0 → ⊥
-  part_none number e a = rw e at a
+  pub part_none : (q : Refusal) → x ≡ Err q → PartFrom t p x → (q ≡ PathBroken) × (check_result t ≡ 0 → ⊥)
+  part_none q e a = rw e at a
 
 -- The text is scanned part by part. Row q begins at place p₀; the scan has reached place p, in state f of row `row`.
 module _ {S : Type 0} (t : List ℕ) (m : Automaton S) (p₀ q : ℕ) where
@@ -116,8 +118,8 @@ module _ {S : Type 0} (t : List ℕ) (m : Automaton S) (p₀ q : ℕ) where
   pub search-begins : p₀ ≤ at.text_length t → Searching p₀ q m.start
   search-begins h = record { low = omega arith; high = h; above = omega arith; few = omega arith; far = refl }
 
-  pub search-broken : (check_result t ≡ 0 → ⊥) → SearchFrom t m p₀ q (Refused 14)
-  search-broken never = record { settled = inr (refl, never); rows = refl }
+  pub search-broken : (e : Refusal) → (e ≡ PathBroken) × (check_result t ≡ 0 → ⊥) → SearchFrom t m p₀ q (Err e)
+  search-broken e b = record { settled = inr (ap Err b.0, b.1); rows = b.0 }
 
   module _ (p row : ℕ) (f : S) (k : Searching p row f) where
     -- One more part: the slice of the tree's bytes that the code takes.
@@ -152,7 +154,7 @@ module _ {S : Type 0} (t : List ℕ) (m : Automaton S) (p₀ q : ℕ) where
               far = rw e at scanned;
             }
 
-        pub search-found : (n : ℕ) → r ≡ found n → SearchFrom t m p₀ q (Row n)
+        pub search-found : (n : ℕ) → r ≡ found n → SearchFrom t m p₀ q (Ok (Row n))
         unfolding finish_scan
         search-found n e =
             let b : (row ≤ n) × (n ≤ row + length part) = rw e at r-is.1 in
@@ -160,17 +162,17 @@ module _ {S : Type 0} (t : List ℕ) (m : Automaton S) (p₀ q : ℕ) where
             record { settled = inl (rw (← w)); rows = omega (arith, b.0, k.above) }
 
     -- The text's end.
-    end_low : 1 ≤ row → FromRow q (answer_of (at_end_of_text m f row))
+    end_low : 1 ≤ row → FromRow q (Ok (answer_of (at_end_of_text m f row)))
     unfolding at_end_of_text
     end_low some = by (m.at_end f) (m.no_byte f)
       where
-        by : (a b : Bool) → FromRow q (answer_of (cond a (at_row row) (cond b (nothing (row - 1)) (nothing row))))
+        by : (a b : Bool) → FromRow q (Ok (answer_of (cond a (at_row row) (cond b (nothing (row - 1)) (nothing row)))))
         by true b = k.above
         by false true = omega (arith, k.above)
         by false false = omega (arith, k.above)
 
     pub search-ends : at.text_length t ≤ p → 1 ≤ q → (a b : Bool) → a ≡ m.at_end f → b ≡ m.no_byte f
-        → (s : NextRowAnswer) → s ≡ answer_of (end_result a b row) → SearchFrom t m p₀ q s
+        → (s : NextRow) → s ≡ answer_of (end_result a b row) → SearchFrom t m p₀ q (Ok s)
     unfolding finish_scan scan_bytes at_end_of_text
     search-ends past some a b a_is b_is s s-is =
         let all : length T ≤ p = omega (arith, text-length t) in

@@ -1,13 +1,15 @@
 -- What a search for the next selected row may return.
 -- docs/FORMAT.md: "Keys".
-use Rattle.std.specs.Prelude.{List, [], ◌∷◌, Bool, ◌≡◌, ◌⊎◌, ℕ, ◌+◌, ◌≤◌, ◌<◌, drop}
+use Rattle.std.specs.Prelude.{List, [], ◌∷◌, Bool, ◌≡◌, ◌⊎◌, ℕ, ◌+◌, ◌≤◌, ◌<◌, drop, Result, Ok, Err}
 use Rattle.text.specs.Text.{rows_of}
 use Rattle.format.specs.Layout as at
 use Rattle.format.specs.TreeReading.{text_of, ask, asks, or_next, header_result}
 use Rattle.format.specs.Answers.{is_counted, number_of_byte, total}
 use Rattle.row_filter.specs.SelectedRows.{NextRowOutcome, first_selected, next_outcome}
-use Rattle.query_row_filter.specs.declared.NextRowAnswer.{NextRowAnswer}
-use Rattle.query_row_filter.specs.declared.NextRowAnswer.TheVariants.{Row, Nothing, Refused}
+use Rattle.refusals.specs.declared.Refusal.{Refusal}
+use Rattle.refusals.specs.Refusals.{refusal_number}
+use Rattle.query_row_filter.specs.declared.NextRow.{NextRow}
+use Rattle.query_row_filter.specs.declared.NextRow.TheVariants.{Row, Nothing}
 
 -- The outcomes that a search for the next selected row may have, for any bytes given as a tree and as a guide: one outcome if a question refuses or both are
 -- valid, else any of those that the format leaves unspecified.
@@ -54,23 +56,23 @@ pub record AllowedOutcome (t : List ℕ) (ok refusal : ℕ) (selected : List ℕ
 -- The answers that a search for the next selected row may return, and the mark after each.
 
 -- The outcome of an answer to a search from a mark.
-abbrev pub outcome_of : ℕ → NextRowAnswer → NextRowOutcome
-outcome_of mark (Row q) = record { refusal = 0; row = q; mark = q }
-outcome_of mark (Nothing m) = record { refusal = 0; row = 0; mark = m }
-outcome_of mark (Refused refusal) = refused_at refusal mark
+abbrev pub outcome_of : ℕ → Result NextRow Refusal → NextRowOutcome
+outcome_of mark (Ok (Row q)) = record { refusal = 0; row = q; mark = q }
+outcome_of mark (Ok (Nothing m)) = record { refusal = 0; row = 0; mark = m }
+outcome_of mark (Err e) = refused_at (refusal_number e) mark
 
 -- A returned row and a refusal are not 0.
-abbrev pub Numbered : NextRowAnswer → Type 0
-Numbered (Row q) = 1 ≤ q
-Numbered (Nothing m) = Unit {0}
-Numbered (Refused refusal) = 1 ≤ refusal
+abbrev pub Numbered : Result NextRow Refusal → Type 0
+Numbered (Ok (Row q)) = 1 ≤ q
+Numbered (Ok (Nothing m)) = Unit {0}
+Numbered (Err e) = 1 ≤ refusal_number e
 
 -- An allowed answer to a search from a mark.
-pub record AllowedAnswer (t : List ℕ) (ok refusal : ℕ) (selected : List ℕ → Bool) (mark : ℕ) (r : NextRowAnswer) : Type 0 where
+pub record AllowedAnswer (t : List ℕ) (ok refusal : ℕ) (selected : List ℕ → Bool) (mark : ℕ) (r : Result NextRow Refusal) : Type 0 where
   pub answers : AllowedOutcome t ok refusal selected mark (outcome_of mark r)
   pub numbered : Numbered r
 
 -- An allowed answer to a search from the mark `before`, and the mark `after` it.
-pub record MarkMoved (t : List ℕ) (ok refusal : ℕ) (selected : List ℕ → Bool) (before : ℕ) (r : NextRowAnswer) (after : ℕ) : Type 0 where
+pub record MarkMoved (t : List ℕ) (ok refusal : ℕ) (selected : List ℕ → Bool) (before : ℕ) (r : Result NextRow Refusal) (after : ℕ) : Type 0 where
   pub answer : AllowedAnswer t ok refusal selected before r
   pub mark_is : after ≡ (outcome_of before r).mark

@@ -3,10 +3,9 @@
 
 pub mod rows_after;
 
-// The next row, which is the new mark; or none, with the new mark; or the refusal, with the mark unchanged.
+// The next row, which is the new mark; or none, with the new mark. A search that is refused leaves the mark unchanged.
 #[derive(Clone, Copy)]
-pub enum NextRowAnswer {
+pub enum NextRow {
     Row(u32),
     Nothing(u32),
-    Refused(u32),
 }

@@ -6,13 +6,13 @@ ghost use Rattle.layout.specs.HeaderFields.{HeaderOf};
 ghost use Rattle.query_rows.specs.RowSpans.{settled_by};
 ghost use Rattle.query_row_filter.specs.RowsAfter.{FilterStartIs, BeginIs, PartFrom, SearchFrom, answer_of, end_result, limited};
 
-use crate::NextRowAnswer;
+use crate::NextRow;
 use layout::header::Header;
 use layout::place::TextPlace;
 use query_access::read_by_header;
-use query_access::read_by_header::RunRangeAnswer;
+use query_access::read_by_header::TreeRange;
 use query_rows::row_bounds;
-use query_select::FindAnswer;
+use refusals::Refusal;
 use row_filter::{RowScan, RowScanner};
 
 // The most bytes that are read at once: a selected row is often near.
@@ -22,7 +22,7 @@ const MOST: u32 = 1024;
 #[derive(Clone, Copy)]
 pub enum RowsStart {
     At(TextPlace, u64),
-    Answered(NextRowAnswer),
+    Answered(Result<NextRow, Refusal>),
 }
 
 // Question 11. A mark at or above the number of rows stays. The guide is used if `used` is true.
@@ -32,24 +32,24 @@ pub fn begin(t: &[u8], h: Header, guide: &[u8], used: bool, mark: u32) -> RowsSt
 {
     let number = query_counted::number_of(t, h.settings.counted, 10);
     if h.settings.counted <= number {
-        return RowsStart::Answered(NextRowAnswer::Refused(11));
+        return RowsStart::Answered(Err(Refusal::ByteNotCounted));
     }
     if h.text_length <= mark {
-        return RowsStart::Answered(NextRowAnswer::Nothing(mark));
+        return RowsStart::Answered(Ok(NextRow::Nothing(mark)));
     }
     let newlines = query_counted::total(t, h, number);
     if newlines < mark as u64 {
-        return RowsStart::Answered(NextRowAnswer::Nothing(mark));
+        return RowsStart::Answered(Ok(NextRow::Nothing(mark)));
     }
     let place = start(t, h, guide, used, number, mark);
     let Some(p) = place else {
-        return RowsStart::Answered(NextRowAnswer::Refused(14));
+        return RowsStart::Answered(Err(Refusal::PathBroken));
     };
     RowsStart::At(p, newlines)
 }
 
 // The bytes of the text from a place on that are scanned next, as a range of the tree's bytes.
-fn next_part(t: &[u8], h: Header, at: u32) -> RunRangeAnswer
+fn next_part(t: &[u8], h: Header, at: u32) -> Result<TreeRange, Refusal>
     requires { (HeaderOf t.now h) × (at < h.text_length) }
     ensures { PartFrom t.now at result }
 {
@@ -63,7 +63,7 @@ pub fn search<A: RowScanner>(
     automaton: A,
     place: TextPlace,
     q: u32,
-) -> NextRowAnswer
+) -> Result<NextRow, Refusal>
     requires { (HeaderOf t.now h) × (place.0 ≤ h.text_length) × (1 ≤ q) × (q ≤ h.text_length) }
     ensures { SearchFrom t.now (A.automaton automaton) place.0 q result }
 {
@@ -72,15 +72,12 @@ pub fn search<A: RowScanner>(
     let mut at = place.0;
     // A `while`: the length of the next part is found in the loop, so there is no range to go over.
     while at < h.text_length {
-        let range = next_part(t, h, at);
-        let RunRangeAnswer::At(part) = range else {
-            return NextRowAnswer::Refused(14);
-        };
+        let part = next_part(t, h, at)?;
         let begin = part.from;
         let end = begin + part.length;
         match row_filter::scan(automaton, &t[begin..end], so_far, row) {
             RowScan::Found(number) => {
-                return NextRowAnswer::Row(number);
+                return Ok(NextRow::Row(number));
             }
             RowScan::On(state, number) => {
                 so_far = state;
@@ -89,21 +86,21 @@ pub fn search<A: RowScanner>(
         }
         at += part.length as u32;
     }
-    end_of_text(automaton.at_end(so_far), automaton.no_byte(so_far), row)
+    Ok(end_of_text(automaton.at_end(so_far), automaton.no_byte(so_far), row))
 }
 
 // The answer where the text ends in row q, which is selected or not, and empty or not: a row without a byte does not count.
-fn end_of_text(selected: bool, empty: bool, q: u32) -> NextRowAnswer
+fn end_of_text(selected: bool, empty: bool, q: u32) -> NextRow
     requires { 1 ≤ q }
     ensures { result ≡ answer_of (end_result selected empty q) }
 {
     if selected {
-        return NextRowAnswer::Row(q);
+        return NextRow::Row(q);
     }
     if empty {
-        return NextRowAnswer::Nothing(q - 1);
+        return NextRow::Nothing(q - 1);
     }
-    NextRowAnswer::Nothing(q)
+    NextRow::Nothing(q)
 }
 
 // Where the rows after a mark begin: the place after the byte 10 that ends the mark's row (select); for mark 0 the text's start. None if the walk to that
@@ -117,7 +114,7 @@ fn start(t: &[u8], h: Header, guide: &[u8], used: bool, number: u32, mark: u32) 
         return Some(TextPlace(0));
     }
     let found = row_bounds::find_newline(t, h, guide, used, number, mark);
-    let FindAnswer::At(end, _) = found else {
+    let Ok((end, _)) = found else {
         return None;
     };
     Some(TextPlace(end.0 + 1))
@@ -134,22 +131,22 @@ fn past(q: u32, newlines: u64) -> bool
 }
 
 // No accepted tree has a row number above total + 1.
-pub fn limit(answer: NextRowAnswer, newlines: u64) -> NextRowAnswer
+pub fn limit(answer: Result<NextRow, Refusal>, newlines: u64) -> Result<NextRow, Refusal>
     ensures { result ≡ limited newlines answer }
 {
-    match answer {
-        NextRowAnswer::Row(q) => {
+    let found = answer?;
+    match found {
+        NextRow::Row(q) => {
             if past(q, newlines) {
-                return NextRowAnswer::Refused(14);
+                return Err(Refusal::PathBroken);
             }
-            NextRowAnswer::Row(q)
+            Ok(found)
         }
-        NextRowAnswer::Nothing(m) => {
+        NextRow::Nothing(m) => {
             if past(m, newlines) {
-                return NextRowAnswer::Refused(14);
+                return Err(Refusal::PathBroken);
             }
-            NextRowAnswer::Nothing(m)
+            Ok(found)
         }
-        NextRowAnswer::Refused(number) => NextRowAnswer::Refused(number),
     }
 }

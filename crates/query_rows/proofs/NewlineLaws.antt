@@ -1,7 +1,7 @@
 -- The newline that ends a row, read on to from the row's start.
 use mathlib.Core.List.{List}
 use mathlib.Core.Bool.{Bool, true, false, cond}
-use mathlib.Core.Path.{◌≡◌, refl, sym, ◌∙◌}
+use mathlib.Core.Path.{◌≡◌, refl, sym, ap, ◌∙◌}
 use Prim.Native.Nat.{ℕ, zero, suc, ◌+◌, ◌-◌, ◌≤◌, ◌<◌}
 use native.Mathlib.Omega.{arith}
 use borrow.Author.Tests.{eq-eqb, ne_eqb, eqb-true, eqb-false}
@@ -11,6 +11,7 @@ use Rattle.text.specs.Text.{substring, count_in}
 use Rattle.text.specs.TextLaws.{substring-ext}
 use Rattle.text.specs.CountLaws.{Nth}
 use Rattle.text.proofs.CountTheorems.{count_none, count_add, nth_past}
+use Rattle.text.specs.declared.TextPlace.{TextPlace}
 use Rattle.format.specs.Layout as at
 use Rattle.format.specs.TreeReading.{text_of, check_result}
 use Rattle.format.specs.CheckResultLaws.{accepted-links}
@@ -21,11 +22,9 @@ use Rattle.layout.specs.declared.header.Header.{Header}
 use Rattle.layout.specs.HeaderFields.{HeaderOf}
 use Rattle.byte_slices.specs.ByteSlices.{HasBytes}
 use Rattle.query_access.specs.declared.read_by_header.LeafRun.{LeafRun}
-use Rattle.std.specs.Prelude.{Option, Some}
+use Rattle.std.specs.Prelude.{Option, Some, None}
 use Rattle.query_access.specs.ReadByRuns.{ReadsOn, LeafRangeAt, ReadsFrom, LeafRangeOf}
 use Rattle.query_access.proofs.LeafRunLaws.{access-none-read, range-found, range-read, found-range}
-use Rattle.query_rows.specs.declared.next_newline.Newline.{Newline}
-use Rattle.std.proofs.Common.{Some, None}
 use Rattle.query_rows.specs.RowEnds.{EndsRow, NewlineIs}
 
 pub text-small : (t : List ℕ) (h : Header) → HeaderOf t h → at.text_length t < 4294967296
@@ -48,14 +47,18 @@ none-at-start t p h =
     }
 
 module _ (t : List ℕ) (p : ℕ) where
-  found-is : (n : Newline) → (EndsRow t p n.0.0 n.1) × (ReadsFrom t p n.2) → NewlineIs t p (Some n)
-  found-is n r = record {
-    found = λ m is. (let e : n ≡ m = cc in rw (← e) r);
+  found-is : (e before : ℕ) (run : LeafRun) → (EndsRow t p e before) × (ReadsFrom t p run) → NewlineIs t p (Some (record { 0 = e }, before, run))
+  found-is e before run r = record {
+    found = λ q b u is. (let z : ◌≡◌ {A = TextPlace × ℕ × LeafRun} (record { 0 = e }, before, run) (q, b, u) = cc in
+        let x : e ≡ q.0 = ap (λ (w : TextPlace × ℕ × LeafRun). w.0.0) z in
+        let y : before ≡ b = ap (λ (w : TextPlace × ℕ × LeafRun). w.1) z in
+        let v : run ≡ u = ap (λ (w : TextPlace × ℕ × LeafRun). w.2) z in
+        rw (← x, ← y, ← v) r);
     missing = λ is. absurd (let z : ◌≡◌ {A = ℕ} 0 1 = cc in omega arith);
   }
 
   missing-is : (check_result t ≡ 0 → (o : ℕ) → Nth 10 1 (text_of t) p o → ⊥) → NewlineIs t p None
-  missing-is never = record { found = λ m is. absurd (let z : ◌≡◌ {A = ℕ} 0 1 = cc in omega arith); missing = λ is. never }
+  missing-is never = record { found = λ q b u is. absurd (let z : ◌≡◌ {A = ℕ} 0 1 = cc in omega arith); missing = λ is. never }
 
   module _ (place earlier : ℕ) (i : NoneYet t p place earlier) where
     -- The text ends before a newline.
@@ -92,10 +95,9 @@ module _ (t : List ℕ) (p : ℕ) where
               let f : suc y - 1 ≡ y = omega arith in
               rw (ne_eqb (suc y) 0 (λ z. omega arith), e, f) (reads.bytes y (omega arith))
 
-      pub newline-in-run : x < size → (run : LeafRun) → ReadsFrom t p run → NewlineIs t p (Some (record { 0 = record { 0 = place + x }; 1 = before; 2 = run }))
+      pub newline-in-run : x < size → (run : LeafRun) → ReadsFrom t p run → NewlineIs t p (Some (record { 0 = place + x }, before, run))
       newline-in-run l run reads-run =
-          found-is (record { 0 = record { 0 = place + x }; 1 = before; 2 = run })
-          (record { past = omega (arith, i.past); first = first; before-is = before-x }, reads-run)
+          found-is (place + x) before run (record { past = omega (arith, i.past); first = first; before-is = before-x }, reads-run)
         where
           o : place + x - p ≡ place - p + x
           o = omega (arith, i.past)

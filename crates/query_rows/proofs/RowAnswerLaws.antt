@@ -17,21 +17,19 @@ use Rattle.format.specs.AnswerLaws.{unless-number}
 use Rattle.format.specs.Answers.{is_unterminated_row, row_refusal, row_most, RowBy}
 use Rattle.theory_paths.specs.Theorems as paths
 use Rattle.theory_paths.specs.OneText.{text-length}
-use Rattle.layout.specs.declared.header.HeaderAnswer.{HeaderAnswer}
-use Rattle.layout.specs.declared.header.HeaderAnswer.TheVariants as header
+use Rattle.std.specs.Prelude.{Result, Ok, Err}
+use Rattle.text.specs.declared.TextPlace.{TextPlace}
+use Rattle.refusals.specs.declared.Refusal.{Refusal}
+use Rattle.refusals.specs.Refusals.{refusal_number}
+use Rattle.refusals.specs.RefusalsLaws.{number-above}
+use Rattle.layout.specs.declared.header.Header.{Header}
 use Rattle.layout.specs.Header.{header_answer}
 use Rattle.query_access.specs.ReadAnswers.{span_reply}
-use Rattle.query_access.specs.declared.SpanAnswer.{SpanAnswer}
-use Rattle.query_access.specs.declared.SpanAnswer.TheVariants as of
 use Rattle.query_access.proofs.SpanLaws.{ByPaths, values, no_room}
 use Rattle.layout.specs.HeaderFields.{header_refused}
-use Rattle.query_rows.specs.declared.row_bounds.RowBounds.{RowBounds}
-use Rattle.query_rows.specs.declared.row_bounds.RowBounds.TheVariants as edges
-use Rattle.query_rows.specs.declared.RowAnswer.{RowAnswer}
-use Rattle.query_rows.specs.declared.RowAnswer.TheVariants as row
 use Rattle.query_rows.specs.RowAnswers.{row_reply, RowAnswerBy}
 use Rattle.query_access.specs.declared.read_by_header.LeafRun.{LeafRun}
-use Rattle.query_rows.specs.RowSpans.{bounds_refusal, IsRowCopy, Refuses, Spans, EdgesOf}
+use Rattle.query_rows.specs.RowSpans.{IsRowCopy, Refuses, Spans, EdgesOf}
 use Rattle.query_access.specs.ReadByRuns as access
 
 row-refused : (t : List ℕ) (ok q n : ℕ) (buffer : List ℕ) → Refuses t ok (row_refusal t q) (row_of (text_of t) q) n → RowBy t ok q buffer n 0 buffer
@@ -109,43 +107,40 @@ none-entered : (k len : ℕ) → (unless k (record { number = 0; value = len; en
 none-entered zero len = refl
 none-entered (suc k) len = refl
 
-module _ (t : List ℕ) (p len room : ℕ) (x : SpanAnswer) (a : access.IsCopyAnswer t p len room x) where
+module _ (t : List ℕ) (p len room : ℕ) (x : Result (ℕ × ℕ) Refusal) (a : access.IsCopyAnswer t p len room x) where
   -- Bytes that access copied, as the row's.
-  pub row-bytes : (n entered : ℕ) → x ≡ of.Bytes n entered → IsRowCopy t p len room (row.Bytes n)
+  pub row-bytes : (n entered : ℕ) → x ≡ Ok (n, entered) → IsRowCopy t p len room (Ok n)
   unfolding copy_answer
   row-bytes n entered e =
-      let s : replied (span_reply (of.Bytes n entered)) ≡ copy_answer t p len room = rw e at a.answers in
+      let s : replied (span_reply (Ok (n, entered))) ≡ copy_answer t p len room = rw e at a.answers in
       let z : entered ≡ 0 = ap (λ (y : Answer). y.entered) s ∙ none-entered (copy_refusal t p len room) len in
       record { answers = rw z at s; numbered = tt }
 
   -- The refusal of the copy is passed on.
-  pub row-passed : (n k : ℕ) → x ≡ of.Refused k → n ≡ (replied (span_reply x)).number → IsRowCopy t p len room (row.Refused n)
-  row-passed n k e m =
-      let z : n ≡ k = m ∙ ap (λ (y : SpanAnswer). (replied (span_reply y)).number) e in
-      record { answers = rw z (rw e at a.answers); numbered = rw z (rw e at a.numbered) }
+  pub row-passed : (k : Refusal) → x ≡ Err k → IsRowCopy t p len room (Err k)
+  row-passed k e = record { answers = rw e at a.answers; numbered = rw e at a.numbered }
 
 -- As the code returns it.
 
-pub copied : (t : List ℕ) (p len : ℕ) (d after : List ℕ) (r : RowAnswer) → NeverZero (row_reply r) → ByPaths t p len d (replied (row_reply r)) after
+pub copied : (t : List ℕ) (p len : ℕ) (d after : List ℕ) (r : Result ℕ Refusal) → NeverZero (row_reply r) → ByPaths t p len d (replied (row_reply r)) after
     → IsRowCopy t p len (length d) r × (after ≡ copy_buffer t p len d)
 unfolding copy_answer copy_refusal copy_buffer
 copied t p len d after r numbered k = (record { answers = k.answers; numbered = numbered }, k.leaves)
 
-pub row-edges : (t : List ℕ) (ok q : ℕ) (x : RowBounds) (n k : ℕ) (buffer : List ℕ) → EdgesOf t ok (row_refusal t q) (row_of (text_of t) q) (row_most t q) x
-    → x ≡ edges.Refused k → n ≡ bounds_refusal x → RowAnswerBy t ok q buffer (row.Refused n) buffer
-row-edges t ok q x n k buffer h e n-is =
-    let z : n ≡ k = n-is ∙ rw e in
-    rw z (record { answers = row-refused t ok q k buffer (h.refused k e); numbered = (h.refused k e).low })
+pub row-edges : (t : List ℕ) (ok q : ℕ) (x : Result (TextPlace × ℕ × LeafRun) Refusal) (k : Refusal) (buffer : List ℕ)
+    → EdgesOf t ok (row_refusal t q) (row_of (text_of t) q) (row_most t q) x → x ≡ Err k → RowAnswerBy t ok q buffer (Err k) buffer
+row-edges t ok q x k buffer h e =
+    record { answers = row-refused t ok q (refusal_number k) buffer (h.refused k e); numbered = number-above k }
 
 -- A tree that does not pass questions 5 to 7.
-pub row-unread : (t : List ℕ) (ok q : ℕ) (buffer : List ℕ) (x : HeaderAnswer)
-    → x ≡ header_answer t → (n : ℕ) → x ≡ header.Refused n → RowAnswerBy t ok q buffer (row.Refused n) buffer
+pub row-unread : (t : List ℕ) (ok q : ℕ) (buffer : List ℕ) (x : Result Header Refusal)
+    → x ≡ header_answer t → (n : Refusal) → x ≡ Err n → RowAnswerBy t ok q buffer (Err n) buffer
 unfolding find_refusal is_unterminated_row row_refusal
 row-unread t ok q buffer x x-is n e =
     let z = header_refused t x x-is n e in
     let m : row_refusal t q ≡ suc z.0 = rw (z.1, ne_eqb (suc z.0) 0 (λ y. omega arith)) in
     record {
-      answers = row-refused t ok q n buffer (record {
+      answers = row-refused t ok q (refusal_number n) buffer (record {
         low = omega (arith, z.2);
         asked = λ l. z.2 ∙ sym m;
         accepted = λ y v. omega arith;

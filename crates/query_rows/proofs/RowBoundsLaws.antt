@@ -3,7 +3,7 @@ use mathlib.Core.List.{List}
 use mathlib.Core.Bool.{Bool, true, false, cond, ◌&&◌}
 use mathlib.Core.Path.{◌≡◌, refl, sym, ap, ◌∙◌}
 use mathlib.Core.Logic.{◌⊎◌, inl, inr}
-use Prim.Native.Nat.{ℕ, suc, ◌+◌, ◌-◌, ◌≤◌, ◌<◌}
+use Prim.Native.Nat.{ℕ, ◌+◌, ◌-◌, ◌≤◌, ◌<◌}
 use native.Mathlib.Omega.{arith}
 use borrow.Author.Tests.{eqb-true, eq-eqb, ne_eqb, lt-ltb, le-ltb, lt-leb}
 use lib.ListN.{length, get_or}
@@ -25,33 +25,27 @@ use Rattle.theory_paths.specs.PlaceBytes.{only-14}
 use Rattle.theory_paths.specs.OneText.{text-length}
 use Rattle.layout.specs.declared.header.Header.{Header}
 use Rattle.layout.specs.HeaderFields.{HeaderOf}
-use Rattle.query_access.specs.declared.ByteAnswer.{ByteAnswer}
-use Rattle.query_access.specs.declared.ByteAnswer.TheVariants as answer
+use Rattle.std.specs.Prelude.{Option, Some, None, Result, Ok, Err}
+use Rattle.refusals.specs.declared.Refusal.{Refusal}
+use Rattle.refusals.specs.declared.Refusal.TheVariants.{ByteNotCounted, NoSuchOccurrence, PathBroken}
+use Rattle.refusals.specs.Refusals.{refusal_number}
+use Rattle.refusals.specs.RefusalsLaws.{number-above}
 use Rattle.query_access.specs.ReadAnswers.{byte_reply}
 use Rattle.query_access.specs.declared.read_by_header.LeafRun.{LeafRun}
 use Rattle.query_access.proofs.LeafRunLaws.{access-none-read}
 use Rattle.query_counted.proofs.TotalLaws.{not-counted, is-counted}
 use Rattle.theory_counts.specs.Theorems as counts
-use Rattle.query_select.specs.declared.FindAnswer.{FindAnswer}
-use Rattle.query_select.specs.declared.FindAnswer.TheVariants as found-is
-use Rattle.query_rows.specs.declared.row_bounds.RowBounds.{RowBounds}
-use Rattle.query_rows.specs.declared.row_bounds.RowBounds.TheVariants as edges
 use Rattle.query_select.specs.Found.{find_reply, IsFindAnswer, FoundBy}
 use Rattle.query_select.proofs.FoundLaws.{refused-not, refused-free, place_is, place-in-text}
 use Rattle.query_guide.proofs.GuideList.{guide-checked}
-use Rattle.query_guided.specs.declared.FindGuidedAnswer.{FindGuidedAnswer}
 use Rattle.query_guided.specs.Guided.{IsFindGuidedAnswer, find_guided_reply, steps_of}
 use Rattle.query_guided.specs.GuidedWalk.{SoughtBy, found_of}
 use Rattle.query_guided.proofs.GuidedFindLaws.{found-by, guided-sought}
 use Rattle.query_select.specs.SoughtPlaces.{Sought}
 use Rattle.query_select.proofs.FindByHeaderLaws as find
 use Rattle.theory_counts.specs.CountsLocal.{byte_of}
-use Rattle.query_rows.specs.declared.next_newline.Newline.{Newline}
-use Rattle.std.proofs.Common.{Option, Some, None}
-use Rattle.query_rows.specs.declared.row_bounds.RowStart.{RowStart}
-use Rattle.query_rows.specs.declared.row_bounds.RowStart.TheVariants as start
 use Rattle.query_rows.specs.RowSpans.{settled_by, Refuses, Spans, EdgesOf}
-use Rattle.query_rows.specs.RowEnds.{EndsRow, NewlineIs, start_refusal, StartIs}
+use Rattle.query_rows.specs.RowEnds.{EndsRow, NewlineIs, StartIs}
 
 -- The number that settles a row is 0 for accepted trees alone.
 pub settled-sound : (t guide : List ℕ) (used : Bool) → settled_by t guide used ≡ 0 → check_result t ≡ 0
@@ -60,12 +54,13 @@ settled-sound t guide true e = guide-checked t guide e
 settled-sound t guide false e = e
 
 -- A find, by the guide and without it.
-pub ten-guided : (t guide : List ℕ) (used : Bool) (j : ℕ) (g : FindGuidedAnswer) (r : FindAnswer)
+pub ten-guided : (t guide : List ℕ) (used : Bool) (j : ℕ) (g : Result (TextPlace × ℕ × ℕ) Refusal) (r : Result (TextPlace × ℕ) Refusal)
     → used ≡ true → IsFindGuidedAnswer t guide 10 j g → r ≡ found_of g → FoundBy t (settled_by t guide used) 10 j r
 unfolding settled_by
 ten-guided t guide used j g r e a is = rw (e, is) (found-by t guide 10 j g a)
 
-pub ten-plain : (t guide : List ℕ) (used : Bool) (j : ℕ) (r : FindAnswer) → used ≡ false → IsFindAnswer t 10 j r → FoundBy t (settled_by t guide used) 10 j r
+pub ten-plain : (t guide : List ℕ) (used : Bool) (j : ℕ) (r : Result (TextPlace × ℕ) Refusal) → used ≡ false → IsFindAnswer t 10 j r
+    → FoundBy t (settled_by t guide used) 10 j r
 unfolding settled_by
 ten-plain t guide used j r e a = rw e a
 
@@ -75,14 +70,14 @@ module _ (t guide : List ℕ) (h : Header) (k : HeaderOf t h) (number j : ℕ) (
   pub ten-ready : (HeaderOf t h) × (number < at.counted_count t) × (10 ≡ byte_of t number) × (1 ≤ j) × (j ≤ total t number)
   ten-ready = find.seek-ready t h k 10 j number is counted (total t number) refl low high
 
-  pub ten-by-guide : (used : Bool) (g : FindGuidedAnswer) (r : FindAnswer) → used ≡ true
+  pub ten-by-guide : (used : Bool) (g : Result (TextPlace × ℕ × ℕ) Refusal) (r : Result (TextPlace × ℕ) Refusal) → used ≡ true
       → SoughtBy t guide 10 number j (replied (find_guided_reply g)) (steps_of g) → NeverZero (find_guided_reply g)
       → r ≡ found_of g → FoundBy t (settled_by t guide used) 10 j r
   ten-by-guide used g r e z nb r-is =
       ten-guided t guide used j g r e
       (guided-sought t guide 10 j number g is (find.asked-none t h k 10 j number is counted (total t number) refl low high) z nb) r-is
 
-  pub ten-by-steps : (used : Bool) (r : FindAnswer) → used ≡ false → Sought t 10 j (replied (find_reply r)) → NeverZero (find_reply r)
+  pub ten-by-steps : (used : Bool) (r : Result (TextPlace × ℕ) Refusal) → used ≡ false → Sought t 10 j (replied (find_reply r)) → NeverZero (find_reply r)
       → FoundBy t (settled_by t guide used) 10 j r
   ten-by-steps used r e z nb = ten-plain t guide used j r e (record {
     answers = find.find-sought t h k 10 j number is counted (total t number) refl (replied (find_reply r)) low high z;
@@ -92,38 +87,38 @@ module _ (t guide : List ℕ) (h : Header) (k : HeaderOf t h) (number j : ℕ) (
 -- The edges.
 
 module _ (t : List ℕ) (ok number : ℕ) (row : List ℕ) (most : ℕ) where
-  not-spans : (n : ℕ) → Refuses t ok number row n → EdgesOf t ok number row most (edges.Refused n)
+  not-spans : (n : Refusal) → Refuses t ok number row (refusal_number n) → EdgesOf t ok number row most (Err n)
   not-spans n r = record {
     refused = λ m e. (let z : n ≡ m = cc in rw (← z) r);
     spans = λ s len run e. absurd (let z : ◌≡◌ {A = ℕ} 0 1 = cc in omega arith);
   }
 
-  spans-at : (s len : ℕ) (run : LeafRun) → Spans t ok number row most s len run → EdgesOf t ok number row most (edges.At (record { 0 = s }) len run)
+  spans-at : (s len : ℕ) (run : LeafRun) → Spans t ok number row most s len run → EdgesOf t ok number row most (Ok (record { 0 = s }, len, run))
   spans-at s len run r = record {
     refused = λ m e. absurd (let z : ◌≡◌ {A = ℕ} 0 1 = cc in omega arith);
-    spans = λ p n u e. (let z : record { 0 = s } ≡ p = cc in
-        let y : len ≡ n = cc in
-        let v : run ≡ u = cc in
-        let x : s ≡ p.0 = ap (λ (w : TextPlace). w.0) z in
+    spans = λ p n u e. (let z : ◌≡◌ {A = TextPlace × ℕ × LeafRun} (record { 0 = s }, len, run) (p, n, u) = cc in
+        let x : s ≡ p.0 = ap (λ (w : TextPlace × ℕ × LeafRun). w.0.0) z in
+        let y : len ≡ n = ap (λ (w : TextPlace × ℕ × LeafRun). w.1) z in
+        let v : run ≡ u = ap (λ (w : TextPlace × ℕ × LeafRun). w.2) z in
         rw (← x, ← y, ← v) r);
   }
 
   -- Refused by a question before the walk.
-  before-walk : (n : ℕ) → 1 ≤ n → n ≡ number → EdgesOf t ok number row most (edges.Refused n)
-  before-walk n low is = not-spans n (record {
-    low = low;
+  before-walk : (n : Refusal) → refusal_number n ≡ number → EdgesOf t ok number row most (Err n)
+  before-walk n is = not-spans n (record {
+    low = number-above n;
     asked = λ l. is;
-    accepted = λ z v. omega arith;
-    free = λ z. absurd (let y : ⊥ = omega arith in y);
+    accepted = λ z v. omega (arith, number-above n);
+    free = λ z. absurd (let y : ⊥ = omega (arith, number-above n) in y);
   })
 
   -- Refused in the walk.
-  in-walk : number ≡ 0 → (n : ℕ) → (ok ≡ 0 → ⊥) → n ≡ 14 → EdgesOf t ok number row most (edges.Refused n)
+  in-walk : number ≡ 0 → (n : Refusal) → (ok ≡ 0 → ⊥) → n ≡ PathBroken → EdgesOf t ok number row most (Err n)
   in-walk passed n never is = not-spans n (record {
-    low = omega arith;
+    low = number-above n;
     asked = λ l. absurd (let z : ⊥ = omega arith in z);
     accepted = λ z. never;
-    free = λ z. is;
+    free = λ z. ap refusal_number is;
   })
 
 -- Where row q starts, if a newline ends it.
@@ -134,7 +129,7 @@ module _ (t : List ℕ) (ok : ℕ) (q : ℕ) where
   abbrev row : List ℕ
   row = trimmed (between (text_of t) q)
 
-  no_start : (n : ℕ) → Refuses t ok number row n → StartIs t ok q (start.Refused n)
+  no_start : (n : Refusal) → Refuses t ok number row (refusal_number n) → StartIs t ok q (Err n)
   no_start n r = record {
     refused = λ m e. (let z : n ≡ m = cc in rw (← z) r);
     asked = λ p e. absurd (let z : ◌≡◌ {A = ℕ} 0 1 = cc in omega arith);
@@ -142,7 +137,7 @@ module _ (t : List ℕ) (ok : ℕ) (q : ℕ) where
     accepted = λ p e. absurd (let z : ◌≡◌ {A = ℕ} 0 1 = cc in omega arith);
   }
 
-  starts-at : (s : ℕ) → number ≡ 0 → s ≤ at.text_length t → (ok ≡ 0 → s ≡ row_from (text_of t) q) → StartIs t ok q (start.At (record { 0 = s }))
+  starts-at : (s : ℕ) → number ≡ 0 → s ≤ at.text_length t → (ok ≡ 0 → s ≡ row_from (text_of t) q) → StartIs t ok q (Ok (record { 0 = s }))
   starts-at s asked within settled = record {
     refused = λ m e. absurd (let z : ◌≡◌ {A = ℕ} 0 1 = cc in omega arith);
     asked = λ p e. asked;
@@ -150,34 +145,34 @@ module _ (t : List ℕ) (ok : ℕ) (q : ℕ) where
     accepted = λ p e v. rw (same p e) (settled v);
   }
     where
-      same : (p : TextPlace) → start.At (record { 0 = s }) ≡ start.At p → p.0 ≡ s
+      same : (p : TextPlace) → ◌≡◌ {A = Result TextPlace Refusal} (Ok (record { 0 = s })) (Ok p) → p.0 ≡ s
       same p e = let z : record { 0 = s } ≡ p = cc in sym (ap (λ (w : TextPlace). w.0) z)
 
   -- A question before the walk refuses.
-  start-asked : (n : ℕ) → number ≡ suc n → StartIs t ok q (start.Refused (suc n))
-  start-asked n is = no_start (suc n) (record {
-    low = omega arith;
+  start-asked : (n : Refusal) → number ≡ refusal_number n → StartIs t ok q (Err n)
+  start-asked n is = no_start n (record {
+    low = number-above n;
     asked = λ l. sym is;
-    accepted = λ z. absurd (let y : ⊥ = omega arith in y);
-    free = λ z. absurd (let y : ⊥ = omega arith in y);
+    accepted = λ z. absurd (let y : ⊥ = omega (arith, number-above n) in y);
+    free = λ z. absurd (let y : ⊥ = omega (arith, number-above n) in y);
   })
 
   module _ (h : Header) (k : HeaderOf t h) (c : ℕ) (is : c ≡ number_of_byte t 10) where
-    pub start-uncounted : h.settings.counted ≤ c → StartIs t ok q (start.Refused 11)
+    pub start-uncounted : h.settings.counted ≤ c → StartIs t ok q (Err ByteNotCounted)
     unfolding find_refusal
-    start-uncounted past = start-asked 10 (rw (k.passes, not-counted t h k 10 c is past))
+    start-uncounted past = start-asked ByteNotCounted (rw (k.passes, not-counted t h k 10 c is past))
 
     module _ (low : c < h.settings.counted) where
-      pub start-zero : q ≡ 0 → StartIs t ok q (start.Refused 12)
+      pub start-zero : q ≡ 0 → StartIs t ok q (Err NoSuchOccurrence)
       unfolding find_refusal
-      start-zero z = start-asked 11 (rw (k.passes, is-counted t h k 10 c is low, lt-leb 1 q (omega arith)))
+      start-zero z = start-asked NoSuchOccurrence (rw (k.passes, is-counted t h k 10 c is low, lt-leb 1 q (omega arith)))
 
       module _ (all : ℕ) (all-is : all ≡ total t c) where
-        pub start-past : all < q → StartIs t ok q (start.Refused 12)
+        pub start-past : all < q → StartIs t ok q (Err NoSuchOccurrence)
         unfolding find_refusal
         start-past past =
             let e : total t (number_of_byte t 10) ≡ all = rw (all-is, is) in
-            start-asked 11 (rw (k.passes, is-counted t h k 10 c is low, e, lt-leb q all past, and-false (leb 1 q)))
+            start-asked NoSuchOccurrence (rw (k.passes, is-counted t h k 10 c is low, e, lt-leb q all past, and-false (leb 1 q)))
 
         module _ (some : q ≡ 0 → ⊥) (high : q ≤ all) where
           selected : Selected t 10 q
@@ -191,11 +186,12 @@ module _ (t : List ℕ) (ok : ℕ) (q : ℕ) where
           let_through : number ≡ 0
           let_through = select-lets t 10 q selected
 
-          pub start_first : q ≡ 1 → StartIs t ok q (start.At (record { 0 = 0 }))
+          pub start_first : q ≡ 1 → StartIs t ok q (Ok (record { 0 = 0 }))
           unfolding row_from
           start_first one = starts-at 0 let_through (omega arith) (λ v. rw one)
 
-          module _ (more : q ≡ 1 → ⊥) (sound : ok ≡ 0 → check_result t ≡ 0) (found : FindAnswer) (says : FindBy t ok 10 (q - 1) (replied (find_reply found)))
+          module _ (more : q ≡ 1 → ⊥) (sound : ok ≡ 0 → check_result t ≡ 0)
+              (found : Result (TextPlace × ℕ) Refusal) (says : FindBy t ok 10 (q - 1) (replied (find_reply found)))
             where
               before-asked : Selected t 10 (q - 1)
               before-asked = record {
@@ -205,24 +201,21 @@ module _ (t : List ℕ) (ok : ℕ) (q : ℕ) where
                 high = omega (arith, selected.high);
               }
 
-              pub start-refused : (j n : ℕ) → found ≡ found-is.Refused j → n ≡ (replied (find_reply found)).number → NeverZero (find_reply found)
-                  → StartIs t ok q (start.Refused n)
-              start-refused j n e n-is numbered =
-                  let m : n ≡ j = n-is ∙ rw e in
-                  let low : 1 ≤ j = rw e at numbered in
+              pub start-refused : (n : Refusal) → found ≡ Err n → StartIs t ok q (Err n)
+              start-refused n e =
                   let z = select-lets t 10 (q - 1) before-asked in
                   no_start n (record {
-                    low = omega arith;
+                    low = number-above n;
                     asked = λ l. absurd (let y : ⊥ = omega (arith, let_through) in y);
-                    accepted = λ y v. refused-not t ok 10 (q - 1) sound found says j e z v;
-                    free = λ y. rw m (refused-free t ok 10 (q - 1) sound found says j e z low);
+                    accepted = λ y v. refused-not t ok 10 (q - 1) sound found says n e z v;
+                    free = λ y. ap refusal_number (refused-free t ok 10 (q - 1) sound found says n e z);
                   })
 
-              module _ (before : TextPlace) (figure : ℕ) (found_at : found ≡ found-is.At before figure) where
+              module _ (before : TextPlace) (figure : ℕ) (found_at : found ≡ Ok (before, figure)) where
                 pub before-below : before.0 < h.text_length
                 before-below = omega (arith, place-in-text t ok 10 (q - 1) sound found says before figure found_at, k.length_is)
 
-                pub start-later : StartIs t ok q (start.At (record { 0 = before.0 + 1 }))
+                pub start-later : StartIs t ok q (Ok (record { 0 = before.0 + 1 }))
                 unfolding row_from
                 start-later = starts-at (before.0 + 1) let_through (omega (arith, before-below, k.length_is))
                     (λ v. rw (ne_eqb q 1 more, place_is t ok 10 (q - 1) sound found says before figure found_at v))
@@ -271,17 +264,15 @@ module _ (len before : ℕ) where
     cr-kept n = rw (lt-ltb 0 len (omega (arith, some)), ne_eqb 13 before (λ e. n (sym e)))
 
 -- The bounds of a row that ends in a newline.
-module _ (t : List ℕ) (ok : ℕ) (sound : ok ≡ 0 → check_result t ≡ 0) (q : ℕ) (x : RowStart) (starts : StartIs t ok q x) where
+module _ (t : List ℕ) (ok : ℕ) (sound : ok ≡ 0 → check_result t ≡ 0) (q : ℕ) (x : Result TextPlace Refusal) (starts : StartIs t ok q x) where
   -- The newline that ends it is none of its bytes.
   abbrev end_most : ℕ
   end_most = at.text_length t - 1
 
-  pub edges-no-start : (j n : ℕ) → x ≡ start.Refused j → n ≡ start_refusal x → EdgesOf t ok (number t ok q) (row t ok q) end_most (edges.Refused n)
-  edges-no-start j n e n-is =
-      let z : n ≡ j = n-is ∙ rw e in
-      not-spans t ok (number t ok q) (row t ok q) end_most n (rw z (starts.refused j e))
+  pub edges-no-start : (n : Refusal) → x ≡ Err n → EdgesOf t ok (number t ok q) (row t ok q) end_most (Err n)
+  edges-no-start n e = not-spans t ok (number t ok q) (row t ok q) end_most n (starts.refused n e)
 
-  module _ (p : TextPlace) (is : x ≡ start.At p) where
+  module _ (p : TextPlace) (is : x ≡ Ok p) where
     pub start-within : p.0 ≤ at.text_length t
     start-within = starts.within p is
 
@@ -294,24 +285,24 @@ module _ (t : List ℕ) (ok : ℕ) (sound : ok ≡ 0 → check_result t ≡ 0) (
     in-book : ok ≡ 0 → q ≤ count_in 10 (text_of t)
     in-book v = rw (counts.total-of-text t (sound v) 10 chosen.counted) at chosen.high
 
-    module _ (y : Option Newline) (ends : NewlineIs t p.0 y) where
-      pub edges-no-end : y ≡ None → EdgesOf t ok (number t ok q) (row t ok q) end_most (edges.Refused 14)
+    module _ (y : Option (TextPlace × ℕ × LeafRun)) (ends : NewlineIs t p.0 y) where
+      pub edges-no-end : y ≡ None → EdgesOf t ok (number t ok q) (row t ok q) end_most (Err PathBroken)
       edges-no-end none =
           let o = place_of 10 q (text_of t) - row_from (text_of t) q in
           let there : ok ≡ 0 → Nth 10 1 (text_of t) p.0 o =
           λ v. rw (starts.accepted p is v) (some_end (text_of t) q chosen.low (in-book v)) in
-          in-walk t ok (number t ok q) (row t ok q) end_most asked 14 (λ v. ends.missing none (sound v) o (there v)) refl
+          in-walk t ok (number t ok q) (row t ok q) end_most asked PathBroken (λ v. ends.missing none (sound v) o (there v)) refl
 
-      module _ (e : Newline) (at-e : y ≡ Some e) where
-        end : EndsRow t p.0 e.0.0 e.1
-        end = (ends.found e at-e).0
+      module _ (e : TextPlace) (before : ℕ) (run : LeafRun) (at-e : y ≡ Some (e, before, run)) where
+        end : EndsRow t p.0 e.0 before
+        end = (ends.found e before run at-e).0
 
-        pub end-past : p.0 ≤ e.0.0
+        pub end-past : p.0 ≤ e.0
         end-past = end.past
 
         -- The bytes up to it.
         abbrev len : ℕ
-        len = e.0.0 - p.0
+        len = e.0 - p.0
 
         in_text : p.0 + len < length (text_of t)
         in_text = omega (arith, end.first.within)
@@ -320,38 +311,38 @@ module _ (t : List ℕ) (ok : ℕ) (sound : ok ≡ 0 → check_result t ≡ 0) (
         unfolding between
         whole v =
             let s = starts.accepted p is v in
-            let f = row-end (text_of t) q chosen.low (in-book v) e.0.0 (rw s at end-past) (rw s at end.first) in
+            let f = row-end (text_of t) q chosen.low (in-book v) e.0 (rw s at end-past) (rw s at end.first) in
             rw (s, f)
 
-        pub edges-trimmed : (n : ℕ) → n ≡ cond (ltb 0 len && eqb 13 e.1) (len - 1) len
-            → EdgesOf t ok (number t ok q) (row t ok q) end_most (edges.At p n e.2)
-        edges-trimmed n n-is = spans-at t ok (number t ok q) (row t ok q) end_most p.0 n e.2 (record {
+        pub edges-trimmed : (n : ℕ) → n ≡ cond (ltb 0 len && eqb 13 before) (len - 1) len
+            → EdgesOf t ok (number t ok q) (row t ok q) end_most (Ok (p, n, run))
+        edges-trimmed n n-is = spans-at t ok (number t ok q) (row t ok q) end_most p.0 n run (record {
           asked = asked;
           within = omega (arith, at_most, in_text, text-length t);
           short = omega (arith, at_most, in_text, text-length t);
           accepted = λ v. rw n-is (cut (lt-or-ge 0 len)) ∙ ap trimmed (whole v);
-          reads = (ends.found e at-e).1;
+          reads = (ends.found e before run at-e).1;
         })
           where
             at_most : n ≤ len
-            at_most = rw n-is (less (ltb 0 len && eqb 13 e.1))
+            at_most = rw n-is (less (ltb 0 len && eqb 13 before))
               where
                 less : (b : Bool) → cond b (len - 1) len ≤ len
                 less true = omega arith
                 less false = omega arith
 
             cut : (0 < len) ⊎ (len ≤ 0)
-                → substring (text_of t) p.0 (cond (ltb 0 len && eqb 13 e.1) (len - 1) len) ≡ trimmed (substring (text_of t) p.0 len)
+                → substring (text_of t) p.0 (cond (ltb 0 len && eqb 13 before) (len - 1) len) ≡ trimmed (substring (text_of t) p.0 len)
             cut (inr none) = let z : len ≡ 0 = omega arith in rw z (sym (trimmed-none (text_of t) p.0))
-            cut (inl some) = rw (lt-ltb 0 len some) (go (eqb 13 e.1) refl)
+            cut (inl some) = rw (lt-ltb 0 len some) (go (eqb 13 before) refl)
               where
-                byte : get_or (text_of t) (p.0 + (len - 1)) 0 ≡ e.1
-                byte = let z : p.0 + (len - 1) ≡ e.0.0 - 1 = omega (arith, end-past) in rw z (sym (end.before-is (omega arith)))
+                byte : get_or (text_of t) (p.0 + (len - 1)) 0 ≡ before
+                byte = let z : p.0 + (len - 1) ≡ e.0 - 1 = omega (arith, end-past) in rw z (sym (end.before-is (omega arith)))
 
-                go : (b : Bool) → eqb 13 e.1 ≡ b → substring (text_of t) p.0 (cond b (len - 1) len) ≡ trimmed (substring (text_of t) p.0 len)
-                go true f = sym (trimmed-mark (text_of t) p.0 len some (omega (arith, in_text)) (byte ∙ sym (eqb-true 13 e.1 f)))
+                go : (b : Bool) → eqb 13 before ≡ b → substring (text_of t) p.0 (cond b (len - 1) len) ≡ trimmed (substring (text_of t) p.0 len)
+                go true f = sym (trimmed-mark (text_of t) p.0 len some (omega (arith, in_text)) (byte ∙ sym (eqb-true 13 before f)))
                 go false f = sym (trimmed-plain (text_of t) p.0 len some (omega (arith, in_text))
-                    (λ z. bool_clash (eqb 13 e.1) (eq-eqb 13 e.1 (sym (sym byte ∙ z))) f))
+                    (λ z. bool_clash (eqb 13 before) (eq-eqb 13 before (sym (sym byte ∙ z))) f))
 
 -- Whether q is the row after the last byte 10.
 module _ (t : List ℕ) (h : Header) (k : HeaderOf t h) (q number : ℕ) (is : number ≡ number_of_byte t 10) where
@@ -438,23 +429,23 @@ module _ (t : List ℕ) (h : Header) (k : HeaderOf t h) (q : ℕ) (asks : is_unt
       let e : q ≡ count_in 10 (text_of t) + 1 = a.number ∙ ap (λ (n : ℕ). n + 1) (counts.total-of-text t v 10 a.counted) in
       rw e (row_last (text_of t))
 
-  module _ (ok : ℕ) (sound : ok ≡ 0 → check_result t ≡ 0) (x : ByteAnswer) (x-is : replied (byte_reply x) ≡ byte_answer t (h.text_length - 1)) where
+  module _ (ok : ℕ) (sound : ok ≡ 0 → check_result t ≡ 0) (x : Result (ℕ × ℕ) Refusal) (x-is : replied (byte_reply x) ≡ byte_answer t (h.text_length - 1)) where
     here-answer : byte_answer t (at.text_length t - 1) ≡ replied (byte_reply x)
     here-answer = rw (← k.length_is) (sym x-is)
 
     -- The last byte is refused.
-    pub last-broken : (m n : ℕ) → x ≡ answer.Refused m → n ≡ (replied (byte_reply x)).number → EdgesOf t ok last_number last_row last_most (edges.Refused n)
-    last-broken m n e n-is =
+    pub last-broken : (n : Refusal) → x ≡ Err n → EdgesOf t ok last_number last_row last_most (Err n)
+    last-broken n e =
         let p = at.text_length t - 1 in
-        let same : byte_answer t p ≡ refused m = here-answer ∙ rw e in
-        let z : (byte_answer t p).number ≡ 14 = only-14 t k.passes p (omega (arith, a.some_byte)) m (sym same) in
-        let y : n ≡ 14 = n-is ∙ ap (λ (s : Answer). s.number) (sym here-answer) ∙ z in
-        before-walk t ok last_number last_row last_most n (omega arith) (y ∙ rw z)
+        let same : byte_answer t p ≡ refused (refusal_number n) = here-answer ∙ rw e in
+        let z : (byte_answer t p).number ≡ 14 = only-14 t k.passes p (omega (arith, a.some_byte)) (refusal_number n) (sym same) in
+        let y : refusal_number n ≡ 14 = ap (λ (s : Answer). s.number) (sym same) ∙ z in
+        before-walk t ok last_number last_row last_most n (y ∙ rw z)
 
-    module _ (value figure : ℕ) (is : x ≡ answer.Byte value figure) where
+    module _ (value figure : ℕ) (is : x ≡ Ok (value, figure)) where
       -- The last byte is 10.
-      pub last-ten : value ≡ 10 → EdgesOf t ok last_number last_row last_most (edges.Refused 12)
-      last-ten ten = before-walk t ok last_number last_row last_most 12 (omega arith) (sym (rw (here-answer, is, ten)))
+      pub last-ten : value ≡ 10 → EdgesOf t ok last_number last_row last_most (Err NoSuchOccurrence)
+      last-ten ten = before-walk t ok last_number last_row last_most NoSuchOccurrence (sym (rw (here-answer, is, ten)))
 
       module _ (other : value ≡ 10 → ⊥) where
         passed : last_number ≡ 0
@@ -462,7 +453,7 @@ module _ (t : List ℕ) (h : Header) (k : HeaderOf t h) (q : ℕ) (asks : is_unt
 
         -- No byte 10 is before it.
         pub last-whole : q ≡ 1 → (run : LeafRun) → (run.length ≡ 0) × (run.from ≡ 0)
-            → EdgesOf t ok last_number last_row last_most (edges.At (record { 0 = 0 }) h.text_length run)
+            → EdgesOf t ok last_number last_row last_most (Ok (record { 0 = 0 }, h.text_length, run))
         unfolding row_from
         last-whole one run none = spans-at t ok last_number last_row last_most 0 h.text_length run (record {
           asked = passed;
@@ -474,27 +465,23 @@ module _ (t : List ℕ) (h : Header) (k : HeaderOf t h) (q : ℕ) (asks : is_unt
           reads = access-none-read t 0 run none.0 none.1;
         })
 
-        module _ (more : q ≡ 1 → ⊥) (found : FindAnswer) (said-found : FindBy t ok 10 (q - 1) (replied (find_reply found))) where
+        module _ (more : q ≡ 1 → ⊥) (found : Result (TextPlace × ℕ) Refusal) (said-found : FindBy t ok 10 (q - 1) (replied (find_reply found))) where
           last-asked : Selected t 10 (q - 1)
           last-asked = record { pass = a.pass; counted = a.counted; low = omega (arith, a.number, more); high = omega (arith, a.number) }
 
           -- The last byte 10 is refused.
-          pub last-no-start : (j n : ℕ)
-              → found ≡ found-is.Refused j → n ≡ (replied (find_reply found)).number → NeverZero (find_reply found)
-              → EdgesOf t ok last_number last_row last_most (edges.Refused n)
-          last-no-start j n e n-is numbered =
-              let m : n ≡ j = n-is ∙ rw e in
-              let low : 1 ≤ j = rw e at numbered in
+          pub last-no-start : (n : Refusal) → found ≡ Err n → EdgesOf t ok last_number last_row last_most (Err n)
+          last-no-start n e =
               let z = select-lets t 10 (q - 1) last-asked in
-              in-walk t ok last_number last_row last_most passed n (λ v. refused-not t ok 10 (q - 1) sound found said-found j e z v)
-              (rw m (refused-free t ok 10 (q - 1) sound found said-found j e z low))
+              in-walk t ok last_number last_row last_most passed n (λ v. refused-not t ok 10 (q - 1) sound found said-found n e z v)
+              (refused-free t ok 10 (q - 1) sound found said-found n e z)
 
-          module _ (before : TextPlace) (other-figure : ℕ) (found_at : found ≡ found-is.At before other-figure) where
+          module _ (before : TextPlace) (other-figure : ℕ) (found_at : found ≡ Ok (before, other-figure)) where
             pub last-past : before.0 < h.text_length
             last-past = omega (arith, place-in-text t ok 10 (q - 1) sound found said-found before other-figure found_at, k.length_is)
 
             pub last-from : (run : LeafRun) → (run.length ≡ 0) × (run.from ≡ 0)
-                → EdgesOf t ok last_number last_row last_most (edges.At (record { 0 = before.0 + 1 }) (h.text_length - (before.0 + 1)) run)
+                → EdgesOf t ok last_number last_row last_most (Ok (record { 0 = before.0 + 1 }, h.text_length - (before.0 + 1), run))
             unfolding row_from
             last-from run none = spans-at t ok last_number last_row last_most (before.0 + 1) (h.text_length - (before.0 + 1)) run (record {
               asked = passed;
@@ -508,13 +495,15 @@ module _ (t : List ℕ) (h : Header) (k : HeaderOf t h) (q : ℕ) (asks : is_unt
 
 -- The edges of row q, by which of the two it is.
 module _ (t : List ℕ) (ok : ℕ) (sound : ok ≡ 0 → check_result t ≡ 0) (q : ℕ) where
-  pub edges-last : (r : RowBounds) → true ≡ is_unterminated_row t q → EdgesOf t ok (last_row_refusal (byte_answer t (at.text_length t - 1))) (row_of (text_of t) q)
+  pub edges-last : (r : Result (TextPlace × ℕ × LeafRun) Refusal) → true ≡ is_unterminated_row t q
+      → EdgesOf t ok (last_row_refusal (byte_answer t (at.text_length t - 1))) (row_of (text_of t) q)
       (row_most t q) r
       → EdgesOf t ok (row_refusal t q) (row_of (text_of t) q) (row_most t q) r
   edges-last r asks e = rw (row-number-last t q (sym asks)) e
 
   -- ended by a newline
-  pub edges-ended : (r : RowBounds) → false ≡ is_unterminated_row t q → EdgesOf t ok (find_refusal t 10 q) (trimmed (between (text_of t) q)) (at.text_length t - 1) r
+  pub edges-ended : (r : Result (TextPlace × ℕ × LeafRun) Refusal) → false ≡ is_unterminated_row t q
+      → EdgesOf t ok (find_refusal t 10 q) (trimmed (between (text_of t) q)) (at.text_length t - 1) r
       → EdgesOf t ok (row_refusal t q) (row_of (text_of t) q) (row_most t q) r
   unfolding row_most
   edges-ended r asks e = rw (row-number-plain t q (sym asks)) (record {
@@ -530,6 +519,6 @@ module _ (t : List ℕ) (ok : ℕ) (sound : ok ≡ 0 → check_result t ≡ 0) (
   })
 
   -- Refused before the walk.
-  pub edges-refused : (n : ℕ) → false ≡ is_unterminated_row t q → StartIs t ok q (start.Refused n)
-      → EdgesOf t ok (row_refusal t q) (row_of (text_of t) q) (row_most t q) (edges.Refused n)
-  edges-refused n asks s = edges-ended (edges.Refused n) asks (edges-no-start t ok sound q (start.Refused n) s n n refl refl)
+  pub edges-refused : (n : Refusal) → false ≡ is_unterminated_row t q → StartIs t ok q (Err n)
+      → EdgesOf t ok (row_refusal t q) (row_of (text_of t) q) (row_most t q) (Err n)
+  edges-refused n asks s = edges-ended (Err n) asks (edges-no-start t ok sound q (Err n) s n refl)

@@ -1,30 +1,26 @@
 -- What row, row_length and row_count return.
 -- docs/FORMAT.md: "Row".
-use Rattle.std.specs.Prelude.{List, ℕ, ◌+◌, ◌-◌, ◌≤◌, ◌<◌, Bool, cond, not, ◌&&◌, ◌≡◌, ◌⊎◌, length, ltb, eqb}
+use Rattle.std.specs.Prelude.{List, ℕ, ◌+◌, ◌-◌, ◌≤◌, ◌<◌, Bool, cond, not, ◌&&◌, ◌≡◌, ◌⊎◌, length, ltb, eqb, Result, Ok, Err}
 use Rattle.format.specs.TreeReading.{check_result, ask, or_next, header_result, text_of}
 use Rattle.format.specs.Answers.{Reply, figures, refusal, Allowed, Answer, unless, Is, RowBy, row_refusal, row_most, byte_answer, is_counted, number_of_byte, total}
-use Rattle.query_rows.specs.declared.RowAnswer.{RowAnswer}
-use Rattle.query_rows.specs.declared.RowAnswer.TheVariants.{Bytes, Refused}
+use Rattle.refusals.specs.declared.Refusal.{Refusal}
+use Rattle.refusals.specs.Refusals.{refusal_number}
 use Rattle.text.specs.Text.{row_of}
 use Rattle.format.specs.Layout as at
-use Rattle.query_rows.specs.declared.RowLengthAnswer.{RowLengthAnswer}
-use Rattle.query_rows.specs.declared.RowLengthAnswer.TheVariants as size
-use Rattle.query_rows.specs.declared.RowCountAnswer.{RowCountAnswer}
-use Rattle.query_rows.specs.declared.RowCountAnswer.TheVariants as count
 
 -- The answer of row by its refusal and length (docs/FORMAT.md, "Row").
 
 -- The bytes of the row, or the number of the question that refuses.
-abbrev pub row_reply : RowAnswer → Reply
-row_reply (Bytes size) = figures size 0
-row_reply (Refused number) = refusal number
+abbrev pub row_reply : Result ℕ Refusal → Reply
+row_reply (Ok size) = figures size 0
+row_reply (Err e) = refusal (refusal_number e)
 
 -- What a row answers that is settled where `ok` is 0: row's own is the check's number, that of a row with a guide the guide's.
-abbrev pub RowAnswerBy : (t : List ℕ) (ok q : ℕ) (buffer : List ℕ) → RowAnswer → List ℕ → Type 0
+abbrev pub RowAnswerBy : (t : List ℕ) (ok q : ℕ) (buffer : List ℕ) → Result ℕ Refusal → List ℕ → Type 0
 RowAnswerBy t ok q buffer r after = Allowed row_reply (λ s. RowBy t ok q buffer s.number s.value after) r
 
 -- The answer of row without a guide.
-abbrev pub IsRowAnswer : (t : List ℕ) (q : ℕ) (buffer : List ℕ) → RowAnswer → List ℕ → Type 0
+abbrev pub IsRowAnswer : (t : List ℕ) (q : ℕ) (buffer : List ℕ) → Result ℕ Refusal → List ℕ → Type 0
 IsRowAnswer t = RowAnswerBy t (check_result t)
 
 -- What row_length and row_count return for any bytes given as a tree.
@@ -52,16 +48,16 @@ module _ (t : List ℕ) where
   row_count_answer = unless row_count_refusal (record { number = 0; value = total t (number_of_byte t 10) + cond last_open 1 0; entered = 0 })
 
 -- The answers by their numbers and figures.
-abbrev pub row_length_reply : RowLengthAnswer → Reply
-row_length_reply (size.Bytes n) = figures n 0
-row_length_reply (size.Refused number) = refusal number
+abbrev pub row_length_reply : Result ℕ Refusal → Reply
+row_length_reply (Ok n) = figures n 0
+row_length_reply (Err e) = refusal (refusal_number e)
 
-abbrev pub IsRowLengthAnswer : (t : List ℕ) (q : ℕ) → RowLengthAnswer → Type 0
+abbrev pub IsRowLengthAnswer : (t : List ℕ) (q : ℕ) → Result ℕ Refusal → Type 0
 IsRowLengthAnswer t q = Allowed row_length_reply (λ s. RowLengthAnswers t q s.number s.value)
 
-abbrev pub row_count_reply : RowCountAnswer → Reply
-row_count_reply (count.Rows n) = figures n 0
-row_count_reply (count.Refused number) = refusal number
+abbrev pub row_count_reply : Result ℕ Refusal → Reply
+row_count_reply (Ok n) = figures n 0
+row_count_reply (Err e) = refusal (refusal_number e)
 
-abbrev pub IsRowCountAnswer : (t : List ℕ) → RowCountAnswer → Type 0
+abbrev pub IsRowCountAnswer : (t : List ℕ) → Result ℕ Refusal → Type 0
 IsRowCountAnswer t = Is row_count_reply (row_count_answer t)

@@ -8,15 +8,12 @@ use layout::place::TextPlace;
 use query_access::read_by_header;
 use query_access::read_by_header::LeafRun;
 
-// The place of the first newline from a place on, the byte before it, if one was read, and the range that was read first.
-#[derive(Clone, Copy)]
-pub struct Newline(pub TextPlace, pub u8, pub LeafRun);
-
 // The most bytes that are read at once: few rows are longer.
 const MOST: u32 = 32;
 
-// The ranges are read in place; None if a path breaks or the text ends before a newline.
-pub fn next_newline(t: &&[u8], h: Header, from: TextPlace) -> Option<Newline>
+// The place of the first newline from a place on, the byte before it, if one was read, and the range that was read first; or none, because a path
+// breaks or the text ends before it. The ranges are read in place.
+pub fn next_newline(t: &&[u8], h: Header, from: TextPlace) -> Option<(TextPlace, u8, LeafRun)>
     requires { (HeaderOf t.now.now h) × (from.0 ≤ h.text_length) }
     ensures { NewlineIs t.now.now from.0 result }
 {
@@ -35,7 +32,7 @@ pub fn next_newline(t: &&[u8], h: Header, from: TextPlace) -> Option<Newline>
         let before = byte_before(tree, part.from, i, earlier);
         first = first_of(first, part);
         if i < size {
-            return Some(Newline(TextPlace(at + i), before, first));
+            return Some((TextPlace(at + i), before, first));
         }
         earlier = before;
         at += size;

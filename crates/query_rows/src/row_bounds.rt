@@ -2,122 +2,129 @@
 ghost use Rattle.std.specs.Prelude.{true, cond, ◌&&◌, ◌≡◌, ◌-◌, ◌≤◌, ◌<◌, ltb, eqb};
 ghost use Rattle.text.specs.Text.{row_of};
 ghost use Rattle.text.specs.RowLaws.{between, trimmed};
-ghost use Rattle.format.specs.Answers.{replied, byte_answer, number_of_byte, total, find_refusal, last_row_refusal, is_unterminated_row, row_refusal, row_most};
+ghost use Rattle.format.specs.Answers.{byte_answer, number_of_byte, total, find_refusal, last_row_refusal, is_unterminated_row, row_refusal, row_most};
 ghost use Rattle.format.specs.Layout as at;
 ghost use Rattle.format.specs.TreeReading.{text_of};
 ghost use Rattle.layout.specs.HeaderFields.{HeaderOf};
-ghost use Rattle.query_select.specs.Found.{find_reply, FoundBy};
-ghost use Rattle.query_rows.specs.RowSpans.{settled_by, bounds_refusal, EdgesOf};
-ghost use Rattle.query_rows.specs.RowEnds.{start_refusal, StartIs};
+ghost use Rattle.query_select.specs.Found.{FoundBy};
+ghost use Rattle.query_rows.specs.RowSpans.{settled_by, EdgesOf};
+ghost use Rattle.query_rows.specs.RowEnds.{StartIs};
 
 use crate::next_newline;
-use crate::next_newline::Newline;
 use layout::header::Header;
 use layout::place::TextPlace;
+use query_access::read_by_header;
 use query_access::read_by_header::LeafRun;
-use query_access::{ByteAnswer, read_by_header};
 use query_counted::CountedByte;
 use query_guided::guided_find;
-use query_select::{FindAnswer, seek};
+use query_select::seek;
+use refusals::Refusal;
 
-// The start and the length of a row, or the refusal.
-#[derive(Clone, Copy)]
-pub enum RowBounds {
-    At(TextPlace, u32, LeafRun),
-    Refused(u32),
-}
-
-// The start of a row that ends in a newline, or the refusal.
-#[derive(Clone, Copy)]
-pub enum RowStart {
-    At(TextPlace),
-    Refused(u32),
-}
-
-// The bounds of row q, by finds with the guide if `used` is true. Questions 11, 12 and 14.
-pub fn row_bounds(t: &[u8], h: Header, guide: &[u8], used: bool, q: u32) -> RowBounds
+// The start and the length of row q, and the range that was read first, by finds with the guide if `used` is true. Questions 11, 12 and 14.
+pub fn row_bounds(
+    t: &[u8],
+    h: Header,
+    guide: &[u8],
+    used: bool,
+    q: u32,
+) -> Result<(TextPlace, u32, LeafRun), Refusal>
     requires { HeaderOf t.now h }
     ensures { EdgesOf t.now (settled_by t.now guide.now used)
         (row_refusal t.now q) (row_of (text_of t.now) q) (row_most t.now q) result }
 {
     let number = query_counted::number_of(t, h.settings.counted, 10);
     if h.settings.counted <= number {
-        return RowBounds::Refused(11);
+        return Err(Refusal::ByteNotCounted);
     }
     if q == 0 {
-        return RowBounds::Refused(12);
+        return Err(Refusal::NoSuchOccurrence);
     }
     let all = query_counted::total(t, h, number);
     if q as u64 <= all {
         return terminated_row(t, h, guide, used, number, q);
     }
     if h.text_length == 0 {
-        return RowBounds::Refused(12);
+        return Err(Refusal::NoSuchOccurrence);
     }
     if (q - 1) as u64 == all {
         return last_row(t, h, guide, used, number, q);
     }
-    RowBounds::Refused(12)
+    Err(Refusal::NoSuchOccurrence)
 }
 
 // The bounds of the row without a byte 10 at its end, which exists if the last byte of the text is another one: from the place after the last byte 10, or
 // from place 0, to the end of the text.
-fn last_row(t: &[u8], h: Header, guide: &[u8], used: bool, number: u32, q: u32) -> RowBounds
+fn last_row(
+    t: &[u8],
+    h: Header,
+    guide: &[u8],
+    used: bool,
+    number: u32,
+    q: u32,
+) -> Result<(TextPlace, u32, LeafRun), Refusal>
     requires { (HeaderOf t.now h) × (is_unterminated_row t.now q ≡ true) × (number ≡ number_of_byte t.now 10) × (number < h.settings.counted) }
     ensures { EdgesOf t.now (settled_by t.now guide.now used) (last_row_refusal
         (byte_answer t.now (at.text_length t.now - 1))) (row_of (text_of t.now) q) (row_most t.now q) result }
 {
     let answer = read_by_header::byte_at(t, h, TextPlace(h.text_length - 1));
-    let ByteAnswer::Byte(value, _) = answer else {
-        return RowBounds::Refused(read_by_header::number(answer));
+    let Ok((value, _)) = answer else {
+        return Err(answer.unwrap_err());
     };
     if value == 10 {
-        return RowBounds::Refused(12);
+        return Err(Refusal::NoSuchOccurrence);
     }
     if q == 1 {
-        return RowBounds::At(TextPlace(0), h.text_length, read_by_header::no_run());
+        return Ok((TextPlace(0), h.text_length, read_by_header::no_run()));
     }
     let found = find_newline(t, h, guide, used, number, q - 1);
-    let FindAnswer::At(before, _) = found else {
-        return RowBounds::Refused(found_number(found));
+    let Ok((before, _)) = found else {
+        return Err(found.unwrap_err());
     };
-    RowBounds::At(
+    Ok((
         TextPlace(before.0 + 1),
         h.text_length - (before.0 + 1),
         read_by_header::no_run(),
-    )
+    ))
 }
 
 // The bounds of a row that ends in a newline: one find gives its start, and the newline is found by reading on.
-fn terminated_row(t: &[u8], h: Header, guide: &[u8], used: bool, number: u32, q: u32) -> RowBounds
+fn terminated_row(
+    t: &[u8],
+    h: Header,
+    guide: &[u8],
+    used: bool,
+    number: u32,
+    q: u32,
+) -> Result<(TextPlace, u32, LeafRun), Refusal>
     requires { (HeaderOf t.now h) × (number ≡ number_of_byte t.now 10) × (number < h.settings.counted) × (1 ≤ q) × (q ≤ total t.now number) }
     ensures { EdgesOf t.now (settled_by t.now guide.now used)
         (find_refusal t.now 10 q) (trimmed (between (text_of t.now) q)) (at.text_length t.now - 1) result }
 {
-    let found = row_start(t, h, guide, used, number, q);
-    let RowStart::At(start) = found else {
-        return RowBounds::Refused(start_number(found));
-    };
+    let start = row_start(t, h, guide, used, number, q)?;
     let end = next_newline::next_newline(&t, h, start);
-    let Some(Newline(place, before, run)) = end else {
-        return RowBounds::Refused(14);
+    let Some((place, before, run)) = end else {
+        return Err(Refusal::PathBroken);
     };
-    RowBounds::At(start, strip_cr(place.0 - start.0, before), run)
+    Ok((start, strip_cr(place.0 - start.0, before), run))
 }
 
 // The start of row q, if it ends in a newline. Questions 11, 12 and 14.
-fn row_start(t: &[u8], h: Header, guide: &[u8], used: bool, number: u32, q: u32) -> RowStart
+fn row_start(
+    t: &[u8],
+    h: Header,
+    guide: &[u8],
+    used: bool,
+    number: u32,
+    q: u32,
+) -> Result<TextPlace, Refusal>
     requires { (HeaderOf t.now h) × (number ≡ number_of_byte t.now 10) × (number < h.settings.counted) × (1 ≤ q) × (q ≤ total t.now number) }
     ensures { StartIs t.now (settled_by t.now guide.now used) q result }
 {
     if q == 1 {
-        return RowStart::At(TextPlace(0));
+        return Ok(TextPlace(0));
     }
-    let found = find_newline(t, h, guide, used, number, q - 1);
-    let FindAnswer::At(before, _) = found else {
-        return RowStart::Refused(found_number(found));
-    };
-    RowStart::At(TextPlace(before.0 + 1))
+    let (before, _) = find_newline(t, h, guide, used, number, q - 1)?;
+    Ok(TextPlace(before.0 + 1))
 }
 
 // The length of a row without a carriage return directly before the newline.
@@ -133,16 +140,6 @@ fn strip_cr(len: u32, before: u8) -> u32
     len
 }
 
-// The refusal of a row's start, 0 for none.
-fn start_number(found: RowStart) -> u32
-    ensures { result ≡ start_refusal found }
-{
-    match found {
-        RowStart::At(_) => 0,
-        RowStart::Refused(number) => number,
-    }
-}
-
 // The place of the j-th byte 10, with the guide if `used` is true. The guide is passed on as a part of itself: a copy of the slice would be two stores of
 // 8 bytes that are read as one of 16, for which the processor waits.
 pub fn find_newline(
@@ -152,7 +149,7 @@ pub fn find_newline(
     used: bool,
     number: u32,
     j: u32,
-) -> FindAnswer
+) -> Result<(TextPlace, u32), Refusal>
     requires { (HeaderOf t.now h) × (number ≡ number_of_byte t.now 10) × (number < h.settings.counted) × (1 ≤ j) × (j ≤ total t.now number) }
     ensures { FoundBy t.now (settled_by t.now guide.now used) 10 j result }
 {
@@ -162,24 +159,4 @@ pub fn find_newline(
         return guided_find::without_steps(guided_find::guided(&t, h, entries, wanted, j));
     }
     seek::seek(t, h, wanted, j)
-}
-
-// The refusal of a find, 0 for none.
-fn found_number(found: FindAnswer) -> u32
-    ensures { result ≡ (replied (find_reply found)).number }
-{
-    match found {
-        FindAnswer::At(_, _) => 0,
-        FindAnswer::Refused(number) => number,
-    }
-}
-
-// The refusal of the bounds, 0 for none.
-pub fn number(found: RowBounds) -> u32
-    ensures { result ≡ bounds_refusal found }
-{
-    match found {
-        RowBounds::At(_, _, _) => 0,
-        RowBounds::Refused(number) => number,
-    }
 }

@@ -1,9 +1,10 @@
+use Rattle.refusals.specs.RefusalsLaws.{passed-on}
 use Rattle.layout.specs.HeaderFields.{header-good}
 use Rattle.query_rows.proofs.RowLengthsLaws as laws
 use Rattle.query_rows.proofs.row_count.Goals as goal
 
 pub count_at-requires : goal.count_at-requires
-count_at-requires c = header-good _ _ c.read_header-read.ensures _ c.in-Good.is
+count_at-requires c = header-good _ _ c.read_header.ensures _ c.in_ok-h.was
 
-pub returns-in-Refused : goal.returns-in-Refused
-returns-in-Refused c = laws.row-count-unread _ _ c.read_header-read.ensures _ c.in-Refused.is
+pub returns-in_err-h : goal.returns-in_err-h
+returns-in_err-h c = rw (passed-on _ _ c.from_residual.ensures.1) (laws.row-count-unread _ _ c.read_header.ensures _ c.in_err-h.was)

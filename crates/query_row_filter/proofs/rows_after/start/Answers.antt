@@ -18,11 +18,11 @@ returns-in_default c = let a = start-asked _ _ _ c.requires.0 c.requires.1 c.if-
 pub overflow_add-result : goal.overflow_add-result
 overflow_add-result c = omega (
   arith,
-  place-in-text _ _ 10 _ (settled-sound _ _ _) _ c.find_newline-found.ensures.answers _ _ c.in-At.is,
+  place-in-text _ _ 10 _ (settled-sound _ _ _) _ c.find_newline-found.ensures.answers _ _ c.in-Ok.is,
   c.requires.0.facts.bounds.text_high,
 )
 
 pub returns : goal.returns
 returns c = let a = start-asked _ _ _ c.requires.0 c.requires.1 c.if-mark-eq0.false c.requires.2 in
-    start-past _ _ _ _ (settled-sound _ _ _) a (place-in-text _ _ 10 _ (settled-sound _ _ _) _ c.find_newline-found.ensures.answers _ _ c.in-At.is)
-    (place_is _ _ 10 _ (settled-sound _ _ _) _ c.find_newline-found.ensures.answers _ _ c.in-At.is)
+    start-past _ _ _ _ (settled-sound _ _ _) a (place-in-text _ _ 10 _ (settled-sound _ _ _) _ c.find_newline-found.ensures.answers _ _ c.in-Ok.is)
+    (place_is _ _ 10 _ (settled-sound _ _ _) _ c.find_newline-found.ensures.answers _ _ c.in-Ok.is)
