@@ -10,7 +10,7 @@ pub fn bt_to_columns(text: &[u8], width: u32, out: &mut [u8]) -> u32
     ensures value { result ≡ columns_refusal width text.now out.old }
     ensures out_after { out.new ≡ columns_buffer width text.now out.old }
 {
-    columns::to_columns(text, width, out)
+    refusals::result_refusal(columns::to_columns(text, width, out))
 }
 
 // Rearranges a text by columns back to rows.
@@ -18,7 +18,7 @@ pub fn bt_from_columns(text: &[u8], width: u32, out: &mut [u8]) -> u32
     ensures value { result ≡ columns_refusal width text.now out.old }
     ensures out_after { out.new ≡ uncolumns_buffer width text.now out.old }
 {
-    columns::from_columns(text, width, out)
+    refusals::result_refusal(columns::from_columns(text, width, out))
 }
 
 // Copies row a, from 0, of the original text from the tree of a text by columns.

@@ -7,7 +7,7 @@ ghost use Rattle.search.specs.Occurrences.{occurs_earlier_answer};
 use build_records::level_written;
 use build_records::level_written::Level;
 use layout::place::BlockNumber;
-use search::{Fingerprint, Occurrence};
+use search::Fingerprint;
 use text::TextPlace;
 
 // Any base and modulus give the same tree. This function promises nothing, so the proofs about marking hold for all of them.
@@ -27,10 +27,7 @@ pub fn first_place(
     ensures { result.0 ≡ place_of (record_settings_of level.settings counted.now) text.now level.number i.0 }
 {
     let own = level_written::substring_of(text, counted, out, level, i);
-    match search::leftmost(text, own.start, own.length, fingerprint()) {
-        Occurrence::At(found) => found,
-        Occurrence::Outside => own.start,
-    }
+    search::leftmost(text, own.start, own.length, fingerprint()).unwrap_or(own.start)
 }
 
 // Whether the bytes at a place occur earlier.

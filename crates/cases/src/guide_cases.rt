@@ -4,7 +4,6 @@ ghost use Rattle.cases_tokens.specs.declared.hexadecimal.Made.TheVariants.{Bytes
 
 use crate::{ask, wrong};
 use cases_tokens::decimal;
-use cases_tokens::decimal::Number;
 use cases_tokens::hexadecimal::{Fault, Made};
 use layout::word;
 
@@ -99,12 +98,13 @@ fn guide_of(listed: &[u8], out: &mut [u8]) -> Made
     }
     let mut n: usize = 0;
     let mut at: usize = 0;
+    // A `while`: an entry starts where the one before it ends, and `past` finds that place in the body.
     while at < listed.len() {
         if out.len() - n < 4 {
             return Made::Wrong(Fault::Room);
         }
         let number = decimal::read_number(cases_tokens::until(listed, at, 44));
-        let Number::Is(value) = number else {
+        let Some(value) = number else {
             return Made::Wrong(Fault::Number);
         };
         word::write(out, n, value);

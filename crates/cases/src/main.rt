@@ -42,6 +42,7 @@ fn read_and_run(input: &mut [u8], bytes: &mut [u8]) {
 // Answers each line.
 fn run(lines: &[u8], bytes: &mut [u8], lent: &mut [u8]) {
     let mut at: usize = 0;
+    // A `while`: a line starts where the one before it ends, and `past` finds that place in the body.
     while at < lines.len() {
         answer(lines, at, bytes, lent);
         at = cases_tokens::past(lines, at, 10);

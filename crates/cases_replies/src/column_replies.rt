@@ -4,12 +4,12 @@ use query::SpanAnswer;
 
 // A text rearranged by columns, or back: the refusal, and the output.
 pub fn to_columns(text: &[u8], width: u32, out: &mut [u8]) {
-    say::number(columns::to_columns(text, width, out));
+    say::number(refusals::result_refusal(columns::to_columns(text, width, out)));
     say::held(out);
 }
 
 pub fn from_columns(text: &[u8], width: u32, out: &mut [u8]) {
-    say::number(columns::from_columns(text, width, out));
+    say::number(refusals::result_refusal(columns::from_columns(text, width, out)));
     say::held(out);
 }
 

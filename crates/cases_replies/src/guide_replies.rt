@@ -44,10 +44,7 @@ fn print_words(n: u32, a: u64, table: &[u8]) {
 
 // Bytes as words, in decimal, separated by commas.
 fn words(bytes: &[u8]) {
-    let count = bytes.len() / 4;
-    let mut i: usize = 0;
-    while i < count {
-        say::word(i, word::read(bytes, 4 * i));
-        i += 1;
+    for (i, entry) in bytes.chunks_exact(4).enumerate() {
+        say::word(i, word::read(entry, 0));
     }
 }

@@ -1,14 +1,11 @@
 // The answers of the calls on licence dates.
 use crate::say;
-use licence::{DaysLeftAnswer, OpenOnAnswer};
 
 // 1 for open, else 0.
 pub fn open_on(first: &[u8], last: &[u8], today: &[u8]) {
-    let answer = licence::open_on(first, last, today);
-    match answer {
-        OpenOnAnswer::Open => two(0, 1),
-        OpenOnAnswer::Closed => two(0, 0),
-        OpenOnAnswer::Refused(number) => two(number, 0),
+    match licence::open_on(first, last, today) {
+        Ok(open) => two(0, u64::from(open)),
+        Err(refusal) => two(refusal.number(), 0),
     }
 }
 
@@ -20,10 +17,9 @@ fn two(number: u32, figure: u64) {
 
 // The days left, with `-` before a number below zero.
 pub fn days_left(last: &[u8], today: &[u8]) {
-    let answer = licence::days_left(last, today);
-    match answer {
-        DaysLeftAnswer::Days(days) => signed(days),
-        DaysLeftAnswer::Refused(number) => two(number, 0),
+    match licence::days_left(last, today) {
+        Ok(days) => signed(days),
+        Err(refusal) => two(refusal.number(), 0),
     }
 }
 
@@ -39,11 +35,14 @@ fn signed(days: i32) {
 
 // The day afterwards, `-` if the call is refused.
 pub fn renew(day: &mut [u8]) {
-    let number = licence::renew(day);
-    say::number(number);
-    if number == 0 {
-        say::held(day);
-    } else {
-        io::write_all(1, b" -");
+    match licence::renew(day) {
+        Ok(()) => {
+            say::number(0);
+            say::held(day);
+        }
+        Err(refusal) => {
+            say::number(refusal.number());
+            io::write_all(1, b" -");
+        }
     }
 }

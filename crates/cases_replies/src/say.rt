@@ -54,10 +54,8 @@ pub fn table(n: u32, a: u64, table: &[u32]) {
 
 // Words in decimal, separated by commas.
 fn words(table: &[u32]) {
-    let mut i: usize = 0;
-    while i < table.len() {
-        word(i, table[i]);
-        i += 1;
+    for (i, value) in table.iter().enumerate() {
+        word(i, *value);
     }
 }
 
@@ -71,24 +69,16 @@ pub fn word(i: usize, value: u32) {
 
 // Bytes in hexadecimal.
 fn hex(bytes: &[u8]) {
-    let mut i: usize = 0;
-    while i < bytes.len() {
-        io::print_hex(1, wide(bytes[i]), 2);
-        i += 1;
+    for byte in bytes {
+        io::print_hex(1, u64::from(*byte), 2);
     }
-}
-
-fn wide(byte: u8) -> u64 {
-    byte as u64
 }
 
 // Lines, each newline written as `/`.
 pub fn lines(bytes: &[u8]) {
     io::write_all(1, b" => ");
-    let mut i: usize = 0;
-    while i < bytes.len() {
-        slashed(bytes[i]);
-        i += 1;
+    for byte in bytes {
+        slashed(*byte);
     }
 }
 

@@ -7,7 +7,7 @@ use Prim.Native.Nat.{ℕ, suc, ◌+◌, ◌-◌, ◌*◌, ◌/◌, ◌%◌, ◌�
 use native.Mathlib.Nat.{zero-add, zero-mul, mul_comm, mod-le, mod-lt, mod-eq_of_lt, mod-eq-sub-mod, le-div_iff_mul-le, div-lt_iff_lt-mul}
 use native.Mathlib.Numerals.{add-one}
 use native.Mathlib.Omega.{arith}
-use lib.ListN.{length, get_or, set, take, drop, replicate, length-set, length-take, length-drop, length-append, length-replicate}
+use lib.ListN.{length, get_or, set, take, drop, replicate, length-take, length-drop, length-append, length-replicate}
 use lib.Seq.{paste, take-paste, length-take-le, get_or-set_same, get_or-set_other, get_or-take, take_at, ext_get_or}
 use borrow.Author.Tests.{lt-ltb, le-ltb}
 use Rattle.text.specs.Text.{tabulate}
@@ -20,8 +20,8 @@ use Rattle.cases_tokens.specs.declared.hexadecimal.Fault.{Fault}
 use Rattle.cases_tokens.specs.declared.hexadecimal.Fault.TheVariants as fault
 use Rattle.cases_tokens.specs.declared.hexadecimal.Made.{Made}
 use Rattle.cases_tokens.specs.declared.hexadecimal.Made.TheVariants.{Bytes, Wrong}
-use Rattle.cases_script.specs.GivenBytes.{Given, Gives, script_first_of, hex_given, figure_of, repeated, times_over, repeat_given, plain_by, plain_given, pad_to}
-use Rattle.cases_script.specs.GivenBytes.{pad_given, make_by, make_given, named_given}
+use Rattle.cases_script.specs.GivenBytes.{Given, Gives, script_first_of, hex_given, figure_of, repeated, times_over, repeat_given, plain_by, plain_given}
+use Rattle.cases_script.specs.GivenBytes.{pad_to, pad_given, make_by, make_given, named_given}
 use Rattle.cases_script.specs.LineWords.{input_kind}
 use Rattle.cases_script.specs.declared.line_words.InputKind.{InputKind}
 use Rattle.cases_script.specs.NameLine.{giving_line}
@@ -29,28 +29,27 @@ use Rattle.cases_script.specs.GivenBytes.Given.{bytes, none}
 
 -- Bytes repeated up to i.
 pub record Again (entry out : List ℕ) (k i : ℕ) : Type 0 where
-  pub from : k ≤ i
-  pub long : length out ≡ length entry
   pub are : (j : ℕ) → j < i → get_or out j 0 ≡ get_or entry (j % k) 0
 
 pub again-none : (entry : List ℕ) (k : ℕ) → Again entry entry k k
-again-none entry k = record { from = omega arith; long = refl; are = λ j h. ap (λ (x : ℕ). get_or entry x 0) (sym (mod-eq_of_lt h)) }
+again-none entry k = record { are = λ j h. ap (λ (x : ℕ). get_or entry x 0) (sym (mod-eq_of_lt h)) }
 
-pub again-more : (entry out : List ℕ) (k i : ℕ) → 0 < k → i < length out → Again entry out k i → Again entry (set out i (get_or out (i - k) 0)) k (i + 1)
-again-more entry out k i pos h a =
-    record { from = omega (arith, a.from); long = length-set out i (get_or out (i - k) 0) ∙ a.long; are = λ j l. go j (below_suc j i (rw add-one at l)) }
+pub again-more : (entry out : List ℕ) (k i : ℕ) → 0 < k → k ≤ i → i < length out → Again entry out k i
+    → Again entry (set out i (get_or out (i - k) 0)) k (i + 1)
+again-more entry out k i pos from h a = record { are = λ j l. go j (below_suc j i (rw add-one at l)) }
   where
     new : get_or out (i - k) 0 ≡ get_or entry (i % k) 0
-    new = a.are (i - k) (omega (arith, a.from)) ∙ ap (λ (x : ℕ). get_or entry x 0) (sym (mod-eq-sub-mod a.from))
+    new = a.are (i - k) (omega arith) ∙ ap (λ (x : ℕ). get_or entry x 0) (sym (mod-eq-sub-mod from))
 
     go : (j : ℕ) → (j < i) ⊎ (j ≡ i) → get_or (set out i (get_or out (i - k) 0)) j 0 ≡ get_or entry (j % k) 0
     go j (inl l) = get_or-set_other out i j (get_or out (i - k) 0) 0 (λ e. omega arith) ∙ a.are j l
     go j (inr e) = rw e (get_or-set_same out i (get_or out (i - k) 0) 0 h ∙ new)
 
-pub again-all : (entry out : List ℕ) (k i : ℕ) → length out ≤ i → Again entry out k i → out ≡ tabulate (length entry) (λ j. get_or entry (j % k) 0)
-again-all entry out k i h a =
-    ext_get_or 0 out (tabulate (length entry) (λ j. get_or entry (j % k) 0)) (a.long ∙ sym (length-tabulate (length entry) (λ j. get_or entry (j % k) 0)))
-    (λ j l. a.are j (omega arith) ∙ sym (get_or-tabulate (length entry) (λ x. get_or entry (x % k) 0) j 0 (omega (arith, a.long))))
+pub again-all : (entry out : List ℕ) (k i : ℕ) → length out ≡ length entry → length out ≤ i → Again entry out k i
+    → out ≡ tabulate (length entry) (λ j. get_or entry (j % k) 0)
+again-all entry out k i long h a =
+    ext_get_or 0 out (tabulate (length entry) (λ j. get_or entry (j % k) 0)) (long ∙ sym (length-tabulate (length entry) (λ j. get_or entry (j % k) 0)))
+    (λ j l. a.are j (omega arith) ∙ sym (get_or-tabulate (length entry) (λ x. get_or entry (x % k) 0) j 0 (omega arith)))
 
 script-empty : (l : List ℕ) → length l ≡ 0 → l ≡ []
 script-empty [] e = refl

@@ -2,7 +2,7 @@
 use mathlib.Core.List.{List, [], ◌∷◌}
 use mathlib.Core.Bool.{Bool, true, false, cond}
 use mathlib.Core.Path.{◌≡◌, refl, ap, ◌∙◌}
-use Prim.Native.Nat.{ℕ, suc, ◌+◌, ◌-◌, ◌≤◌, ◌<◌}
+use Prim.Native.Nat.{ℕ, suc, ◌+◌, ◌-◌, ◌<◌}
 use native.Mathlib.Omega.{arith}
 use lib.ListN.{length, get_or}
 use lib.Dec.{eqb}
@@ -21,12 +21,11 @@ word-matches {w} {t} {x} {b} e h z = rw e at (same-answered w x b h) ∙ z
 
 -- The words from k on have the same answer as all.
 pub record WordsLeft (words word : List ℕ) (n k : ℕ) : Type 0 where
-  pub inside : k ≤ n
   pub same : word_from words word k (n - k) ≡ word_number words n word
 
 pub words-all : (words word : List ℕ) (n : ℕ) → WordsLeft words word n 0
 unfolding word_number
-words-all words word n = record { inside = omega arith; same = ap (λ (x : ℕ). word_from words word 0 x) (omega arith) }
+words-all words word n = record { same = ap (λ (x : ℕ). word_from words word 0 x) (omega arith) }
 
 module _ (words word : List ℕ) (n k : ℕ) (l : WordsLeft words word n k) (more : k < n) {w : List ℕ} {b : Bool}
     (e : w ≡ token_of words k) (h : (b ≡ true → word ≡ w) × (word ≡ w → b ≡ true)) where
@@ -40,13 +39,12 @@ module _ (words word : List ℕ) (n k : ℕ) (l : WordsLeft words word n k) (mor
   word-found z = open-words z
 
   pub word_next : b ≡ false → WordsLeft words word n (k + 1)
-  word_next z = record { inside = omega arith; same = open-words z }
+  word_next z = record { same = open-words z }
 
-pub word_none : (words word : List ℕ) (n k : ℕ) → WordsLeft words word n k → n ≤ k → n ≡ word_number words n word
+pub word_none : (words word : List ℕ) (n k : ℕ) → WordsLeft words word n k → n ≡ k → n ≡ word_number words n word
 unfolding word_from
-word_none words word n k l h =
+word_none words word n k l e =
     let z : n - k ≡ 0 = omega arith in
-    let e : n ≡ k = omega (arith, l.inside) in
     e ∙ rw z at l.same
 
 pub comment-empty : (line : List ℕ) → length line ≡ 0 → true ≡ is_comment line

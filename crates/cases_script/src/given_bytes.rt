@@ -79,10 +79,8 @@ fn again(out: &mut [u8], k: usize)
     requires { 0 < k }
     ensures { out.new ≡ tabulate (length out.old) (λ i. get_or out.old (i % k) 0) }
 {
-    let mut i: usize = k;
-    while i < out.len() {
+    for i in k..out.len() {
         out[i] = out[i - k];
-        i += 1;
     }
 }
 
@@ -120,9 +118,5 @@ fn pad_to(out: &mut [u8], n: usize, size: u32) -> Made
 pub fn fill(out: &mut [u8], byte: u8)
     ensures { out.new ≡ replicate (length out.old) byte }
 {
-    let mut i: usize = 0;
-    while i < out.len() {
-        out[i] = byte;
-        i += 1;
-    }
+    out.fill(byte);
 }

@@ -63,12 +63,10 @@ fn number(words: &[u8], n: u32, word: &[u8]) -> u32
     ensures value { result ≡ word_number words.now n word.now }
     ensures upper_bound { result ≤ n }
 {
-    let mut k: u32 = 0;
-    while k < n {
+    for k in 0..n {
         if check::same(word, cases_tokens::token(words, k)) {
             return k;
         }
-        k += 1;
     }
     n
 }

@@ -29,6 +29,7 @@ pub fn giving<'a>(s: &'a [u8], name: &[u8]) -> &'a [u8]
     ensures { result.now ≡ giving_line s.now name.now }
 {
     let mut at: usize = 0;
+    // A `while`: a line starts where the one before it ends, and `past` finds that place in the body.
     while at < s.len() {
         if gives(s, at, name) {
             return cases_tokens::until(s, at, 10);

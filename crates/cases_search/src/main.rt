@@ -2,7 +2,7 @@
 // answer; the file stdout has what is expected.
 #![tactic(auto)]
 
-use search::{Fingerprint, Occurrence};
+use search::Fingerprint;
 use text::TextPlace;
 
 // Prints the leftmost occurrence, and whether there is an earlier one.
@@ -18,13 +18,13 @@ fn ask(text: &[u8], at: u32, len: u32, base: u32, modulus: u32) {
     say_earlier(search::occurs_earlier(text, TextPlace(at), len, Fingerprint { base, modulus }));
 }
 
-fn say(answer: Occurrence) {
+fn say(answer: Option<TextPlace>) {
     match answer {
-        Occurrence::At(p) => {
+        Some(p) => {
             io::write_all(1, b": leftmost at ");
             io::print_decimal(1, p.0 as u64);
         }
-        Occurrence::Outside => {
+        None => {
             io::write_all(1, b": outside the text");
         }
     }

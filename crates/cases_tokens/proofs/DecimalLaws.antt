@@ -1,6 +1,6 @@
 -- Laws of numbers in decimal, for the proofs of `decimal`.
 use mathlib.Core.List.{List, [], ◌∷◌}
-use mathlib.Core.Path.{◌≡◌, refl, sym, ap, ◌∙◌}
+use mathlib.Core.Path.{◌≡◌, refl, sym, ◌∙◌}
 use mathlib.Core.Bool.{Bool, true, false}
 use Prim.Native.Nat.{ℕ, suc, ◌+◌, ◌-◌, ◌≤◌, ◌<◌}
 use native.Mathlib.Numerals.{add-one}
@@ -10,11 +10,11 @@ use lib.Seq.{drop-cons}
 use Rattle.text.specs.Text.{all_below}
 use Rattle.text.specs.ListLaws.{all_below-not, and_both}
 use Rattle.cases_tokens.specs.Parts.{token_of}
-use Rattle.cases_tokens.specs.Decimals.{more_of, then, number_from, number_of, holds_number, is_number, figures_right}
-use Rattle.cases_tokens.specs.declared.decimal.Number.{Number}
-use Rattle.cases_tokens.specs.declared.decimal.Number.TheVariants.{Is, Nothing}
+use Rattle.cases_tokens.specs.Decimals.{more_of, then, number_from, number_of, is_number, figures_right}
+use Rattle.std.specs.Prelude.{Option, Some, None}
+use Rattle.std.specs.Option.{is_some}
 
-pub number-none : (w : List ℕ) → length w ≡ 0 → Nothing ≡ number_of w
+pub number-none : (w : List ℕ) → length w ≡ 0 → None ≡ number_of w
 unfolding number_of
 number-none [] h = refl
 number-none (d ∷ w) h = let z : suc (length w) ≡ 0 = h in elim (clash z) [ ]
@@ -27,28 +27,24 @@ unfolding number_of
 number-starts [] h = elim (h refl) [ ]
 number-starts (d ∷ w) h = refl
 
-module _ (w : List ℕ) (i v : ℕ) (x : Number) (h : i < length w) (e : x ≡ more_of v (get_or w i 0)) where
+module _ (w : List ℕ) (i v : ℕ) (x : Option ℕ) (h : i < length w) (e : x ≡ more_of v (get_or w i 0)) where
   open-number : then (number_from (drop (i + 1) w)) x ≡ number_from (drop i w) v
   unfolding number_from
   open-number = rw (e, add-one, drop-cons w i 0 h)
 
-  pub number-stops : x ≡ Nothing → Nothing ≡ number_from (drop i w) v
+  pub number-stops : x ≡ None → None ≡ number_from (drop i w) v
   number-stops n = rw n at open-number
 
-  pub number-goes : (u : ℕ) → x ≡ Is u → number_from (drop (i + 1) w) u ≡ number_from (drop i w) v
+  pub number-goes : (u : ℕ) → x ≡ Some u → number_from (drop (i + 1) w) u ≡ number_from (drop i w) v
   number-goes u n = rw n at open-number
 
-pub number-ends : (w : List ℕ) (i v : ℕ) → length w ≤ i → Is v ≡ number_from (drop i w) v
+pub number-ends : (w : List ℕ) (i v : ℕ) → length w ≤ i → Some v ≡ number_from (drop i w) v
 unfolding number_from
 number-ends w i v h = rw (drop_of_length-le w h)
 
--- What is made of the number read is made of the token's.
-pub read_as {ℓ} : {A : Type ℓ} (f : Number → A) (x y : Number) (w t : List ℕ) → x ≡ number_of w → w ≡ t → x ≡ y → f y ≡ f (number_of t)
-read_as f x y w t a b e = ap f (sym e ∙ a ∙ ap (λ (l : List ℕ). number_of l) b)
-
-pub is-number : (line w : List ℕ) (k : ℕ) (x y : Number) → x ≡ number_of w → w ≡ token_of line k → x ≡ y → holds_number y ≡ is_number line k
+pub is-number : (line w : List ℕ) (k : ℕ) (b : Bool) (x : Option ℕ) → b ≡ is_some x → x ≡ number_of w → w ≡ token_of line k → b ≡ is_number line k
 unfolding is_number
-is-number line w k x y a b e = read_as holds_number x y w (token_of line k) a b e
+is-number line w k b x e a t = rw (e, a, t)
 
 -- The tokens from `from` up to k are numbers.
 pub record Numbers (line : List ℕ) (from k : ℕ) : Type 0 where

@@ -1,13 +1,14 @@
 -- Laws of bytes in hexadecimal, for the proofs of `hexadecimal`.
-use mathlib.Core.List.{List, [], ◌∷◌}
+use mathlib.Core.List.{List, [], ◌∷◌, ◌++◌}
 use mathlib.Core.Bool.{Bool, true, false, cond}
-use mathlib.Core.Path.{◌≡◌, refl, sym, ap, ◌∙◌}
+use mathlib.Core.Path.{◌≡◌, refl, sym, ◌∙◌}
 use Prim.Native.Nat.{ℕ, ◌+◌, ◌*◌, ◌/◌, ◌%◌, ◌≤◌, ◌<◌}
-use native.Mathlib.Nat.{zero-add}
 use native.Mathlib.Numerals.{add-one}
 use native.Mathlib.Omega.{arith}
-use lib.ListN.{length, get_or, set}
-use lib.Seq.{paste, paste-suc}
+use lib.ListN.{length, get_or, set, take, drop}
+use lib.Seq.{paste, get_or-set_other, get_or-set_same, ext_get_or}
+use Rattle.std.proofs.Common.{take_all}
+use borrow.Author.Count.{below_more}
 use lib.Dec.{ltb, leb, eqb}
 use borrow.Author.Tests.{lt-ltb, le-ltb, le-leb, lt-leb, leb-true, ltb-false, eq-eqb, ne_eqb}
 use Rattle.text.specs.Text.{all_below, same_list}
@@ -55,15 +56,24 @@ module _ (word : List ℕ) (i b : ℕ) (h : i < length word / 2) (e : b ≡ toke
   unfolding hex_bytes
   is_byte = e ∙ sym (get_or-tabulate (length word / 2) (token_byte_at word) i 0 h)
 
-  within : i < length (hex_bytes word)
-  unfolding hex_bytes
-  within = rw (length-tabulate (length word / 2) (token_byte_at word)) h
+  -- One byte more is right.
+  pub right-more : (items : List ℕ) → i < length items → ((k : ℕ) → k < i → get_or items k 0 ≡ get_or (hex_bytes word) k 0)
+      → (k : ℕ) → k < i + 1 → get_or (set items i b) k 0 ≡ get_or (hex_bytes word) k 0
+  right-more items inside right =
+      below_more _ _ (λ k l. get_or-set_other items i k b 0 (λ z. omega arith) ∙ right k l) (get_or-set_same items i b 0 inside ∙ is_byte)
 
-  pub put-more : (d o : List ℕ) → o ≡ paste d 0 (hex_bytes word) i → i < length d → set o i b ≡ paste d 0 (hex_bytes word) (i + 1)
-  put-more d o q z =
-      rw (q, add-one, is_byte)
-      (ap (λ (k : ℕ). set (paste d 0 (hex_bytes word) i) k (get_or (hex_bytes word) i 0)) (sym (zero-add i))
-      ∙ paste-suc d 0 (hex_bytes word) i 0 (rw (zero-add i) z) within)
+-- The bytes in front are those that the word represents.
+pub bytes-in-front : (word out items : List ℕ) → length items ≡ length word / 2
+    → ((k : ℕ) → k < length items → get_or items k 0 ≡ get_or (hex_bytes word) k 0)
+    → items ++ drop (length word / 2) out ≡ paste out 0 (hex_bytes word) (length word / 2)
+unfolding hex_bytes
+bytes-in-front word out items size right =
+    let n : ℕ = length word / 2 in
+    let all : length (hex_bytes word) ≡ n = length-tabulate n (token_byte_at word) in
+    let same : items ≡ hex_bytes word = ext_get_or 0 items (hex_bytes word) (size ∙ sym all) right in
+    let whole : take n (hex_bytes word) ≡ hex_bytes word = take_all n (hex_bytes word) (omega (arith, all)) in
+    let z : 0 + n ≡ n = omega arith in
+    rw (same, whole, z)
 
 abbrev dash : List ℕ
 dash = 45 ∷ []

@@ -83,9 +83,6 @@ pub start_none : (line : List ℕ) → Start line 0 0
 unfolding after
 start_none line = record { inside = omega arith; begins = refl }
 
-pub start-all : (line : List ℕ) (i k r : ℕ) → Start line i r → i ≡ k → Start line k r
-start-all line i k r h e = rw e at h
-
 pub ends_is : (line : List ℕ) (k r : ℕ) → Start line k r → eqb r (length line) ≡ eqb (length (after line k)) 0
 ends_is line k r h = go (eqb r (length line)) refl
   where

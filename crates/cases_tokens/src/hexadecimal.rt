@@ -55,13 +55,10 @@ fn byte(word: &[u8], i: usize) -> u32
 fn all_bytes(word: &[u8]) -> bool
     ensures { result ≡ all_hex word.now }
 {
-    let n = word.len() / 2;
-    let mut i: usize = 0;
-    while i < n {
+    for i in 0..word.len() / 2 {
         if 255 < byte(word, i) {
             return false;
         }
-        i += 1;
     }
     true
 }
@@ -72,10 +69,8 @@ fn put(word: &[u8], out: &mut [u8])
     ensures { out.new ≡ paste out.old 0 (hex_bytes word.now) (length word.now / 2) }
 {
     let n = word.len() / 2;
-    let mut i: usize = 0;
-    while i < n {
-        out[i] = byte(word, i) as u8;
-        i += 1;
+    for (i, b) in out[..n].iter_mut().enumerate() {
+        *b = byte(word, i) as u8;
     }
 }
 

@@ -55,10 +55,8 @@ fn start(line: &[u8], k: u32) -> usize
     ensures { Start line.now k result }
 {
     let mut at: usize = 0;
-    let mut i: u32 = 0;
-    while i < k {
+    for _ in 0..k {
         at = past(line, at, 32);
-        i += 1;
     }
     at
 }

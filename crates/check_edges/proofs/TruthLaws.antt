@@ -28,14 +28,14 @@ use Rattle.layout.specs.HeaderFields.{HeaderOf}
 use Rattle.layout.specs.Record.{FieldIn, EdgesIn, field_in}
 use Rattle.walk_steps.proofs.StepLaws.{field-there}
 use Rattle.walk_short.specs.declared.gather.Parts.{Parts}
-use Rattle.walk_short.specs.declared.gather.Gathered.{Gathered}
-use Rattle.walk_short.specs.declared.gather.Gathered.TheVariants.{At, Broken}
+use Rattle.std.specs.Prelude.{Some, None}
+use Rattle.std.specs.Prelude as prelude
 use Rattle.walk_short.specs.Gathered.{gathered, Walking, InRange}
 use Rattle.check_edges.specs.EdgesMatch.{Linking, Edged, Leafy, found_is}
 use Rattle.walk_short.proofs.WholeLaws.{within-tree}
 
 -- One edge.
-module _ (t : List ℕ) (m a x : ℕ) (found : Gathered) (q : Parts) (is : found ≡ At q) where
+module _ (t : List ℕ) (m a x : ℕ) (found : prelude.Option Parts) (q : Parts) (is : found ≡ Some q) where
   abbrev first : Bool
   first = same_list (substring t a q.size) (substring t q.from q.size)
 
@@ -54,7 +54,7 @@ module _ (t : List ℕ) (m a x : ℕ) (found : Gathered) (q : Parts) (is : found
   pub third-decides : first ≡ true → second ≡ true → (r : Bool) → r ≡ third → r ≡ found_is t m a x found
   third-decides e f r g = g ∙ rw (is, e, f)
 
-pub none_found : (t : List ℕ) (m a x : ℕ) (found : Gathered) → found ≡ Broken → false ≡ found_is t m a x found
+pub none_found : (t : List ℕ) (m a x : ℕ) (found : prelude.Option Parts) → found ≡ None → false ≡ found_is t m a x found
 none_found t m a x found is = rw is
 
 found-edge : (t : List ℕ) (a x n : ℕ) (r : Option Short) → found_is t (at.settings t).leaf a x (gathered n r) ≡ edge_is t a x r
@@ -112,7 +112,8 @@ module _ (t : List ℕ) (h : Header) (level b i : ℕ) (k : Edged t h level b i)
     back_in = omega (arith, own_is)
 
     -- What a walk from the block gives.
-    module _ (o : ℕ) (ho : o + own ≤ long) (r : Gathered) (r-is : r ≡ gathered 0 (short_from t ((at.settings t).levels - 1 - level) level (i + 0) o own)) where
+    module _ (o : ℕ) (ho : o + own ≤ long) (r : prelude.Option Parts)
+        (r-is : r ≡ gathered 0 (short_from t ((at.settings t).levels - 1 - level) level (i + 0) o own)) where
       r-right : r ≡ gathered 0 (short_from t ((at.settings t).levels - 1 - level) level i o own)
       r-right = r-is ∙ rw (add-zero i)
 
@@ -132,19 +133,19 @@ module _ (t : List ℕ) (h : Header) (level b i : ℕ) (k : Edged t h level b i)
     few : (own ≤ m) × (m ≤ max_leaf)
     few = (omega (arith, own_is), omega (arith, header.leaf_is, facts.bounds.leaf_high))
 
-    pub first-asks : (r : Gathered) → InRange t own r → (e + m ≤ length t) × (own ≤ m) × (m ≤ max_leaf) × InRange t own r
+    pub first-asks : (r : prelude.Option Parts) → InRange t own r → (e + m ≤ length t) × (own ≤ m) × (m ≤ max_leaf) × InRange t own r
     first-asks r w = (omega (arith, room), few.0, few.1, w)
 
-    pub last-asks : (r : Gathered) → InRange t own r → (e + m + m ≤ length t) × (own ≤ m) × (m ≤ max_leaf) × InRange t own r
+    pub last-asks : (r : prelude.Option Parts) → InRange t own r → (e + m + m ≤ length t) × (own ≤ m) × (m ≤ max_leaf) × InRange t own r
     last-asks r w = (omega (arith, room), few.0, few.1, w)
 
-    module _ (r : Gathered) (r-is : r ≡ gathered 0 (short_from t ((at.settings t).levels - 1 - level) level (i + 0) 0 own)) where
+    module _ (r : prelude.Option Parts) (r-is : r ≡ gathered 0 (short_from t ((at.settings t).levels - 1 - level) level (i + 0) 0 own)) where
       pub first-fails-block : found_is t m e own r ≡ false → false ≡ walked_edges t level i
       unfolding walked_edges
       first-fails-block f = rw (sym (edge-answers 0 front-in r r-is (at.edges_at t level i)) ∙ rw e-is at f)
 
       pub last-decides : found_is t m e own r ≡ true
-          → (u : Gathered) → u ≡ gathered 0 (short_from t ((at.settings t).levels - 1 - level) level (i + 0) (long - own) own)
+          → (u : prelude.Option Parts) → u ≡ gathered 0 (short_from t ((at.settings t).levels - 1 - level) level (i + 0) (long - own) own)
           → (y : Bool) → y ≡ found_is t m (e + m) own u → y ≡ walked_edges t level i
       unfolding walked_edges
       last-decides f u u-is y y-is =
@@ -182,7 +183,7 @@ module _ (t : List ℕ) (h : Header) (level i own : ℕ) (k : Leafy t h level i 
       last_step t l i 0 own (omega (arith, is, len-small t l i)) (kept_block t l i hi kept) (omega (arith, rw (sym e) at end, pos, is))
 
   pub leaf-found : (link : ℕ) → link ≡ at.link t level i
-      → At (record { entered = 1; from = h.leaf_offset + link; size = own; next = 0 })
+      → Some (record { entered = 1; from = h.leaf_offset + link; size = own; next = 0 })
       ≡ gathered 0 (short_from t ((at.settings t).levels - 1 - level) level (i + 0) 0 own)
   unfolding gathered
   leaf-found link e =
@@ -200,7 +201,7 @@ module _ (t : List ℕ) (h : Header) (level b i : ℕ) (k : Edged t h level b i)
       let b_leaf : at.full_length t level ≡ (at.settings t).leaf = rw e (full-last t k.tree.header.facts) in
       omega (arith, own_is, len-small t level i, b_leaf, k.tree.header.leaf_is)
 
-  pub found-again : (r : Gathered) → r ≡ gathered 0 (short_from t ((at.settings t).levels - 1 - level) level (i + 0) 0 own)
+  pub found-again : (r : prelude.Option Parts) → r ≡ gathered 0 (short_from t ((at.settings t).levels - 1 - level) level (i + 0) 0 own)
       → r ≡ gathered 0 (short_from t ((at.settings t).levels - 1 - level) level (i + 0) (own - own) own)
   found-again r e = let none : own - own ≡ 0 = omega arith in e ∙ rw none
 

@@ -1,13 +1,12 @@
 -- The preconditions of the check of edges, and the result of testing one edge.
-use Rattle.std.specs.Prelude.{List, Bool, true, false, ◌&&◌, ◌≡◌, ℕ, ◌+◌, ◌-◌, ◌<◌, replicate}
+use Rattle.std.specs.Prelude.{List, Option, Some, None, Bool, true, false, ◌&&◌, ◌≡◌, ℕ, ◌+◌, ◌-◌, ◌<◌, replicate}
 use Rattle.text.specs.Text.{same_list, substring}
 use Rattle.format.specs.Layout as at
 use Rattle.format.specs.TreeReading.{links_ok}
 use Rattle.layout.specs.declared.header.Header.{Header}
 use Rattle.layout.specs.HeaderFields.{HeaderOf}
 use Rattle.walk_steps.specs.Steps.{OnLevel}
-use Rattle.walk_short.specs.declared.gather.Gathered.{Gathered}
-use Rattle.walk_short.specs.declared.gather.Gathered.TheVariants.{At, Broken}
+use Rattle.walk_short.specs.declared.gather.Parts.{Parts}
 
 -- A tree that passes questions 5 to 8, with its header.
 pub record Linking (t : List ℕ) (h : Header) : Type 0 where
@@ -29,9 +28,9 @@ pub record Leafy (t : List ℕ) (h : Header) (level i own : ℕ) : Type 0 where
   pub own_is : own ≡ at.block_length_at t level i
 
 -- The m bytes at a are the x bytes that were found, then zeros.
-abbrev pub found_is : List ℕ → ℕ → ℕ → ℕ → Gathered → Bool
-found_is t m a x Broken = false
-found_is t m a x (At q) =
+abbrev pub found_is : List ℕ → ℕ → ℕ → ℕ → Option Parts → Bool
+found_is t m a x None = false
+found_is t m a x (Some q) =
     same_list (substring t a q.size) (substring t q.from q.size)
     && same_list (substring t (a + q.size) (x - q.size)) (substring t q.next (x - q.size))
     && same_list (substring t (a + x) (m - x)) (replicate (m - x) 0)

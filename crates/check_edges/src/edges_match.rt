@@ -14,15 +14,15 @@ use layout::place::{BlockNumber, BlockPlace};
 use layout::record;
 use layout::settings::Settings;
 use walk_short::gather;
-use walk_short::gather::{BlockSpan, Gathered, Parts};
+use walk_short::gather::{BlockSpan, Parts};
 use walk_steps::position::{BlockOffset, LevelAt};
 
 // Whether the edge of m bytes at a place is the `own` bytes that were found, then zeros.
-fn edge_right(t: &[u8], m: u32, at: usize, own: u32, found: Gathered) -> bool
+fn edge_right(t: &[u8], m: u32, at: usize, own: u32, found: Option<Parts>) -> bool
     requires { (at + m ≤ length t.now) × (own ≤ m) × (m ≤ max_leaf) × InRange t.now own found }
     ensures { result ≡ found_is t.now m at own found }
 {
-    let Gathered::At(q) = found else {
+    let Some(q) = found else {
         return false;
     };
     if !equal::equal_at(t, at, q.from, q.size as usize) {
@@ -66,12 +66,12 @@ fn walked_right(t: &[u8], h: Header, level: u32, b: u32, block: BlockNumber) -> 
 }
 
 // Where the first leaf bytes of a block of the last level are.
-fn leaf_bytes(t: &[u8], h: Header, level: u32, block: BlockNumber, own: u32) -> Gathered
+fn leaf_bytes(t: &[u8], h: Header, level: u32, block: BlockNumber, own: u32) -> Option<Parts>
     requires { Leafy t.now h level block.0 own }
     ensures { result ≡ gathered 0 (short_from t.now ((at.settings t.now).levels - 1 - level) level (block.0 + 0) 0 own) }
 {
     let link = record::link(t, h.record_size, level, block);
-    Gathered::At(Parts {
+    Some(Parts {
         entered: 1,
         from: h.leaf_offset as usize + link.0 as usize,
         size: own,

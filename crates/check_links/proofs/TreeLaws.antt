@@ -77,9 +77,6 @@ module _ (t : List ℕ) (v : Level) (k : LevelOf t v) where
 
 -- The whole of question 8.
 module _ (t : List ℕ) where
-  pub some_level : (h : Header) → HeaderOf t h → 0 < h.settings.levels
-  some_level h k = omega (arith, levels_is t h k, k.facts.bounds.levels_low)
-
   pub same-level : (l x : ℕ) (b : Bool) → x ≡ l → level_right t x ≡ b → level_right t l ≡ b
   same-level l x b e h = rw e at h
 

@@ -27,9 +27,9 @@ fn cuts_fit(ranges: &[u8], part: &[u8], at: usize) -> bool
     requires { at + length ranges.now / 2 ≤ length part.now }
     ensures { CutsFit ranges.now part.now at result }
 {
-    let cuts = ranges.len() / 2;
-    for k in 0..cuts {
-        if !key_state::cut_fits(ranges, k, part[at + k]) {
+    let end = at + ranges.len() / 2;
+    for (k, byte) in part[at..end].iter().enumerate() {
+        if !key_state::cut_fits(ranges, k, *byte) {
             return false;
         }
     }

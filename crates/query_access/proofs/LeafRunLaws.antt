@@ -194,10 +194,6 @@ run-first-byte t p r k a e =
     let z : p + 0 ≡ p = omega arith in
     ap (λ (x : Result (ℕ × ℕ) Refusal). replied (byte_reply x)) e ∙ sym (rw z at (k.answers 0 k.some_byte))
 
--- No byte of a run is refused.
-pub run-not-refused : (a : Result (ℕ × ℕ) Refusal) (v n : ℕ) (q : Refusal) → a ≡ Ok (v, n) → a ≡ Err q → ⊥
-run-not-refused a v n q e f = cc
-
 -- No bytes, and those of a range.
 pub access-none-read : (t : List ℕ) (p : ℕ) (r : LeafRun) → r.length ≡ 0 → r.from ≡ 0 → ReadsFrom t p r
 access-none-read t p r e f = record { in_tree = omega arith; answers = λ x l. absurd (let y : ⊥ = omega arith in y) }

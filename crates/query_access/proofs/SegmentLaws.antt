@@ -28,7 +28,8 @@ use Rattle.layout.specs.HeaderFields.{HeaderOf}
 use Rattle.query_access.specs.ReadByRuns.{places_written}
 use Rattle.walk_ranges.specs.declared.segments.Segment.{Segment}
 use Rattle.walk_ranges.specs.declared.segments.Piece.{Piece}
-use Rattle.walk_ranges.specs.declared.segments.Piece.TheVariants as piece
+use Rattle.std.specs.Prelude.{Some, None}
+use Rattle.std.specs.Prelude as prelude
 use Rattle.walk_ranges.specs.Segments.{leaf_number, has_leaf, leaf_from, leaf_in, leaf_value, leaves_written, Copied, SegmentCopied, SegmentAt, NextAt, IsNext}
 use Rattle.query_access.proofs.SpanLaws.{ByPaths, values, span-broken}
 use Rattle.query_access.proofs.CopyLaws.{copy-known, copy-end}
@@ -114,11 +115,11 @@ missing-byte t f n to d e zero off c = absurd (off refl)
 missing-byte t f n to d e (suc q) off c = (omega (arith, c.0), c.1, c.2)
 
 -- The answer of `next_segment`.
-module _ (t : List ℕ) (p l first o most : ℕ) (x : Piece) (x-is : IsNext t p l first o most x) where
-  pub next-at : (s : Segment) (n : ℕ) → x ≡ piece.At s n → NextAt t p l first o most s n
-  next-at s n e = rw e at x-is
+module _ (t : List ℕ) (p l first o most : ℕ) (x : prelude.Option Piece) (x-is : IsNext t p l first o most x) where
+  pub next-at : (q : Piece) → x ≡ Some q → NextAt t p l first o most q.segment q.size
+  next-at q e = rw e at x-is
 
-  pub next-none : x ≡ piece.Off → leaf_in t p l first o ≡ none
+  pub next-none : x ≡ None → leaf_in t p l first o ≡ none
   next-none e = rw e at x-is
 
 -- The loop over a segment, from buffer d to buffer e, after some of its bytes.

@@ -17,8 +17,8 @@ use Rattle.byte_slices.specs.ByteSlices.{bytes_written}
 use Rattle.layout.specs.declared.header.Header.{Header}
 use Rattle.layout.specs.HeaderFields.{HeaderOf}
 use Rattle.walk_short.specs.declared.gather.Parts.{Parts}
-use Rattle.walk_short.specs.declared.gather.Gathered.{Gathered}
-use Rattle.walk_short.specs.declared.gather.Gathered.TheVariants.{At, Broken}
+use Rattle.std.specs.Prelude.{Some, None}
+use Rattle.std.specs.Prelude as prelude
 use Rattle.walk_short.specs.Gathered.{gathered, InRange}
 use Rattle.query_access.proofs.SpanLaws.{Whole, span-copied, span-broken}
 
@@ -70,13 +70,13 @@ bytes-found t len r u e = rw e
 -- What a short span answers.
 module _ (t : List ℕ) (h : Header)
     (p len : ℕ) (d : List ℕ) (k : HeaderOf t h) (low : p + len ≤ h.text_length) (room : len ≤ length d) (is : is_short t len ≡ true)
-    (x : Gathered) (x-is : x ≡ gathered 0 (short_of t p len)) where
-  broken-none : (r : Option Short) → Broken ≡ gathered 0 r → r ≡ none
+    (x : prelude.Option Parts) (x-is : x ≡ gathered 0 (short_of t p len)) where
+  broken-none : (r : Option Short) → None ≡ gathered 0 r → r ≡ none
   unfolding gathered
   broken-none none e = refl
   broken-none (some q) e = absurd (let z : ◌≡◌ {A = ℕ} 0 1 = cc in omega arith)
 
-  found_some : (r : Option Short) (q : Parts) → At q ≡ gathered 0 r
+  found_some : (r : Option Short) (q : Parts) → Some q ≡ gathered 0 r
       → (u : Short) × (r ≡ some u) × (q.from ≡ u.from) × (q.size ≡ u.size) × (q.next ≡ u.next) × (q.entered ≡ length u.visits)
   unfolding gathered
   found_some none q e = absurd (let z : ◌≡◌ {A = ℕ} 0 1 = cc in omega arith)
@@ -93,14 +93,14 @@ module _ (t : List ℕ) (h : Header)
   inside : p + len ≤ at.text_length t
   inside = omega (arith, k.length_is)
 
-  pub short-broken : x ≡ Broken → (e : List ℕ) → e ≡ replicate len 0 ++ drop len d → Whole t p len d (refused 14) e
+  pub short-broken : x ≡ None → (e : List ℕ) → e ≡ replicate len 0 ++ drop len d → Whole t p len d (refused 14) e
   unfolding span_reached
   short-broken b e e-is =
       let none_found : short_of t p len ≡ none = broken-none (short_of t p len) (sym b ∙ x-is) in
       let not-reached : false ≡ span_reached t p len = rw (is, none_found) in
       span-broken t p len d (span_reached t p len) (span_bytes t p len) (span_blocks t p len) k.passes inside room e 14 refl not-reached e-is
 
-  pub short-copied : (q : Parts) → x ≡ At q → InRange t len x → (one e : List ℕ) → one ≡ bytes_written d 0 t q.from q.size
+  pub short-copied : (q : Parts) → x ≡ Some q → InRange t len x → (one e : List ℕ) → one ≡ bytes_written d 0 t q.from q.size
       → e ≡ bytes_written one q.size t q.next (len - q.size) → Whole t p len d (record { number = 0; value = len; entered = q.entered }) e
   unfolding span_reached span_bytes span_blocks
   short-copied q a w one e one_is e-is =

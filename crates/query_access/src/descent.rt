@@ -12,7 +12,7 @@ use layout::fields;
 use layout::place::BlockPlace;
 use refusals::Refusal;
 use walk_ranges::segments;
-use walk_ranges::segments::{Piece, Rules};
+use walk_ranges::segments::Rules;
 use walk_steps::position::{BlockPosition, LevelAt};
 
 // A part of the buffer.
@@ -73,15 +73,16 @@ pub fn copy_segment(
         let place = BlockPlace(from.place.0 + done);
         let rest = BlockPosition { block, place };
         let found = segments::next_segment(tree, rules, on, rest, part.size - done);
-        let Piece::At(next, n) = found else {
+        let Some(next) = found else {
             return Err(Refusal::PathBroken);
         };
         let piece = BufferPart {
             to: part.to + done,
-            size: n,
+            size: next.size,
         };
-        copy_segment(t, next.rules, next.on, next.from, piece, buffer)?;
-        done += n;
+        let below = next.segment;
+        copy_segment(t, below.rules, below.on, below.from, piece, buffer)?;
+        done += next.size;
     }
     Ok(())
 }

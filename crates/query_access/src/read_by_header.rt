@@ -16,7 +16,6 @@ use walk_path::TopLevel;
 use walk_ranges::leaf_end;
 use walk_ranges::segments::Rules;
 use walk_short::gather;
-use walk_short::gather::Gathered;
 use walk_steps::position::{BlockPosition, LevelAt};
 
 // A range of the bytes of the tree.
@@ -73,10 +72,10 @@ pub fn leaf_run(t: &&[u8], h: Header, at: TextPlace) -> Option<LeafRun>
     let tree = *t;
     let word = walk_path::walk(t, top_level(h), at, h.text_length - at.0);
     let end = leaf_end::end_of(tree, h, at, word)?;
-    let here = byte_slices::min(end.left, h.settings.leaf - end.place.0);
+    let here = end.left.min(h.settings.leaf - end.place.0);
     Some(LeafRun {
         from: h.leaf_offset as usize + end.leaf as usize,
-        length: byte_slices::min(here, h.leaf_count - end.leaf),
+        length: here.min(h.leaf_count - end.leaf),
         entered: end.entered,
     })
 }
@@ -90,12 +89,12 @@ pub fn leaf_range(t: &&[u8], h: Header, at: TextPlace, most: u32) -> Option<Leaf
     let tree = *t;
     let word = walk_path::walk(t, top_level(h), at, h.text_length - at.0);
     let end = leaf_end::end_of(tree, h, at, word)?;
-    let within = byte_slices::min(end.left, most);
+    let within = end.left.min(most);
     let joined = leaf_end::joined(tree, h, end, within);
-    let size = byte_slices::min(within, joined);
+    let size = within.min(joined);
     Some(LeafRun {
         from: h.leaf_offset as usize + end.leaf as usize,
-        length: byte_slices::min(size, h.leaf_count - end.leaf),
+        length: size.min(h.leaf_count - end.leaf),
         entered: end.entered,
     })
 }
@@ -192,7 +191,7 @@ fn short_span(
     ensures buffer_after { buffer.new ≡ span_buffer t.now at.0 len buffer.old }
 {
     let found = gather::from_text(t, h, at, len);
-    let Gathered::At(q) = found else {
+    let Some(q) = found else {
         byte_slices::clear(buffer, len as usize);
         return Err(Refusal::PathBroken);
     };

@@ -59,15 +59,13 @@ fn copy(
     ensures row_by_columns_answer { IsRowByColumnsAnswer t.now width a (length buffer.old) result }
     ensures buffer_after { buffer.new ≡ row_by_columns_buffer t.now width a buffer.old }
 {
-    let mut b: u32 = 0;
-    while b < width {
+    for b in 0..width {
         let answer = read_by_header::byte_at(t, h, TextPlace(b * rows + a));
         let Ok((value, _)) = answer else {
             byte_slices::clear(buffer, width as usize);
             return Err(answer.unwrap_err());
         };
         buffer[b as usize] = value;
-        b += 1;
     }
     Ok((width, 0))
 }

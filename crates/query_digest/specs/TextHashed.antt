@@ -8,7 +8,7 @@ use Rattle.sha256.specs.declared.HashState.{HashState}
 use Rattle.sha256.specs.Sha256.{initial_state, state_after, hash_of}
 
 module _ (t : List ℕ) where
-  -- The answer when the paths from place p on are still to be read.
+  -- The hash value when the paths from place p on are still to be read; none if one of them breaks.
   unfoldable pub hash_answer : ℕ → Option HashState
   unfolding at.text_length
   hash_answer p = cond (paths_hold t p (at.text_length t - p)) (Some (hash_of (text_of t))) None

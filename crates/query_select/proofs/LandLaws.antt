@@ -37,11 +37,9 @@ use Rattle.theory_counts.specs.CountedSubstrings.{leaves-end, leaves-tally}
 use Rattle.theory_counts.specs.Finds as finds
 use Rattle.theory_counts.specs.Theorems as demands
 use Rattle.query_select.specs.declared.seek.CountField.{CountField}
-use Rattle.query_select.specs.declared.seek.Child.TheVariants as child
+use Rattle.std.proofs.Common.{Option, Some, None}
 use Rattle.query_select.specs.declared.seek.Target.{Target}
-use Rattle.query_select.specs.declared.seek.Target.TheVariants as target
 use Rattle.query_select.specs.declared.seek.Landing.{Landing}
-use Rattle.query_select.specs.declared.seek.Landing.TheVariants as landing
 use Rattle.byte_slices.specs.ByteSlices.{HasBytes}
 use Rattle.query_select.specs.Seeks.{entering, KeptIn, PointsIn, Siblings, LastBefore, Chosen, ChildWith, Aimed, target_at}
 use Rattle.query_select.specs.Seeks.{TargetWith, Seeking, Landed, FoundIn, HandedTo, HandsOn}
@@ -91,12 +89,6 @@ is-kept t l i h = and_right (ltb i (N t l)) (at.is_kept t l i) h
 
 -- The child that is chosen.
 
-case-child : (n y : BlockNumber) (o p : BlockPlace) (r q : ℕ) → child.At n o r ≡ child.At y p q → (y.0 ≡ n.0) × (p.0 ≡ o.0) × (q ≡ r)
-case-child n y o p r q e =
-    let f : y ≡ n = cc in
-    let g : p ≡ o = cc in
-    (ap (λ (z : BlockNumber). z.0) f, ap (λ (z : BlockPlace). z.0) g, cc)
-
 -- A kept block, with the number of its first child and how many children it has.
 pub record Family (t : List ℕ) (field : CountField) (level b i below j link count : ℕ) : Type 0 where
   pub kept : KeptIn t field.size level b i
@@ -113,14 +105,14 @@ module _ (t : List ℕ) (field : CountField) (level b i below j link count : ℕ
   hi : i < N t level
   hi = kept_in t level i f.kept.kept
 
-  nothing : (check_result t ≡ 0 → ⊥) → ChildWith t c level i below j child.Off
-  nothing never = record { chosen = λ x o r e. absurd (let z : ◌≡◌ {A = ℕ} 0 1 = cc in omega arith); off = λ e. never }
+  nothing : (check_result t ≡ 0 → ⊥) → ChildWith t c level i below j None
+  nothing never = record { chosen = λ x e. absurd (let z : ◌≡◌ {A = ℕ} 0 1 = cc in omega arith); off = λ e. never }
 
-  pub child-past : at.level_count t (level + 1) < link + count → ChildWith t c level i below j child.Off
+  pub child-past : at.level_count t (level + 1) < link + count → ChildWith t c level i below j None
   child-past past = nothing (λ v. (let e = children-end t v c f.number_in level i f.lower.level_in hi (is-kept t level i f.kept.kept) in
       let g = rw (← f.lower.b_is, ← f.count_is, ← f.link_is) at e in omega arith))
 
-  pub child-none : count ≡ 0 → ChildWith t c level i below j child.Off
+  pub child-none : count ≡ 0 → ChildWith t c level i below j None
   child-none none = nothing (λ v. (let e = some-child t v c f.number_in level i f.lower.level_in hi (is-kept t level i f.kept.kept) in
       let g = rw (← f.lower.b_is, ← f.count_is) at e in omega arith))
 
@@ -157,7 +149,7 @@ module _ (t : List ℕ) (field : CountField) (level b i below j link count : ℕ
     child-place-small = omega (arith, child-place, len-small t level i, f.kept.on.b_is, b-small t field.size level b f.kept.on)
 
     module _ (rest : ℕ) (rest_is : rest ≡ j - at.before t (level + 1) x c) where
-      pub child-without : rest ≡ 0 → ChildWith t c level i below j child.Off
+      pub child-without : rest ≡ 0 → ChildWith t c level i below j None
       child-without none = nothing (λ v. (let low = last-here t c (level + 1) link (link + count) j x last
           (rw f.link_is (omega (arith, f.low, first-none t v c f.number_in level i f.lower.level_in hi (is-kept t level i f.kept.kept)))) in
           omega arith))
@@ -175,31 +167,34 @@ module _ (t : List ℕ) (field : CountField) (level b i below j link count : ℕ
       }
 
       pub child-chosen : (n : BlockNumber) → n.0 ≡ x → (rest ≡ 0 → ⊥)
-          → ChildWith t c level i below j (child.At n (record { 0 = (x - link) * below }) rest)
+          → ChildWith t c level i below j (Some (record { block = n; start = record { 0 = (x - link) * below }; rest = rest }))
       child-chosen n n-is some = record {
-        chosen = λ y p q e. (let z = case-child n y (record { 0 = (x - link) * below }) p rest q e in
-            rw (z.0, n-is, z.1, z.2) (chosen some));
+        chosen = λ y e. (let z : (record { block = n; start = record { 0 = (x - link) * below }; rest = rest }) ≡ y = cc in
+            rw (← z, n-is) (chosen some));
         off = λ e. absurd (let z : ◌≡◌ {A = ℕ} 0 1 = cc in omega arith);
       }
 
 -- The target that is chosen.
 
-case-target : (kept : Bool) (i f r : ℕ) (x : BlockNumber) (g : BlockPlace) (q : ℕ)
-    → cond kept (target.Kept (record { 0 = i }) (record { 0 = f }) r) target.Off ≡ target.Kept x g q
-    → (kept ≡ true) × (x ≡ record { 0 = i }) × (g.0 ≡ f) × (q ≡ r)
-case-target true i f r x g q e = let y : g ≡ record { 0 = f } = cc in (refl, cc, ap (λ (n : BlockPlace). n.0) y, cc)
-case-target false i f r x g q e = absurd (let z : ◌≡◌ {A = ℕ} 0 1 = cc in omega arith)
+case-target : (kept : Bool) (i f r : ℕ) (x : Target)
+    → cond kept (Some (record { block = record { 0 = i }; forward = record { 0 = f }; rest = r })) None ≡ Some x
+    → (kept ≡ true) × (x.block.0 ≡ i) × (x.forward.0 ≡ f) × (x.rest ≡ r)
+case-target true i f r x e =
+    let y : (record { block = record { 0 = i }; forward = record { 0 = f }; rest = r }) ≡ x = cc in
+    (refl, sym (ap (λ (n : Target). n.block.0) y), sym (ap (λ (n : Target). n.forward.0) y), sym (ap (λ (n : Target). n.rest) y))
+case-target false i f r x e = absurd (let z : ◌≡◌ {A = ℕ} 0 1 = cc in omega arith)
 
-case-no-target : (kept : Bool) (i f r : ℕ) → cond kept (target.Kept (record { 0 = i }) (record { 0 = f }) r) target.Off ≡ target.Off → kept ≡ true → ⊥
-case-no-target true i f r e k = let z : ◌≡◌ {A = ℕ} 0 1 = cc in omega arith
-case-no-target false i f r e k = bool_clash false k refl
+case-no-target : (kept : Bool) (x : Target) → cond kept (Some x) None ≡ None → kept ≡ true → ⊥
+case-no-target true x e k = let z : ◌≡◌ {A = ℕ} 0 1 = cc in omega arith
+case-no-target false x e k = bool_clash false k refl
 
 pub target_kept : (t : List ℕ) (level i f r kind : ℕ)
-    → i < N t level → kind ≡ at.kind t level i → kind ≡ 0 → target.Kept (record { 0 = i }) (record { 0 = f }) r ≡ target_at t level i f r
+    → i < N t level → kind ≡ at.kind t level i → kind ≡ 0
+    → Some (record { block = record { 0 = i }; forward = record { 0 = f }; rest = r }) ≡ target_at t level i f r
 unfolding target_at is_kept_block at.is_kept
 target_kept t level i f r kind hi is z = rw (lt-ltb _ _ hi, ← is, z)
 
-pub target-other : (t : List ℕ) (level i f r kind : ℕ) → i < N t level → kind ≡ at.kind t level i → (kind ≡ 0 → ⊥) → target.Off ≡ target_at t level i f r
+pub target-other : (t : List ℕ) (level i f r kind : ℕ) → i < N t level → kind ≡ at.kind t level i → (kind ≡ 0 → ⊥) → None ≡ target_at t level i f r
 unfolding target_at is_kept_block at.is_kept
 target-other t level i f r kind hi is z = rw (lt-ltb _ _ hi, ← is, ne_eqb kind 0 z)
 
@@ -215,14 +210,14 @@ module _ (t : List ℕ) (size c level b i j link : ℕ)
   at_block : i < N t level
   at_block = pointing-in t level i p.points
 
-  no-aim : (check_result t ≡ 0 → j ≤ at.inside t level i c → ⊥) → TargetWith t c level i b j target.Off
-  no-aim never = record { kept = λ x f r e. absurd (let z : ◌≡◌ {A = ℕ} 0 1 = cc in omega arith); off = λ e. never }
+  no-aim : (check_result t ≡ 0 → j ≤ at.inside t level i c → ⊥) → TargetWith t c level i b j None
+  no-aim never = record { kept = λ x e. absurd (let z : ◌≡◌ {A = ℕ} 0 1 = cc in omega arith); off = λ e. never }
 
   module _ (v : check_result t ≡ 0) where
     points-at : links.Pointing t level i
     points-at = (d t v).points level i p.on.level_in at_block (not-kept t level i p.points)
 
-  pub aim-past : at.level_count t level ≤ link → TargetWith t c level i b j target.Off
+  pub aim-past : at.level_count t level ≤ link → TargetWith t c level i b j None
   aim-past past = no-aim (λ v high. omega (arith, (points-at v).target_below))
 
   module _ (skip inside rank : ℕ) (skip_is : skip ≡ at.skip t level i c)
@@ -230,13 +225,13 @@ module _ (t : List ℕ) (size c level b i j link : ℕ)
     inside-link : inside ≡ at.inside t level (at.link t level i) c
     inside-link = rw link_is at inside_is
 
-    pub aim-first : (r : Target) → rank ≤ inside → r ≡ target_at t level link 0 rank → TargetWith t c level i b j r
+    pub aim-first : (r : Option Target) → rank ≤ inside → r ≡ target_at t level link 0 rank → TargetWith t c level i b j r
     unfolding target_at
     aim-first r within r-is = record {
-      kept = λ x f q e.
-          (let z = case-target (is_kept_block t level link) link 0 rank x f q (sym r-is ∙ e) in
-          let same : x.0 ≡ link = ap (λ (n : BlockNumber). n.0) z.1 in
-          let kept : is_kept_block t level x.0 ≡ true = rw same z.0 in
+      kept = λ x e.
+          (let z = case-target (is_kept_block t level link) link 0 rank x (sym r-is ∙ e) in
+          let same : x.block.0 ≡ link = z.1 in
+          let kept : is_kept_block t level x.block.0 ≡ true = rw same z.0 in
           record {
             kept = kept;
             rest_low = omega (arith, z.3);
@@ -245,8 +240,8 @@ module _ (t : List ℕ) (size c level b i j link : ℕ)
             either = inl (same ∙ link_is, z.2, z.3 ∙ rank_is ∙ ap (λ (n : ℕ). j + n) skip_is, omega (arith, z.3, inside-link));
           });
       off = λ e v high.
-          case-no-target (is_kept_block t level link)
-          link 0 rank (sym r-is ∙ e) (rw link_is (kept_block t level (at.link t level i) (points-at v).target_below (points-at v).target_kept));
+          case-no-target (is_kept_block t level link) _ (sym r-is ∙ e)
+          (rw link_is (kept_block t level (at.link t level i) (points-at v).target_below (points-at v).target_kept));
     }
 
     module _ (past : inside < rank) where
@@ -255,16 +250,16 @@ module _ (t : List ℕ) (size c level b i j link : ℕ)
           (finds.second_holds t (k t v)
           (d t v) (a t v) c hc level i j p.on.level_in at_block (not-kept t level i p.points) low high (omega (arith, inside-link))).0
 
-      pub aim-no-second : link < at.level_count t level → at.level_count t level - link ≡ 1 → TargetWith t c level i b j target.Off
+      pub aim-no-second : link < at.level_count t level → at.level_count t level - link ≡ 1 → TargetWith t c level i b j None
       aim-no-second within one = no-aim (λ v high. omega (arith, (follows v high).below))
 
-      pub aim-second : (r : Target) → r ≡ target_at t level (link + 1) b (rank - inside) → TargetWith t c level i b j r
+      pub aim-second : (r : Option Target) → r ≡ target_at t level (link + 1) b (rank - inside) → TargetWith t c level i b j r
       unfolding target_at
       aim-second r r-is = record {
-        kept = λ x f q e.
-            (let z = case-target (is_kept_block t level (link + 1)) (link + 1) b (rank - inside) x f q (sym r-is ∙ e) in
-            let same : x.0 ≡ link + 1 = ap (λ (n : BlockNumber). n.0) z.1 in
-            let kept : is_kept_block t level x.0 ≡ true = rw same z.0 in
+        kept = λ x e.
+            (let z = case-target (is_kept_block t level (link + 1)) (link + 1) b (rank - inside) x (sym r-is ∙ e) in
+            let same : x.block.0 ≡ link + 1 = z.1 in
+            let kept : is_kept_block t level x.block.0 ≡ true = rw same z.0 in
             record {
               kept = kept;
               rest_low = omega (arith, z.3);
@@ -273,7 +268,7 @@ module _ (t : List ℕ) (size c level b i j link : ℕ)
               either = inr (omega (arith, same), z.2, omega (arith, inside-link), omega (arith, z.3, inside-link));
             });
         off = λ e v high.
-            case-no-target (is_kept_block t level (link + 1)) (link + 1) b (rank - inside) (sym r-is ∙ e)
+            case-no-target (is_kept_block t level (link + 1)) _ (sym r-is ∙ e)
             (rw link_is (kept_block t level (at.link t level i + 1) (follows v high).below (follows v high).kept));
       }
 
@@ -400,13 +395,13 @@ module _ (t : List ℕ) (field : CountField) (level b i j way below : ℕ) (kept
 
 -- From a block to the kept block that it hands its j-th byte to.
 module _ (t : List ℕ) (field : CountField) (level b i j way : ℕ) where
-  hands-off : (check_result t ≡ 0 → j ≤ at.inside t level i field.number → ⊥) → HandsOn t field level b i j way landing.Off
-  hands-off never = record { to = λ x rest further e. absurd (let z : ◌≡◌ {A = ℕ} 0 1 = cc in omega arith); off = λ e. never }
+  hands-off : (check_result t ≡ 0 → j ≤ at.inside t level i field.number → ⊥) → HandsOn t field level b i j way None
+  hands-off never = record { to = λ x e. absurd (let z : ◌≡◌ {A = ℕ} 0 1 = cc in omega arith); off = λ e. never }
 
   hands_to : (x : BlockNumber) (rest further : ℕ)
-      → HandedTo t field level b i j way x.0 rest further → HandsOn t field level b i j way (landing.At x rest further)
+      → HandedTo t field level b i j way x.0 rest further → HandsOn t field level b i j way (Some (record { block = x; rest = rest; way = further }))
   hands_to x rest further h = record {
-    to = λ y q w e. (let f : y ≡ x = cc in let g : q ≡ rest = cc in let k : w ≡ further = cc in rw (f, g, k) h);
+    to = λ y e. (let f : (record { block = x; rest = rest; way = further }) ≡ y = cc in rw (← f) h);
     off = λ e. absurd (let z : ◌≡◌ {A = ℕ} 0 1 = cc in omega arith);
   }
 
@@ -416,7 +411,7 @@ module _ (t : List ℕ) (field : CountField) (level b i j way : ℕ) (points : P
   abbrev c₂ : ℕ
   c₂ = field.number
 
-  pub last-points : level + 1 ≡ H t → HandsOn t field level b i j way landing.Off
+  pub last-points : level + 1 ≡ H t → HandsOn t field level b i j way None
   last-points last = hands-off t field level b i j way (λ v high.
       omega (arith, (points-at t field.size c₂ level b i j (at.link t level i) points seeks.number_in seeks.low refl v).above))
 
@@ -488,21 +483,18 @@ module _ (t : List ℕ) (field : CountField) (level b i j way : ℕ) (points : P
     pub aimed : HandedTo t field level b i j way x rest further
     aimed = record { kept = record { on = points.on; kept = am.kept }; seeks = to-aimed; found = by-aimed }
 
-  module _ (r : Target) (r-is : TargetWith t c₂ level i b j r) where
-    pub pointer-to : (x : BlockNumber) (forward : BlockPlace) (rest gap further : ℕ)
-        → r ≡ target.Kept x forward rest → gap ≡ at.gap t level i → further ≡ entering way forward.0 gap
-        → HandsOn t field level b i j way (landing.At x rest further)
-    pointer-to x forward rest gap further e gap_is further-is =
-        hands_to t field level b i j way x rest further
-        (aimed x.0 forward.0 rest gap further (r-is.kept x forward rest e) gap_is further-is)
-
-    pub pointer-off : r ≡ target.Off → HandsOn t field level b i j way landing.Off
-    pointer-off e = hands-off t field level b i j way (r-is.off e)
+  module _ (r : Option Target) (r-is : TargetWith t c₂ level i b j r) where
+    pub pointer-to : (x : Target) (gap further : ℕ) → r ≡ Some x → gap ≡ at.gap t level i → further ≡ entering way x.forward.0 gap
+        → HandsOn t field level b i j way (Some (record { block = x.block; rest = x.rest; way = further }))
+    pointer-to x gap further e gap_is further-is =
+        hands_to t field level b i j way x.block x.rest further
+        (aimed x.block.0 x.forward.0 x.rest gap further (r-is.kept x e) gap_is further-is)
 
 -- From a block that may be kept or may point.
 module _ (t : List ℕ) (field : CountField) (level b : ℕ) (i : BlockNumber) (j way : ℕ) (there : InTable t field.size level b i.0)
     (seeks : Seeking t field level b j way (2 * level)) (x : BlockKind) (x-is : x ≡ block_kind_at t level i.0 0) where
-  pub itself-kept : (n : BlockNumber) (p : BlockPlace) → x ≡ next.Kept n p → HandsOn t field level b i.0 j way (landing.At i j way)
+  pub itself-kept : (n : BlockNumber) (p : BlockPlace) → x ≡ next.Kept n p
+      → HandsOn t field level b i.0 j way (Some (record { block = i; rest = j; way = way }))
   itself-kept n p e = hands_to t field level b i.0 j way i j way (record {
     kept = record { on = there.on; kept = (next-kept t level i.0 0 x x-is n p e).0 };
     seeks = record {
@@ -518,7 +510,7 @@ module _ (t : List ℕ) (field : CountField) (level b : ℕ) (i : BlockNumber) (
   pub itself-points : (n : BlockNumber) (p : BlockPlace) → x ≡ next.Points n p → PointsIn t field.size level b i.0
   itself-points n p e = record { on = there.on; points = (next-points t level i.0 0 x x-is n p e).1 }
 
-  pub itself-off : x ≡ next.Off → HandsOn t field level b i.0 j way landing.Off
+  pub itself-off : x ≡ next.Off → HandsOn t field level b i.0 j way None
   itself-off e = hands-off t field level b i.0 j way (λ v high. (let z = next-off t level i.0 0 x x-is e in
       neither (is_kept_block t level i.0) (pointing_block t level i.0) z.0 z.1 (one_of t v level i.0 there.on.level_in there.block_in)))
     where
@@ -527,6 +519,6 @@ module _ (t : List ℕ) (field : CountField) (level b : ℕ) (i : BlockNumber) (
       neither k p a b (inr h) = bool_clash p h b
 
 -- The kept block that was handed the j-th byte.
-module _ (t : List ℕ) (field : CountField) (level b i j way : ℕ) (x : Landing) (x-is : HandsOn t field level b i j way x) where
-  pub not-handed : x ≡ landing.Off → (r : ℕ) → FoundIn t field.number level i j way r
+module _ (t : List ℕ) (field : CountField) (level b i j way : ℕ) (x : Option Landing) (x-is : HandsOn t field level b i j way x) where
+  pub not-handed : x ≡ None → (r : ℕ) → FoundIn t field.number level i j way r
   not-handed e r = not_found t field.number level i j way r (λ v hc high. x-is.off e v high)

@@ -1,10 +1,8 @@
 -- The preconditions and results of the steps to the j-th occurrence.
-use Rattle.std.specs.Prelude.{List, true, cond, ◌≡◌, ◌⊎◌, ℕ, ◌+◌, ◌-◌, ◌*◌, ◌≤◌, ◌<◌}
+use Rattle.std.specs.Prelude.{List, Option, Some, None, true, cond, ◌≡◌, ◌⊎◌, ℕ, ◌+◌, ◌-◌, ◌*◌, ◌≤◌, ◌<◌}
 use Rattle.format.specs.Layout.{pieces, max_text}
 use Rattle.format.specs.Layout as at
 use Rattle.format.specs.TreeReading.{is_kept_block, pointing_block, check_result}
-use Rattle.layout.specs.declared.place.BlockNumber.{BlockNumber}
-use Rattle.layout.specs.declared.place.BlockPlace.{BlockPlace}
 use Rattle.walk_steps.specs.Steps.{OnLevel}
 use Rattle.theory_counts.specs.Finds.{Lands}
 use Rattle.theory_counts.specs.Theorems as counts
@@ -13,11 +11,8 @@ use Rattle.format.specs.CheckResultLaws.{accepted-header, accepted-links}
 use Rattle.theory_paths.specs.Links.{linked-facts}
 use Rattle.query_select.specs.declared.seek.CountField.{CountField}
 use Rattle.query_select.specs.declared.seek.Child.{Child}
-use Rattle.query_select.specs.declared.seek.Child.TheVariants as child
 use Rattle.query_select.specs.declared.seek.Target.{Target}
-use Rattle.query_select.specs.declared.seek.Target.TheVariants as target
 use Rattle.query_select.specs.declared.seek.Landing.{Landing}
-use Rattle.query_select.specs.declared.seek.Landing.TheVariants as landing
 
 -- The way on into a block: past the bytes before it and back by a gap, with one more block entered.
 unfoldable pub entering : ℕ → ℕ → ℕ → ℕ
@@ -67,9 +62,9 @@ module _ (t : List ℕ) where
     pub next : x - at.link t level i + 1 < pieces (at.block_length_at t level i) below → j ≤ at.before t (level + 1) (x + 1) c
 
   -- The child is kept or it points; on an accepted tree there is one.
-  pub record ChildWith (c level i below j : ℕ) (r : Child) : Type 0 where
-    pub chosen : (x : BlockNumber) (o : BlockPlace) (rest : ℕ) → r ≡ child.At x o rest → Chosen c level i below j x.0 o.0 rest
-    pub off : r ≡ child.Off → check_result t ≡ 0 → ⊥
+  pub record ChildWith (c level i below j : ℕ) (r : Option Child) : Type 0 where
+    pub chosen : (x : Child) → r ≡ Some x → Chosen c level i below j x.block.0 x.start.0 x.rest
+    pub off : r ≡ None → check_result t ≡ 0 → ⊥
 
   -- The target of pointing block i that contains the j-th occurrence: the first with j + skip, or the second with the rest.
   pub record Aimed (c level i b j : ℕ) (x forward rest : ℕ) : Type 0 where
@@ -82,12 +77,13 @@ module _ (t : List ℕ) where
         × (rest ≡ j + at.skip t level i c - at.inside t level (at.link t level i) c))
 
   -- A linked block, if it is kept.
-  unfoldable pub target_at : ℕ → ℕ → ℕ → ℕ → Target
-  target_at level i forward rest = cond (is_kept_block t level i) (target.Kept (record { 0 = i }) (record { 0 = forward }) rest) target.Off
+  unfoldable pub target_at : ℕ → ℕ → ℕ → ℕ → Option Target
+  target_at level i forward rest =
+      cond (is_kept_block t level i) (Some (record { block = record { 0 = i }; forward = record { 0 = forward }; rest = rest })) None
 
-  pub record TargetWith (c level i b j : ℕ) (r : Target) : Type 0 where
-    pub kept : (x : BlockNumber) (forward : BlockPlace) (rest : ℕ) → r ≡ target.Kept x forward rest → Aimed c level i b j x.0 forward.0 rest
-    pub off : r ≡ target.Off → check_result t ≡ 0 → j ≤ at.inside t level i c → ⊥
+  pub record TargetWith (c level i b j : ℕ) (r : Option Target) : Type 0 where
+    pub kept : (x : Target) → r ≡ Some x → Aimed c level i b j x.block.0 x.forward.0 x.rest
+    pub off : r ≡ None → check_result t ≡ 0 → j ≤ at.inside t level i c → ⊥
 
   -- A level, the number of a counted byte, the number j of the occurrence in a block, and the way to that block, with at most `blocks` blocks entered.
   pub record Seeking (field : CountField) (level b j way blocks : ℕ) : Type 0 where
@@ -114,6 +110,6 @@ module _ (t : List ℕ) where
     pub seeks : Seeking field level b rest further (2 * level + 1)
     pub found : (r : ℕ) → FoundIn field.number level x rest further r → FoundIn field.number level i j way r
 
-  pub record HandsOn (field : CountField) (level b i j way : ℕ) (r : Landing) : Type 0 where
-    pub to : (x : BlockNumber) (rest further : ℕ) → r ≡ landing.At x rest further → HandedTo field level b i j way x.0 rest further
-    pub off : r ≡ landing.Off → check_result t ≡ 0 → j ≤ at.inside t level i field.number → ⊥
+  pub record HandsOn (field : CountField) (level b i j way : ℕ) (r : Option Landing) : Type 0 where
+    pub to : (x : Landing) → r ≡ Some x → HandedTo field level b i j way x.block.0 x.rest x.way
+    pub off : r ≡ None → check_result t ≡ 0 → j ≤ at.inside t level i field.number → ⊥

@@ -51,23 +51,26 @@ struct Parent {
 
 // A block, its start in its parent, and the remaining j.
 #[derive(Clone, Copy)]
-pub enum Child {
-    At(BlockNumber, BlockPlace, u64),
-    Off,
+pub struct Child {
+    pub block: BlockNumber,
+    pub start: BlockPlace,
+    pub rest: u64,
 }
 
 // A kept block, its start relative to that of the first target, and the remaining j.
 #[derive(Clone, Copy)]
-pub enum Target {
-    Kept(BlockNumber, BlockPlace, u64),
-    Off,
+pub struct Target {
+    pub block: BlockNumber,
+    pub forward: BlockPlace,
+    pub rest: u64,
 }
 
 // A kept block, what is left of j in it, and the way to it.
 #[derive(Clone, Copy)]
-pub enum Landing {
-    At(BlockNumber, u64, u64),
-    Off,
+pub struct Landing {
+    pub block: BlockNumber,
+    pub rest: u64,
+    pub way: u64,
 }
 
 // The word of a step that finds no place: no text has so many bytes.
@@ -201,7 +204,7 @@ fn children(bytes: u32, b: u32, below: u32, arity: u32) -> u32
 }
 
 // The child of a kept block that contains the j-th occurrence.
-fn child_with(t: &[u8], field: CountField, on: LevelAt, parent: Parent, j: u64) -> Child
+fn child_with(t: &[u8], field: CountField, on: LevelAt, parent: Parent, j: u64) -> Option<Child>
     requires { (KeptIn t.now field.size on.level on.b parent.block.0)
         × (OnLevel t.now field.size (on.level + 1) parent.below) × (field.number < at.counted_count t.now) × (1 ≤ j) }
     ensures { ChildWith t.now field.number on.level parent.block.0 parent.below j result }
@@ -212,10 +215,10 @@ fn child_with(t: &[u8], field: CountField, on: LevelAt, parent: Parent, j: u64) 
     let count = children(bytes, on.b, parent.below, shape.arity);
     let table = record::level_count(t, on.level + 1) as u64;
     if table < link.0 as u64 + count as u64 {
-        return Child::Off;
+        return None;
     }
     if count == 0 {
-        return Child::Off;
+        return None;
     }
     let all = Blocks {
         first: BlockNumber(link.0),
@@ -224,9 +227,13 @@ fn child_with(t: &[u8], field: CountField, on: LevelAt, parent: Parent, j: u64) 
     let i = last_child(t, field, on.level + 1, all, j);
     let rest = rest_in(t, field, on.level + 1, i, j);
     if rest == 0 {
-        return Child::Off;
+        return None;
     }
-    Child::At(i, BlockPlace((i.0 - link.0) * parent.below), rest)
+    Some(Child {
+        block: i,
+        start: BlockPlace((i.0 - link.0) * parent.below),
+        rest,
+    })
 }
 
 // A linked block, which must be kept.
@@ -237,20 +244,30 @@ fn kept_target(
     block: BlockNumber,
     forward: BlockPlace,
     rest: u64,
-) -> Target
+) -> Option<Target>
     requires { InTable t.now size level (at.full_length t.now level) block.0 }
     ensures { result ≡ target_at t.now level block.0 forward.0 rest }
 {
     let kind = record::kind(t, size, level, block);
     if kind == 0 {
-        return Target::Kept(block, forward, rest);
+        return Some(Target {
+            block,
+            forward,
+            rest,
+        });
     }
-    Target::Off
+    None
 }
 
 // The target of a pointing block that contains its j-th occurrence: the (j + skip)-th of the first target, or, if that is above its count inside, one of the
 // second.
-fn target_with(t: &[u8], field: CountField, on: LevelAt, block: BlockNumber, j: u64) -> Target
+fn target_with(
+    t: &[u8],
+    field: CountField,
+    on: LevelAt,
+    block: BlockNumber,
+    j: u64,
+) -> Option<Target>
     requires { (PointsIn t.now field.size on.level on.b block.0)
         × (field.number < at.counted_count t.now) × (1 ≤ j) × (j ≤ 1099511627776) }
     ensures { TargetWith t.now field.number on.level block.0 on.b j result }
@@ -260,7 +277,7 @@ fn target_with(t: &[u8], field: CountField, on: LevelAt, block: BlockNumber, j: 
     let link = record::link(t, size, on.level, block);
     let count = record::level_count(t, on.level);
     if count <= link.0 {
-        return Target::Off;
+        return None;
     }
     let rank = j + record::skip(t, size, on.level, block, number) as u64;
     let inside = record::inside(t, size, on.level, BlockNumber(link.0), number) as u64;
@@ -268,7 +285,7 @@ fn target_with(t: &[u8], field: CountField, on: LevelAt, block: BlockNumber, j: 
         return kept_target(t, size, on.level, BlockNumber(link.0), BlockPlace(0), rank);
     }
     if count - link.0 == 1 {
-        return Target::Off;
+        return None;
     }
     kept_target(
         t,
@@ -317,20 +334,21 @@ fn from_pointer(
     block: BlockNumber,
     j: u64,
     way: u64,
-) -> Landing
+) -> Option<Landing>
     requires { (PointsIn t.now field.size on.level on.b block.0) × (Seeking t.now field on.level on.b j way (2 * on.level)) }
     ensures { HandsOn t.now field on.level on.b block.0 j way result }
 {
     let shape = fields::shape_of(t);
     if on.level + 1 == shape.levels {
-        return Landing::Off;
+        return None;
     }
     let gap = record::gap(t, field.size, on.level, block);
-    let next = target_with(t, field, on, block, j);
-    match next {
-        Target::Kept(i, forward, rest) => Landing::At(i, rest, enter(way, forward, gap)),
-        Target::Off => Landing::Off,
-    }
+    let target = target_with(t, field, on, block, j)?;
+    Some(Landing {
+        block: target.block,
+        rest: target.rest,
+        way: enter(way, target.forward, gap),
+    })
 }
 
 // Where a block hands its j-th byte: itself if it is kept, else a kept block that it points to.
@@ -341,14 +359,18 @@ fn to_kept(
     block: BlockNumber,
     j: u64,
     way: u64,
-) -> Landing
+) -> Option<Landing>
     requires { (InTable t.now field.size on.level on.b block.0) × (Seeking t.now field on.level on.b j way (2 * on.level)) }
     ensures { HandsOn t.now field on.level on.b block.0 j way result }
 {
     match walk_steps::classify_block(t, field.size, on.level, on.b, block, BlockPlace(0)) {
-        BlockKind::Kept(_, _) => Landing::At(block, j, way),
+        BlockKind::Kept(_, _) => Some(Landing {
+            block,
+            rest: j,
+            way,
+        }),
         BlockKind::Points(_, _) => from_pointer(t, field, on, block, j, way),
-        BlockKind::Off => Landing::Off,
+        BlockKind::Off => None,
     }
 }
 
@@ -367,15 +389,15 @@ fn kept_step(t: &&[u8], field: CountField, on: LevelAt, block: BlockNumber, j: u
     }
     let below = walk_steps::quotient(on.b, shape.arity);
     let next = child_with(tree, field, on, Parent { block, below }, j);
-    let Child::At(i, o, rest) = next else {
+    let Some(child) = next else {
         return BROKEN;
     };
-    let further = enter(way, o, BlockPlace(0));
+    let further = enter(way, child.start, BlockPlace(0));
     let under = LevelAt {
         level: down,
         b: below,
     };
-    pointing_step(t, field, under, i, rest, further)
+    pointing_step(t, field, under, child.block, child.rest, further)
 }
 
 // From a pointing block to the target that contains its j-th occurrence; on the last level no block points.
@@ -394,10 +416,10 @@ fn pointing_step(
 {
     let tree = *t;
     let there = to_kept(tree, field, on, block, j, way);
-    let Landing::At(i, rest, further) = there else {
+    let Some(landing) = there else {
         return BROKEN;
     };
-    kept_step(t, field, on, i, rest, further)
+    kept_step(t, field, on, landing.block, landing.rest, landing.way)
 }
 
 // The block of level 0 that contains the j-th occurrence in the text.

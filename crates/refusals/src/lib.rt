@@ -2,7 +2,7 @@
 #![tactic(auto)]
 
 ghost use Rattle.std.specs.Prelude.{◌≡◌};
-ghost use Rattle.refusals.specs.Refusals.{refusal_number};
+ghost use Rattle.refusals.specs.Refusals.{refusal_number, result_refusal};
 
 use std::error::Error;
 use std::fmt;
@@ -117,3 +117,13 @@ impl fmt::Display for Refusal {
 }
 
 impl Error for Refusal {}
+
+// The number of a result's refusal, 0 for none.
+pub fn result_refusal(answer: Result<(), Refusal>) -> u32
+    ensures { result ≡ result_refusal answer }
+{
+    match answer {
+        Ok(()) => 0,
+        Err(refusal) => refusal.number(),
+    }
+}

@@ -14,14 +14,13 @@ use Rattle.text.specs.Text.{substring, leftmost}
 use Rattle.text.specs.TextLaws.{leftmost-le, leftmost-same, leftmost-least}
 use Rattle.text.specs.declared.TextPlace.{TextPlace}
 use Rattle.search.specs.declared.Fingerprint.{Fingerprint}
-use Rattle.search.specs.declared.Occurrence.{Occurrence}
-use Rattle.search.specs.declared.Occurrence.TheVariants.{At, Outside}
+use Rattle.std.proofs.Common.{Option, Some, None}
 use Rattle.search.specs.Occurrences.{leftmost_answer}
 use Rattle.search.proofs.leftmost.Reads as leftmost-reads
 use Rattle.search.proofs.occurs_earlier.Reads as earlier-reads
 
 -- r is an answer that the contract of `leftmost` allows to a call with these arguments
-abbrev pub LeftmostCall : (κs : Lfts 1) → Bor (List ℕ) → TextPlace → ℕ → Fingerprint → Occurrence → Type 0
+abbrev pub LeftmostCall : (κs : Lfts 1) → Bor (List ℕ) → TextPlace → ℕ → Fingerprint → Option TextPlace → Type 0
 LeftmostCall κs text at len by r = leftmost-reads.Post κs (text, (at, (len, (by, tt)))) r (text, (at, (len, (by, tt))))
 
 -- The contract of `occurs_earlier`.
@@ -30,7 +29,7 @@ Earlier κs text at len by r = earlier-reads.Post κs (text, (at, (len, (by, tt)
 
 -- Fingerprints only select candidates: what a call returns for a text, place and length does not depend on base and modulus.
 pub same_answer :
-    (κs : Lfts 1) (text : Bor (List ℕ)) (at : TextPlace) (len : ℕ) (one other : Fingerprint) (r s : Occurrence)
+    (κs : Lfts 1) (text : Bor (List ℕ)) (at : TextPlace) (len : ℕ) (one other : Fingerprint) (r s : Option TextPlace)
     → LeftmostCall κs text at len one r → LeftmostCall κs text at len other s → r ≡ s
 same_answer κs text at len one other r s p q = p ∙ sym q
 
@@ -48,7 +47,7 @@ pub record Leftmost (T : List ℕ) (at len p : ℕ) : Type 0 where
 
 answer-cases :
     (T : List ℕ) (at len : ℕ) (p : TextPlace) (b : Bool) → leb (at + len) (length T) ≡ b
-    → At p ≡ cond b (At (record { 0 = leftmost T at len })) Outside → (at + len ≤ length T) × (p.0 ≡ leftmost T at len)
+    → Some p ≡ cond b (Some (record { 0 = leftmost T at len })) None → (at + len ≤ length T) × (p.0 ≡ leftmost T at len)
 answer-cases T at len p true e f = (
   leb-true (at + len) (length T) e,
   (let z : p ≡ record { 0 = leftmost T at len } = cc in
@@ -60,7 +59,7 @@ answer-cases T at len p false e f =
 
 -- Whatever the fingerprint, the place found is the leftmost one.
 pub answer-is-leftmost :
-    (κs : Lfts 1) (text : Bor (List ℕ)) (at : TextPlace) (len : ℕ) (by : Fingerprint) (p : TextPlace) → LeftmostCall κs text at len by (At p)
+    (κs : Lfts 1) (text : Bor (List ℕ)) (at : TextPlace) (len : ℕ) (by : Fingerprint) (p : TextPlace) → LeftmostCall κs text at len by (Some p)
     → Leftmost text.now at.0 len p.0
 unfolding leftmost_answer
 answer-is-leftmost κs text at len by p a =

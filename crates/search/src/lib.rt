@@ -17,13 +17,6 @@ pub struct Fingerprint {
     pub modulus: u32,
 }
 
-// The place of the leftmost occurrence, or that the bytes extend past the end of the text.
-#[derive(Clone, Copy)]
-pub enum Occurrence {
-    At(TextPlace),
-    Outside,
-}
-
 impl Fingerprint {
     // With this modulus, and any below, a step of the rolling window stays within 64 bits.
     pub const MAX_MODULUS: u32 = 2147483647;
@@ -52,17 +45,17 @@ fn usable_modulus(modulus: u32) -> u32
     modulus
 }
 
-// The leftmost occurrence of the len bytes at a place of the text.
-pub fn leftmost(text: &[u8], at: TextPlace, len: u32, by: Fingerprint) -> Occurrence
+// The place of the leftmost occurrence of the len bytes at a place of the text; None if they extend past its end.
+pub fn leftmost(text: &[u8], at: TextPlace, len: u32, by: Fingerprint) -> Option<TextPlace>
     ensures { result ≡ leftmost_answer text.now at.0 len }
 {
     let start = at.0 as usize;
     let n = len as usize;
     if text.len() < start + n {
-        return Occurrence::Outside;
+        return None;
     }
     let place = scan::scan(text, at, n, Fingerprint::new(by.base, by.modulus));
-    Occurrence::At(place)
+    Some(place)
 }
 
 // Whether the len bytes at a place are in the text and also occur at an earlier place.
@@ -70,8 +63,5 @@ pub fn occurs_earlier(text: &[u8], at: TextPlace, len: u32, by: Fingerprint) -> 
     ensures { result ≡ occurs_earlier_answer text.now at.0 len }
 {
     let start = at.0;
-    match leftmost(text, at, len, by) {
-        Occurrence::At(found) => found.0 < start,
-        Occurrence::Outside => false,
-    }
+    leftmost(text, at, len, by).is_some_and(|found| found.0 < start)
 }

@@ -5,6 +5,7 @@ use mathlib.Core.Path.{◌≡◌, refl}
 use Prim.Native.Nat.{ℕ, ◌≤◌, ◌<◌, ◌*◌, ◌/◌}
 use contract.Lifetimes.{Lfts}
 use lib.ListN.{length, take, drop}
+use Rattle.std.specs.Prelude.{Ok}
 use Rattle.text.specs.Text.{substring}
 use Rattle.format.specs.Layout.{Settings, given}
 use Rattle.format.specs.Layout as at
@@ -43,10 +44,10 @@ pub accepted-rows : (κ : Lfts 1) (t : Borrowed) → Check κ t 0 → (w : ℕ) 
 accepted-rows κ t c w T ok fit = rows_of t (at.settings t.now) w T ok (check-answers κ t c (columns w T) fit)
 
 -- A text rearranged by a call, whose output is the input of a builder.
-module _ (κ : Lfts 2) (text : Borrowed) (w : ℕ) (out turned : BorrowedMut) (done : ToColumns κ text w out turned 0)
+module _ (κ : Lfts 2) (text : Borrowed) (w : ℕ) (out turned : BorrowedMut) (done : ToColumns κ text w out turned (Ok tt))
     (input : Borrowed) (is : input.now ≡ take (length text.now) turned.now) where
   ok : width_ok w (length text.now) ≡ true
-  ok = ((rearranging.to-columns κ text w out turned 0 done).passed refl).0
+  ok = ((rearranging.to-columns κ text w out turned (Ok tt) done).passed refl).0
 
   input-is : input.now ≡ columns w text.now
   input-is = rearranging.to-columns-input κ text w out turned done input.now is

@@ -216,9 +216,6 @@ module _ (t is os : List ℕ) (to : ℕ) (d : List ℕ) where
             past = λ j far. drop-set-lt j e (to + k) v (omega arith) ∙ c.past j (omega arith);
           }
 
-    pub bytes-all : (n : ℕ) → k ≡ n → Copied t leaf n to d e 0
-    bytes-all n all = (rw all at c.bytes, rw all at c.found)
-
 -- The same leaves by another name.
 leaves-same : (t d : List ℕ) (to n : ℕ) (f g : ℕ → Option ℕ) → ((x : ℕ) → x < n → f x ≡ g x) → leaves_written t d to f n ≡ leaves_written t d to g n
 leaves-same t d to zero f g same = refl

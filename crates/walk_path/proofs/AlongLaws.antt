@@ -1,5 +1,5 @@
 -- A path to the last level and its last step; and what a step to the right along the text does to both.
-use mathlib.Core.List.{List, [], ◌∷◌, ◌++◌}
+use mathlib.Core.List.{List, [], ◌∷◌}
 use mathlib.Core.Option.{Option, none, some}
 use mathlib.Core.Bool.{true, false}
 use mathlib.Core.Logic.{◌⊎◌, inl, inr}
@@ -12,11 +12,11 @@ use borrow.Author.Tests.{ltb-true}
 use Rattle.text.specs.ListLaws.{lt-or-ge}
 use Rattle.format.specs.Layout as at
 use Rattle.format.specs.LayoutLaws.{Readable, full-pos}
-use Rattle.format.specs.TreeReading.{Path, Visit, visit, entered, is_kept_block, pointing_block, target_block, target_place, path_from, path_of}
+use Rattle.format.specs.TreeReading.{Visit, visit, entered, is_kept_block, pointing_block, target_block, target_place, path_from, path_of}
 use Rattle.theory_paths.specs.Links.{b, H, N}
 use Rattle.theory_paths.specs.PlacesResolved.{entered-none, entered-twice, from-kept, from-points}
 use Rattle.theory_paths.specs.Shift.{step-div, step-mod, further, ShiftInBlocks, target-step}
-use Rattle.walk_path.specs.Above.{Above, entered_above, provided_above, above_from, above_of, through_last}
+use Rattle.walk_path.specs.Above.{Above, entered_above, above_from, above_of, through_last}
 use Rattle.walk_path.proofs.AboveLaws.{above-last, above_kept, above-points, above-off, above-past, above-some, provided-above, Lands, lands-cases}
 use Rattle.walk_path.proofs.WalkLaws.{from_past, from-off-lands}
 

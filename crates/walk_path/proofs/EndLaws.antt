@@ -8,7 +8,7 @@ use lib.ListN.{length}
 use Rattle.format.specs.Answers.{left_over}
 use Rattle.walk_path.specs.declared.WalkState.{WalkState}
 use Rattle.walk_path.specs.declared.PathEnd.{PathEnd}
-use Rattle.walk_path.specs.declared.WalkAnswer.TheVariants.{At, Broken}
+use Rattle.std.specs.Prelude.{Some, None}
 use Rattle.walk_path.specs.Above.{Above}
 use Rattle.walk_path.specs.Walk.{walked}
 
@@ -21,7 +21,7 @@ pub record PathEnds (t : List ℕ) (state : WalkState) (o : Option Above) (r : P
   pub entered_is : r.state.entered ≡ state.entered + length above.visits
   pub left_is : r.state.left ≡ left_over t above.visits state.left
 
-pub ends : (t : List ℕ) (state : WalkState) (o : Option Above) (r : PathEnd) → At r ≡ walked t state o → PathEnds t state o r
+pub ends : (t : List ℕ) (state : WalkState) (o : Option Above) (r : PathEnd) → Some r ≡ walked t state o → PathEnds t state o r
 unfolding walked
 ends t state none r e = absurd (let z : ◌≡◌ {A = ℕ} 0 1 = cc in omega arith)
 ends t state (some a) r e =
@@ -39,7 +39,7 @@ ends t state (some a) r e =
       left_is = ap (λ (x : PathEnd). x.state.left) z;
     }
 
-pub path-broken : (t : List ℕ) (state : WalkState) (o : Option Above) → Broken ≡ walked t state o → o ≡ none
+pub path-broken : (t : List ℕ) (state : WalkState) (o : Option Above) → None ≡ walked t state o → o ≡ none
 unfolding walked
 path-broken t state none e = refl
 path-broken t state (some a) e = absurd (let z : ◌≡◌ {A = ℕ} 0 1 = cc in omega arith)

@@ -24,13 +24,13 @@ use Rattle.walk_steps.specs.declared.position.BlockPosition.{BlockPosition}
 use Rattle.walk_steps.specs.declared.BlockAt.{BlockAt}
 use Rattle.walk_steps.specs.declared.BlockAt.TheVariants as arrived
 use Rattle.walk_path.specs.declared.WalkState.{WalkState}
-use Rattle.walk_path.specs.declared.WalkAnswer.{WalkAnswer}
-use Rattle.walk_path.specs.declared.WalkAnswer.TheVariants.{At, Broken}
+use Rattle.std.specs.Prelude.{Some, None}
+use Rattle.std.specs.Prelude as prelude
+use Rattle.walk_path.specs.declared.PathEnd.{PathEnd}
 use Rattle.walk_steps.specs.Steps.{OnLevel, Pointing, block_kind_at, child_at, resolved_target}
 use Rattle.walk_steps.proofs.NextLaws.{next-kept, next-points, next-off, level-below, child-at, child-off, resolved-at, resolved-off}
 use Rattle.walk_steps.proofs.StepLaws.{b-pos, b-small, first-there, kept_in}
 use Rattle.walk_path.specs.declared.Landing.{Landing}
-use Rattle.walk_path.specs.declared.Landing.TheVariants as landed
 use Rattle.walk_path.specs.Above.{Above, entered_above, above_from, above_of}
 use Rattle.walk_path.specs.Walk.{onward, walked, walked_in, landing_at, KeptAt, MayPoint}
 use Rattle.walk_path.proofs.AboveLaws.{above-last, above_kept, above-pointing, above-off, above-past}
@@ -49,7 +49,7 @@ walked-enter t state l i o none = refl
 walked-enter t state l i o (some a) =
     let left = left_over t a.visits (min state.left (at.full_length t l - o)) in
     let e : state.entered + 1 + length a.visits ≡ state.entered + length (visit l i o ∷ a.visits) = omega arith in
-    ap (λ (n : ℕ). At (record { block = record { 0 = a.block }; place = record { 0 = a.place }; state = record { entered = n; left = left } })) e
+    ap (λ (n : ℕ). Some (record { block = record { 0 = a.block }; place = record { 0 = a.place }; state = record { entered = n; left = left } })) e
 
 -- Paths that break.
 
@@ -86,13 +86,13 @@ module _ (t : List ℕ) where
 
 -- A step's word.
 
-pub broken-word : Broken ≡ walked_in 18446744073709551615
+pub broken-word : None ≡ walked_in 18446744073709551615
 unfolding walked_in
 broken-word = refl
 
 pub packed-word : (i o entered left : ℕ) → i < 268435456 → o < 256 → entered < 16 → left ≤ max_text
     → walked_in (i + 268435456 * (o + 256 * (entered + 16 * left)))
-    ≡ At (record { block = record { 0 = i }; place = record { 0 = o }; state = record { entered = entered; left = left } })
+    ≡ Some (record { block = record { 0 = i }; place = record { 0 = o }; state = record { entered = entered; left = left } })
 unfolding walked_in
 packed-word i o entered left small low few short =
     let w = i + 268435456 * (o + 256 * (entered + 16 * left)) in
@@ -107,7 +107,7 @@ packed-word i o entered left small low few short =
     rw (ne_eqb w 18446744073709551615 (λ z. omega arith), a, p, e, c)
 
 pub unpacked-word : (w : ℕ) → (w ≡ 18446744073709551615 → ⊥)
-    → At (record {
+    → Some (record {
       block = record { 0 = w % 268435456 };
       place = record { 0 = w / 268435456 % 256 };
       state = record { entered = w / 68719476736 % 16; left = w / 1099511627776 };
@@ -141,8 +141,8 @@ module _ (t : List ℕ) (size level b i o : ℕ) (state : WalkState) (k : KeptAt
     lower = (asks-child t size level b i o state.entered k down below b_is).0
 
     -- The path goes on with the child.
-    kept-down : (r : WalkAnswer) → r ≡ walked t on (above_from t ((at.settings t).levels - 1 - (level + 1)) (level + 1) (at.link t level i + o / below)
-        (o % below))
+    kept-down : (r : prelude.Option PathEnd)
+        → r ≡ walked t on (above_from t ((at.settings t).levels - 1 - (level + 1)) (level + 1) (at.link t level i + o / below) (o % below))
         → r ≡ walked t state (above_from t ((at.settings t).levels - 1 - level) level i o)
     kept-down r e =
         let n = (at.settings t).levels - 1 - (level + 1) in
@@ -162,21 +162,21 @@ module _ (t : List ℕ) (size level b i o : ℕ) (state : WalkState) (k : KeptAt
           few = omega (arith, k.few);
         }
 
-    pub child-by : (r : WalkAnswer) (j : BlockNumber) (p : BlockPlace) → x ≡ arrived.At j p
+    pub child-by : (r : prelude.Option PathEnd) (j : BlockNumber) (p : BlockPlace) → x ≡ arrived.At j p
         → r ≡ walked t on (above_from t ((at.settings t).levels - 1 - (level + 1)) (level + 1) j.0 p.0)
         → r ≡ walked t state (above_from t ((at.settings t).levels - 1 - level) level i o)
     child-by r j p e f =
         let z = child-at t (level + 1) (at.link t level i + o / below) (o % below) x x-is j p e in
         kept-down r (rw (z.1, z.2) at f)
 
-    pub child-none : x ≡ arrived.Off → Broken ≡ walked t state (above_from t ((at.settings t).levels - 1 - level) level i o)
+    pub child-none : x ≡ arrived.Off → None ≡ walked t state (above_from t ((at.settings t).levels - 1 - level) level i o)
     unfolding walked
     child-none e =
         let n = (at.settings t).levels - 1 - (level + 1) in
         let j = at.link t level i + o / below in
-        let f : Broken ≡ walked t on (above_from t n (level + 1) j (o % below)) =
+        let f : None ≡ walked t on (above_from t n (level + 1) j (o % below)) =
         rw (above-past t n (level + 1) j (o % below) (child-off t (level + 1) j (o % below) x x-is e)) in
-        kept-down Broken f
+        kept-down None f
 
 module _ (t : List ℕ) (size level b i o entered : ℕ) (k : MayPoint t size level b i o entered) where
   pub may-enter : entered ≤ 2 * max_levels
@@ -194,21 +194,25 @@ module _ (t : List ℕ) (size level b i o entered : ℕ) (k : MayPoint t size le
     pub may-point : x ≡ Points j p → Pointing t size level b i o
     may-point e = record { on = k.on; place-in = k.place-in; points = (next-points t level i o x x-is j p e).1 }
 
+-- A landing by its parts.
+abbrev pub landed : BlockNumber → BlockPlace → WalkState → prelude.Option Landing
+landed i o state = Some (record { block = i; place = o; state = state })
+
 -- The kept block for a place of a block above the last level.
 same-landing : (j : BlockNumber) (p : BlockPlace) (on : WalkState) (i o : ℕ) (state : WalkState) → j.0 ≡ i → p.0 ≡ o → on ≡ state
-    → landed.At j p on ≡ landed.At (record { 0 = i }) (record { 0 = o }) state
+    → landed j p on ≡ landed (record { 0 = i }) (record { 0 = o }) state
 same-landing j p on i o state e f g = rw (← e, ← f, g)
 
 module _ (t : List ℕ) (size level b i o : ℕ) (state : WalkState) (k : MayPoint t size level b i o state.entered) (x : BlockKind)
     (x-is : x ≡ block_kind_at t level i o) where
-  pub landing-off : x ≡ Off → landed.Off ≡ landing_at t state level i o
+  pub landing-off : x ≡ Off → None ≡ landing_at t state level i o
   unfolding landing_at
   landing-off e =
       let z = next-off t level i o x x-is e in
       rw (z.0, z.1)
 
   pub landing_kept : (j : BlockNumber) (p : BlockPlace)
-      → x ≡ Kept j p → landed.At (record { 0 = i }) (record { 0 = o }) state ≡ landing_at t state level i o
+      → x ≡ Kept j p → landed (record { 0 = i }) (record { 0 = o }) state ≡ landing_at t state level i o
   unfolding landing_at
   landing_kept j p e = rw (next-kept t level i o x x-is j p e).0
 
@@ -233,7 +237,7 @@ module _ (t : List ℕ) (size level b i o : ℕ) (state : WalkState) (k : MayPoi
               let s : (at.settings t).levels - 1 - level ≡ 0 = omega (arith, k.on.level_in) in
               rw (s, from-last-points t level i o apart)
 
-      pub landing-none : level + 1 < (at.settings t).levels → y ≡ arrived.Off → landed.Off ≡ landing_at t state level i o
+      pub landing-none : level + 1 < (at.settings t).levels → y ≡ arrived.Off → None ≡ landing_at t state level i o
       unfolding landing_at
       landing-none more f =
           let z : is_kept_block t level (target_block t level i o) ≡ false = rw (lt-ltb _ _ more) at (resolved-off t level i o y y-is f) in
@@ -252,7 +256,7 @@ module _ (t : List ℕ) (size level b i o : ℕ) (state : WalkState) (k : MayPoi
               few = omega (arith, k.few);
             }
 
-        pub landing-target : landed.At m q on ≡ landing_at t state level i o
+        pub landing-target : landed m q on ≡ landing_at t state level i o
         unfolding landing_at
         landing-target =
             let z = resolved-at t level i o y y-is m q f in
@@ -260,18 +264,24 @@ module _ (t : List ℕ) (size level b i o : ℕ) (state : WalkState) (k : MayPoi
 
 -- Where the walk goes on: in the block itself, or in its target.
 
+landed-parts : (j m : BlockNumber) (p q : BlockPlace) (on further : WalkState) → landed j p on ≡ landed m q further → (j ≡ m) × (p ≡ q) × (on ≡ further)
+landed-parts j m p q on further e =
+    let from : Landing = record { block = j; place = p; state = on } in
+    let to : Landing = record { block = m; place = q; state = further } in
+    let z : from ≡ to = cc in (ap (λ (x : Landing). x.block) z, ap (λ (x : Landing). x.place) z, ap (λ (x : Landing). x.state) z)
+
 cases-at : (kept both : Bool) (i o m q : ℕ) (state further : WalkState) (j : BlockNumber) (p : BlockPlace) (on : WalkState)
-    → landed.At j p on ≡ cond kept (landed.At (record { 0 = i }) (record { 0 = o }) state)
-    (cond both (landed.At (record { 0 = m }) (record { 0 = q }) further) landed.Off)
+    → landed j p on ≡ cond kept (landed (record { 0 = i }) (record { 0 = o }) state)
+    (cond both (landed (record { 0 = m }) (record { 0 = q }) further) None)
     → ((kept ≡ true) × (j ≡ record { 0 = i }) × (p ≡ record { 0 = o }) × (on ≡ state))
     ⊎ ((kept ≡ false) × (both ≡ true) × (j ≡ record { 0 = m }) × (p ≡ record { 0 = q }) × (on ≡ further))
-cases-at true both i o m q state further j p on e = inl (refl, cc, cc, cc)
-cases-at false true i o m q state further j p on e = inr (refl, refl, cc, cc, cc)
+cases-at true both i o m q state further j p on e = let z = landed-parts j _ p _ on _ e in inl (refl, z.0, z.1, z.2)
+cases-at false true i o m q state further j p on e = let z = landed-parts j _ p _ on _ e in inr (refl, refl, z.0, z.1, z.2)
 cases-at false false i o m q state further j p on e = absurd (let z : ◌≡◌ {A = ℕ} 0 1 = cc in omega arith)
 
 cases-off : (kept both : Bool) (i o m q : ℕ) (state further : WalkState)
-    → landed.Off ≡ cond kept (landed.At (record { 0 = i }) (record { 0 = o }) state)
-    (cond both (landed.At (record { 0 = m }) (record { 0 = q }) further) landed.Off)
+    → None ≡ cond kept (landed (record { 0 = i }) (record { 0 = o }) state)
+    (cond both (landed (record { 0 = m }) (record { 0 = q }) further) None)
     → (kept ≡ false) × (both ≡ false)
 cases-off true both i o m q state further e = absurd (let z : ◌≡◌ {A = ℕ} 0 1 = cc in omega arith)
 cases-off false true i o m q state further e = absurd (let z : ◌≡◌ {A = ℕ} 0 1 = cc in omega arith)
@@ -293,7 +303,7 @@ module _ (t : List ℕ) (size level b i o : ℕ) (state : WalkState) (k : MayPoi
       )
 
   pub last-walked : level + 1 ≡ (at.settings t).levels
-      → (r : WalkAnswer) → r ≡ At (record { block = record { 0 = i }; place = record { 0 = o }; state = state })
+      → (r : prelude.Option PathEnd) → r ≡ Some (record { block = record { 0 = i }; place = record { 0 = o }; state = state })
       → r ≡ walked t state (above_from t ((at.settings t).levels - 1 - level) level i o)
   unfolding walked left_over
   last-walked last r e =
@@ -301,20 +311,20 @@ module _ (t : List ℕ) (size level b i o : ℕ) (state : WalkState) (k : MayPoi
       let n : state.entered + 0 ≡ state.entered = omega arith in
       e ∙ rw (z, above-last t level i o k.block_in, n)
 
-  module _ (more : level + 1 < (at.settings t).levels) (y : Landing) (y-is : y ≡ landing_at t state level i o) where
+  module _ (more : level + 1 < (at.settings t).levels) (y : prelude.Option Landing) (y-is : y ≡ landing_at t state level i o) where
     abbrev both : Bool
     both = pointing_block t level i && is_kept_block t level (target_block t level i o)
 
     steps : (at.settings t).levels - 1 - level ≡ suc ((at.settings t).levels - 1 - (level + 1))
     steps = omega arith
 
-    pub landed-off : y ≡ landed.Off → Broken ≡ walked t state (above_from t ((at.settings t).levels - 1 - level) level i o)
+    pub landed-off : y ≡ None → None ≡ walked t state (above_from t ((at.settings t).levels - 1 - level) level i o)
     unfolding walked landing_at
     landed-off e =
         let z = cases-off (is_kept_block t level i) both i o _ _ state _ (sym e ∙ y-is) in
         rw (steps, above-off t ((at.settings t).levels - 1 - (level + 1)) level i o z.0 (λ pt. rw pt at z.1))
 
-    module _ (j : BlockNumber) (p : BlockPlace) (on : WalkState) (e : y ≡ landed.At j p on) where
+    module _ (j : BlockNumber) (p : BlockPlace) (on : WalkState) (e : y ≡ landed j p on) where
       abbrev Cases : Type 0
       Cases = ((is_kept_block t level i ≡ true) × (j ≡ record { 0 = i }) × (p ≡ record { 0 = o }) × (on ≡ state))
           ⊎ ((is_kept_block t level i ≡ false) × (both ≡ true) × (j ≡ record { 0 = target_block t level i o })
@@ -340,7 +350,7 @@ module _ (t : List ℕ) (size level b i o : ℕ) (state : WalkState) (k : MayPoi
                 few = omega (arith, k.few);
               })
 
-      pub landed-by : (r : WalkAnswer) → r ≡ walked t on (above_from t ((at.settings t).levels - 1 - level) level j.0 p.0)
+      pub landed-by : (r : prelude.Option PathEnd) → r ≡ walked t on (above_from t ((at.settings t).levels - 1 - level) level j.0 p.0)
           → r ≡ walked t state (above_from t ((at.settings t).levels - 1 - level) level i o)
       landed-by r f = go landed-cases
         where
@@ -368,7 +378,7 @@ module _ (t : List ℕ) (size b p : ℕ) (on : OnLevel t size 0 b) (x : BlockPos
         few = omega arith;
       })
 
-  pub top-by : (state : WalkState) (r : WalkAnswer)
+  pub top-by : (state : WalkState) (r : prelude.Option PathEnd)
       → r ≡ walked t state (above_from t ((at.settings t).levels - 1 - 0) 0 x.block.0 x.place.0) → r ≡ walked t state (above_of t p)
   unfolding above_of
   top-by state r e =

@@ -2,7 +2,7 @@
 // while a pointer can be followed. A step carries no header and returns one word.
 #![tactic(auto)]
 
-ghost use Rattle.std.specs.Prelude.{◌≡◌, ◌+◌, ◌-◌, ◌*◌, ◌/◌, ◌≤◌, ◌<◌};
+ghost use Rattle.std.specs.Prelude.{Some, ◌≡◌, ◌+◌, ◌-◌, ◌*◌, ◌/◌, ◌≤◌, ◌<◌};
 ghost use Rattle.format.specs.Layout as at;
 ghost use Rattle.walk_steps.specs.Steps.{OnLevel};
 ghost use Rattle.format.specs.Layout.{max_text, max_levels};
@@ -28,17 +28,12 @@ pub struct PathEnd {
     pub state: WalkState,
 }
 
-#[derive(Clone, Copy)]
-pub enum WalkAnswer {
-    At(PathEnd),
-    Broken,
-}
-
 // The kept block that contains a place, the place in it, and what is carried there.
 #[derive(Clone, Copy)]
-pub enum Landing {
-    At(BlockNumber, BlockPlace, WalkState),
-    Off,
+pub struct Landing {
+    pub block: BlockNumber,
+    pub place: BlockPlace,
+    pub state: WalkState,
 }
 
 impl WalkState {
@@ -60,20 +55,20 @@ const BROKEN: u64 = 18446744073709551615;
 // The result of a walk in one word: the block + 2^28 × the place + 2^36 × the blocks entered + 2^40 × the bytes left.
 fn packed(block: BlockNumber, place: BlockPlace, state: WalkState) -> u64
     requires { (block.0 < 268435456) × (place.0 < 256) × (state.entered < 16) × (state.left ≤ max_text) }
-    ensures { walked_in result ≡ WalkAnswer.At (record { block = block; place = place; state = state }) }
+    ensures { walked_in result ≡ Some (record { block = block; place = place; state = state }) }
 {
     let carried = state.entered as u64 + 16 * state.left as u64;
     block.0 as u64 + 268435456 * (place.0 as u64 + 256 * carried)
 }
 
 // The walk that such a word represents.
-pub fn unpacked(word: u64) -> WalkAnswer
+pub fn unpacked(word: u64) -> Option<PathEnd>
     ensures { result ≡ walked_in word }
 {
     if word == BROKEN {
-        return WalkAnswer::Broken;
+        return None;
     }
-    WalkAnswer::At(PathEnd {
+    Some(PathEnd {
         block: BlockNumber((word % 268435456) as u32),
         place: BlockPlace((word / 268435456 % 256) as u32),
         state: WalkState {
@@ -93,23 +88,31 @@ fn to_kept(
     place: BlockPlace,
     entered: u32,
     left: u32,
-) -> Landing
+) -> Option<Landing>
     requires { (MayPoint t.now size level b block.0 place.0 entered) × (level + 1 < (at.settings t.now).levels) }
     ensures { result ≡ landing_at t.now (record { entered = entered; left = left }) level block.0 place.0 }
 {
     let state = WalkState { entered, left };
     let here = walk_steps::classify_block(t, size, level, b, block, place);
     match here {
-        BlockKind::Kept(_, _) => Landing::At(block, place, state),
+        BlockKind::Kept(_, _) => Some(Landing {
+            block,
+            place,
+            state,
+        }),
         BlockKind::Points(_, _) => {
             let further = state.enter(b, place);
             let there = walk_steps::resolve_target(t, size, level, b, block, place);
             let BlockAt::At(i, p) = there else {
-                return Landing::Off;
+                return None;
             };
-            Landing::At(i, p, further)
+            Some(Landing {
+                block: i,
+                place: p,
+                state: further,
+            })
         }
-        BlockKind::Off => Landing::Off,
+        BlockKind::Off => None,
     }
 }
 
@@ -168,8 +171,8 @@ fn pointing_step(
     let tree = *t;
     let shape = fields::shape_of(tree);
     let below = walk_steps::quotient(b, shape.arity);
-    let there = to_kept(tree, size, level, b, block, place, entered, left);
-    let Landing::At(i, p, further) = there else {
+    let landing = to_kept(tree, size, level, b, block, place, entered, left);
+    let Some(there) = landing else {
         return BROKEN;
     };
     kept_step(
@@ -178,10 +181,10 @@ fn pointing_step(
         level,
         b,
         below,
-        i,
-        p,
-        further.entered,
-        further.left,
+        there.block,
+        there.place,
+        there.state.entered,
+        there.state.left,
     )
 }
 

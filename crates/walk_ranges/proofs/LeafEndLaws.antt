@@ -27,8 +27,8 @@ use Rattle.layout.specs.declared.header.Header.{Header}
 use Rattle.layout.specs.HeaderFields.{HeaderOf}
 use Rattle.layout.specs.Record.{FieldIn, field_in}
 use Rattle.walk_path.specs.declared.PathEnd.{PathEnd}
-use Rattle.walk_path.specs.declared.WalkAnswer.{WalkAnswer}
-use Rattle.walk_path.specs.declared.WalkAnswer.TheVariants.{At, Broken}
+use Rattle.std.specs.Prelude.{Some, None}
+use Rattle.std.specs.Prelude as prelude
 use Rattle.walk_path.specs.Above.{Above, above_of, through_last}
 use Rattle.walk_path.specs.Walk.{walked}
 use Rattle.walk_path.proofs.EndLaws.{PathEnds, ends, path-broken}
@@ -107,14 +107,14 @@ module _ (t : List ℕ) (p : ℕ) (h : Header) (k : HeaderOf t h) (low : p < h.t
   refused-14 : path_of t p ≡ none → byte_answer t p ≡ refused 14
   refused-14 e = byte-path t k.passes p low-text ∙ ap (byte_of t) e
 
-  module _ (w : WalkAnswer) (w-is : w ≡ walked t (record { entered = 0; left = h.text_length - p }) (above_of t p)) where
-    pub end-broken : w ≡ Broken → byte_answer t p ≡ refused 14
+  module _ (w : prelude.Option PathEnd) (w-is : w ≡ walked t (record { entered = 0; left = h.text_length - p }) (above_of t p)) where
+    pub end-broken : w ≡ None → byte_answer t p ≡ refused 14
     unfolding through_last
     end-broken b =
         let z = path-broken t (record { entered = 0; left = h.text_length - p }) (above_of t p) (sym b ∙ w-is) in
         refused-14 (path-of-above t k.facts p ∙ rw z)
 
-    module _ (r : PathEnd) (e : w ≡ At r) where
+    module _ (r : PathEnd) (e : w ≡ Some r) where
       pub end-walk : PathEnds t (record { entered = 0; left = h.text_length - p }) (above_of t p) r
       end-walk = ends t (record { entered = 0; left = h.text_length - p }) (above_of t p) r (sym e ∙ w-is)
 

@@ -28,7 +28,8 @@ use Rattle.walk_steps.specs.declared.position.LevelAt.{LevelAt}
 use Rattle.layout.specs.declared.place.BlockPlace.{BlockPlace}
 use Rattle.walk_ranges.specs.declared.segments.Segment.{Segment}
 use Rattle.walk_ranges.specs.declared.segments.Piece.{Piece}
-use Rattle.walk_ranges.specs.declared.segments.Piece.TheVariants as piece
+use Rattle.std.specs.Prelude.{Some, None}
+use Rattle.std.specs.Prelude as prelude
 use Rattle.walk_ranges.proofs.LeafEndLaws.{kept_by, unkept-by, unkept-past}
 use Rattle.walk_ranges.specs.Segments.{leaf_number, leaf_from, leaf_in, full_width, KeptOn, SegmentAt, NextAt, IsNext}
 
@@ -272,15 +273,16 @@ module _ (t : List ℕ) (k : Readable t) (l : ℕ) (low : l < H t) where
       in-none p i o (rw (left_here, div-eq_of_lt small, mod-eq_of_lt small, z) (ap leaf_number (from-off t (H t - (l + 1)) l i o unkept apart)))
 
   -- The answer for a block and a place in it is that for a place of the segment.
-  pub next-from : (p first o most j q : ℕ) → j ≡ first + o / b t l → q ≡ o % b t l → (r : Piece) → IsNext t p l j q most r → IsNext t p l first o most r
-  next-from p first o most j q j-is q-is (piece.At s n) e = record {
+  pub next-from : (p first o most j q : ℕ) → j ≡ first + o / b t l → q ≡ o % b t l → (r : prelude.Option Piece) → IsNext t p l j q most r
+      → IsNext t p l first o most r
+  next-from p first o most j q j-is q-is (Some x) e = record {
     some_byte = e.some_byte;
     at_most = e.at_most;
     segment = e.segment;
     falls = e.falls;
     same = λ x less. in_block p first o x ∙ rw (j-is, q-is) at (e.same x less);
   }
-  next-from p first o most j q j-is q-is piece.Off e =
+  next-from p first o most j q j-is q-is None e =
       let z : o + 0 ≡ o = omega arith in
       let y : o % b t l + 0 ≡ o % b t l = omega arith in
       rw (z, y) at (in_block p first o 0) ∙ rw (j-is, q-is) at e
@@ -301,7 +303,7 @@ module _ (t : List ℕ) (p size l c o n : ℕ) (s : SegmentAt t p size l c o n) 
   )
 
   -- The answer for this block and this place in it.
-  pub segment-next : (first j : ℕ) → j ≡ first + x.blocks → (r : Piece) → IsNext t p l j q n r → IsNext t p l first o n r
+  pub segment-next : (first j : ℕ) → j ≡ first + x.blocks → (r : prelude.Option Piece) → IsNext t p l j q n r → IsNext t p l first o n r
   segment-next first j j-is r e =
       let c_is = s.b_is low in
       let block : j ≡ first + o / b t l = j-is ∙ ap (λ (y : DivRem). first + y.blocks) x-is ∙ ap (λ (y : ℕ). first + o / y) c_is in
@@ -310,7 +312,7 @@ module _ (t : List ℕ) (p size l c o n : ℕ) (s : SegmentAt t p size l c o n) 
   pub segment-off : (first : ℕ) → is_kept_block t l (first + x.blocks) ≡ false → pointing_block t l (first + x.blocks) ≡ false
       → leaf_in t p l first o ≡ none
   segment-off first unkept apart =
-      segment-next first (first + x.blocks) refl piece.Off
+      segment-next first (first + x.blocks) refl None
       (off-none t s.facts l low p (first + x.blocks) q unkept apart (omega (arith, place-there.0, s.b_is low)))
 
 -- The answers of `children` and of `targets`.

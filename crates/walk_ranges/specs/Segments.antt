@@ -1,5 +1,6 @@
 -- A long span by one descent: the leaf bytes of consecutive blocks of a level, and what copies them.
-use Rattle.std.specs.Prelude.{List, Bool, true, false, cond, ◌≡◌, ℕ, zero, suc, ◌+◌, ◌-◌, ◌*◌, ◌/◌, ◌%◌, ◌≤◌, ◌<◌, ltb, eqb, set, drop}
+use Rattle.std.specs.Prelude.{List, Some, None, Bool, true, false, cond, ◌≡◌, ℕ, zero, suc, ◌+◌, ◌-◌, ◌*◌, ◌/◌, ◌%◌, ◌≤◌, ◌<◌, ltb, eqb, set, drop}
+use Rattle.std.specs.Prelude as prelude
 use Rattle.std.proofs.Math.Option.{Option, none, some}
 use Rattle.format.specs.Layout as at
 use Rattle.format.specs.Layout.{max_text}
@@ -7,7 +8,6 @@ use Rattle.format.specs.LayoutLaws.{Readable}
 use Rattle.format.specs.TreeReading.{Path, provided, is_kept_block, path_from}
 use Rattle.walk_ranges.specs.declared.segments.Segment.{Segment}
 use Rattle.walk_ranges.specs.declared.segments.Piece.{Piece}
-use Rattle.walk_ranges.specs.declared.segments.Piece.TheVariants as piece
 
 -- The number of the leaf byte at the end of a path.
 abbrev pub leaf_number : Option Path → Option ℕ
@@ -78,6 +78,6 @@ module _ (t : List ℕ) where
     pub same : (x : ℕ) → x < n → leaf_in pointers l first (o + x) ≡ leaf_in s.rules.pointers s.on.level s.from.block.0 (s.from.place.0 + x)
 
   -- The answer of `next_segment`.
-  abbrev pub IsNext : (pointers l first o most : ℕ) → Piece → Type 0
-  IsNext pointers l first o most (piece.At s n) = NextAt pointers l first o most s n
-  IsNext pointers l first o most piece.Off = leaf_in pointers l first o ≡ none
+  abbrev pub IsNext : (pointers l first o most : ℕ) → prelude.Option Piece → Type 0
+  IsNext pointers l first o most (Some p) = NextAt pointers l first o most p.segment p.size
+  IsNext pointers l first o most None = leaf_in pointers l first o ≡ none

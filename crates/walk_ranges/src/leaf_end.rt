@@ -11,7 +11,6 @@ ghost use Rattle.walk_ranges.specs.LeafEnds.{EndsIn, LeafEndOf, Joined};
 use layout::header::Header;
 use layout::place::{BlockNumber, BlockPlace, TextPlace};
 use layout::record;
-use walk_path::WalkAnswer;
 
 // The block of the last level in which a path ends, the place in it, the number of its leaf byte, the smallest number of bytes left in a block above the last
 // level, and the number of blocks entered.
@@ -30,10 +29,7 @@ pub fn end_of(t: &[u8], h: Header, p: TextPlace, word: u64) -> Option<LeafEnd>
         × (walked_in word ≡ walked t.now (record { entered = 0; left = h.text_length - p.0 }) (above_of t.now p.0)) }
     ensures { LeafEndOf t.now p.0 result }
 {
-    let walked = walk_path::unpacked(word);
-    let WalkAnswer::At(reached) = walked else {
-        return None;
-    };
+    let reached = walk_path::unpacked(word)?;
     let block = reached.block;
     let place = reached.place;
     let last = h.settings.levels - 1;

@@ -30,9 +30,9 @@ pub struct Segment {
 
 // The segment that has the next bytes, and the number of these bytes.
 #[derive(Clone, Copy)]
-pub enum Piece {
-    At(Segment, u32),
-    Off,
+pub struct Piece {
+    pub segment: Segment,
+    pub size: u32,
 }
 
 // The number of children of a kept block, or of its leaf bytes on the last level, if it is full.
@@ -142,35 +142,47 @@ fn targets(t: &[u8], size: u32, on: LevelAt, from: BlockPosition) -> Segment
 }
 
 // From a kept block.
-fn below(t: &[u8], rules: Rules, on: LevelAt, from: BlockPosition, most: u32) -> Piece
+fn below(t: &[u8], rules: Rules, on: LevelAt, from: BlockPosition, most: u32) -> Option<Piece>
     requires { (OnLevel t.now rules.record_size on.level on.b) × (is_kept_block t.now on.level from.block.0 ≡ true)
         × (from.place.0 < on.b) × (1 ≤ most) × (from.place.0 + most ≤ 2 * max_text) }
     ensures { IsNext t.now rules.pointers on.level from.block.0 from.place.0 most result }
 {
     let n = kept_size(t, rules.record_size, on, from, most);
     let under = children(t, rules.record_size, on, from);
-    Piece::At(under, byte_slices::min(n, most))
+    Some(Piece {
+        segment: under,
+        size: n.min(most),
+    })
 }
 
 // From a pointing block. On the last level no block points.
-fn across(t: &[u8], rules: Rules, on: LevelAt, from: BlockPosition, most: u32) -> Piece
+fn across(t: &[u8], rules: Rules, on: LevelAt, from: BlockPosition, most: u32) -> Option<Piece>
     requires { (Pointing t.now rules.record_size on.level on.b from.block.0 from.place.0)
         × (1 ≤ most) }
     ensures { IsNext t.now rules.pointers on.level from.block.0 from.place.0 most result }
 {
     if rules.pointers == 0 {
-        return Piece::Off;
+        return None;
     }
     let shape = fields::shape_of(t);
     if on.level + 1 == shape.levels {
-        return Piece::Off;
+        return None;
     }
     let beside = targets(t, rules.record_size, on, from);
-    Piece::At(beside, byte_slices::min(on.b - from.place.0, most))
+    Some(Piece {
+        segment: beside,
+        size: (on.b - from.place.0).min(most),
+    })
 }
 
 // The segment that has the next bytes of a segment of blocks.
-pub fn next_segment(t: &[u8], rules: Rules, on: LevelAt, from: BlockPosition, most: u32) -> Piece
+pub fn next_segment(
+    t: &[u8],
+    rules: Rules,
+    on: LevelAt,
+    from: BlockPosition,
+    most: u32,
+) -> Option<Piece>
     requires { (SegmentAt t.now rules.pointers rules.record_size on.level on.b from.place.0 most)
         × (on.level < (at.settings t.now).levels) × (1 ≤ most) }
     ensures { IsNext t.now rules.pointers on.level from.block.0 from.place.0 most result }
@@ -191,6 +203,6 @@ pub fn next_segment(t: &[u8], rules: Rules, on: LevelAt, from: BlockPosition, mo
             BlockPosition { block, place },
             most,
         ),
-        BlockKind::Off => Piece::Off,
+        BlockKind::Off => None,
     }
 }

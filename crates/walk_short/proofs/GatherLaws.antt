@@ -29,8 +29,9 @@ use Rattle.walk_steps.specs.Steps.{block_kind_at, OnLevel, Pointing}
 use Rattle.layout.proofs.ShapeLaws.{Shapes}
 use Rattle.walk_steps.proofs.StepLaws.{kept_in, pointing-gap}
 use Rattle.walk_steps.proofs.NextLaws.{next-kept, next-points, next-off}
-use Rattle.walk_short.specs.declared.gather.Gathered.{Gathered}
-use Rattle.walk_short.specs.declared.gather.Gathered.TheVariants.{At, Broken}
+use Rattle.std.specs.Prelude.{Some, None}
+use Rattle.std.specs.Prelude as prelude
+use Rattle.walk_short.specs.declared.gather.Parts.{Parts}
 use Rattle.walk_short.specs.declared.gather.SpanStep.{SpanStep}
 use Rattle.walk_short.specs.declared.gather.SpanStep.TheVariants as step
 use Rattle.walk_short.specs.Gathered.{gathered, packed, unpacked, down_to, pointed_to, span_step, Crossing}
@@ -42,7 +43,7 @@ unfolding gathered
 gathered-led vs n k none e = refl
 gathered-led vs n k (some q) e =
     let same : n + k + length q.visits ≡ n + length (vs ++ q.visits) = rw (length-append vs q.visits) (omega arith) in
-    ap (λ (x : ℕ). At (record { entered = x; from = q.from; size = q.size; next = q.next })) same
+    ap (λ (x : ℕ). Some (record { entered = x; from = q.from; size = q.size; next = q.next })) same
 
 -- Over the end of a block.
 module _ (t : List ℕ) (size level b o entered : ℕ) (k : Crossing t size level b o entered) where
@@ -71,7 +72,7 @@ module _ (t : List ℕ) (size level b o entered : ℕ) (k : Crossing t size leve
     counted_few = rw (e ∙ counted-word) facts.bounds.counted_high;
   }
 
-  pub over_none : (i : ℕ) → at.level_count t level ≤ i + 1 → Broken ≡ gathered entered (by_edges t level i o)
+  pub over_none : (i : ℕ) → at.level_count t level ≤ i + 1 → None ≡ gathered entered (by_edges t level i o)
   unfolding gathered by_edges
   over_none i past = rw (le-ltb (i + 1) (at.level_count t level) past)
 
@@ -80,7 +81,7 @@ module _ (t : List ℕ) (size level b o entered : ℕ) (k : Crossing t size leve
   edges-next i = omega (arith, add-mul i 1 (at.record_size t))
 
   pub over-at : (i e m : ℕ) → i + 1 < at.level_count t level → e ≡ at.edges_at t level i → m ≡ word_at t leaf_at
-      → At (record { entered = entered + 2; from = e + (m + m - (b - o)); size = b - o; next = e + size }) ≡ gathered entered (by_edges t level i o)
+      → Some (record { entered = entered + 2; from = e + (m + m - (b - o)); size = b - o; next = e + size }) ≡ gathered entered (by_edges t level i o)
   unfolding gathered
   over-at i e m more is m-is =
       let next : e + size ≡ at.edges_at t level (i + 1) = omega (arith, edges-next i, k.on.size_is) in
@@ -104,19 +105,19 @@ module _ (t : List ℕ) (size level b o entered : ℕ) (k : Crossing t size leve
       omega (arith, few.1, leaf-word m m-is, k.on.size_is) in
       unpacked-is t 1 (entered + 2) (b - o) f x (omega arith) (omega (arith, k.few, k.on.level_in, facts.bounds.levels_high))
       (omega (arith, few.0, few.1)) x-is
-      ∙ ap (λ (n : ℕ). At (record { entered = entered + 2; from = f; size = b - o; next = n })) next ∙ over-at i e m more is m-is
+      ∙ ap (λ (n : ℕ). Some (record { entered = entered + 2; from = f; size = b - o; next = n })) next ∙ over-at i e m more is m-is
 
 -- A span in the leaf bytes.
 module _ (t : List ℕ) (x : Shape)
     (k : Shapes t x) (level i o len entered link : ℕ) (kept : is_kept_block t level i ≡ true) (link_is : link ≡ at.link t level i) where
-  pub leaf-past : x.leaf_count < link + o + len → Broken ≡ gathered entered (in_one_leaf t level i o len)
+  pub leaf-past : x.leaf_count < link + o + len → None ≡ gathered entered (in_one_leaf t level i o len)
   unfolding gathered in_one_leaf
   leaf-past past =
       let far : at.leaf_count t < at.link t level i + o + len = omega (arith, k.count_is) in
       rw (kept, lt-leb (at.link t level i + o + len) (at.leaf_count t) far)
 
   pub leaf-at : link + o + len ≤ x.leaf_count
-      → At (record { entered = entered + 1; from = x.leaf_offset + (link + o); size = len; next = 0 }) ≡ gathered entered (in_one_leaf t level i o len)
+      → Some (record { entered = entered + 1; from = x.leaf_offset + (link + o); size = len; next = 0 }) ≡ gathered entered (in_one_leaf t level i o len)
   unfolding gathered in_one_leaf
   leaf-at near =
       let in_leaves : at.link t level i + o + len ≤ at.leaf_count t = omega (arith, k.count_is) in
@@ -126,7 +127,7 @@ module _ (t : List ℕ) (x : Shape)
       → (r : ℕ) → r ≡ packed 0 (entered + 1) len (x.leaf_offset + (link + o)) → unpacked t r ≡ gathered entered (in_one_leaf t level i o len)
   leaf-packed near few short r r-is = unpacked-is t 0 (entered + 1) len (x.leaf_offset + (link + o)) r (omega arith) few short r-is ∙ leaf-at near
 
-pub leaf-none : (t : List ℕ) (level i o len entered : ℕ) → is_kept_block t level i ≡ false → Broken ≡ gathered entered (in_one_leaf t level i o len)
+pub leaf-none : (t : List ℕ) (level i o len entered : ℕ) → is_kept_block t level i ≡ false → None ≡ gathered entered (in_one_leaf t level i o len)
 unfolding gathered in_one_leaf
 leaf-none t level i o len entered un = rw un
 
@@ -135,14 +136,14 @@ module _ (t : List ℕ) (level i o len entered : ℕ) (x : BlockKind) (x-is : x 
   pub last-kept : (j : BlockNumber) (p : BlockPlace) → x ≡ next.Kept j p → is_kept_block t level j.0 ≡ true
   last-kept j p e = let z = next-kept t level i o x x-is j p e in rw z.1 z.0
 
-  pub last-by : (j : BlockNumber) (p : BlockPlace) → x ≡ next.Kept j p → (r : Gathered) → r ≡ gathered entered (in_one_leaf t level j.0 p.0 len)
+  pub last-by : (j : BlockNumber) (p : BlockPlace) → x ≡ next.Kept j p → (r : prelude.Option Parts) → r ≡ gathered entered (in_one_leaf t level j.0 p.0 len)
       → r ≡ gathered entered (in_one_leaf t level i o len)
   last-by j p e r r-is = let z = next-kept t level i o x x-is j p e in r-is ∙ rw (z.1, z.2)
 
-  pub last-points : (j : BlockNumber) (p : BlockPlace) → x ≡ next.Points j p → Broken ≡ gathered entered (in_one_leaf t level i o len)
+  pub last-points : (j : BlockNumber) (p : BlockPlace) → x ≡ next.Points j p → None ≡ gathered entered (in_one_leaf t level i o len)
   last-points j p e = leaf-none t level i o len entered (next-points t level i o x x-is j p e).0
 
-  pub last_off : x ≡ next.Off → Broken ≡ gathered entered (in_one_leaf t level i o len)
+  pub last_off : x ≡ next.Off → None ≡ gathered entered (in_one_leaf t level i o len)
   last_off e = leaf-none t level i o len entered (next-off t level i o x x-is e).0
 
 -- To the children.

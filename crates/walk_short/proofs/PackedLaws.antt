@@ -9,23 +9,23 @@ use lib.Dec.{eqb}
 use Rattle.format.specs.Layout.{max_leaf, word_at, leaf_at}
 use Rattle.format.specs.Layout as at
 use Rattle.format.specs.LayoutLaws.{Readable, size-edged}
-use Rattle.walk_short.specs.declared.gather.Gathered.TheVariants.{At, Broken}
+use Rattle.std.specs.Prelude.{Some, None}
 use Rattle.walk_short.specs.Gathered.{packed, unpacked}
 
 module _ (t : List ℕ) where
-  pub unpacked-none : (x : ℕ) → x ≡ 0 → unpacked t x ≡ Broken
+  pub unpacked-none : (x : ℕ) → x ≡ 0 → unpacked t x ≡ None
   unfolding unpacked
   unpacked-none x z = rw (eq-eqb x 0 z)
 
   -- Any number but 0.
   module _ (x : ℕ) (some : x ≡ 0 → ⊥) where
     pub unpacked-one : (x - 1) % 2 ≡ 0
-        → At (record { entered = (x - 1) / 2 % 32; from = (x - 1) / 2 / 32 / 512; size = (x - 1) / 2 / 32 % 512; next = 0 }) ≡ unpacked t x
+        → Some (record { entered = (x - 1) / 2 % 32; from = (x - 1) / 2 / 32 / 512; size = (x - 1) / 2 / 32 % 512; next = 0 }) ≡ unpacked t x
     unfolding unpacked
     unpacked-one z = rw (ne_eqb x 0 some, eq-eqb ((x - 1) % 2) 0 z)
 
     pub unpacked-two : ((x - 1) % 2 ≡ 0 → ⊥) → (size m : ℕ) → size ≡ at.record_size t → m ≡ (at.settings t).leaf → m + m ≤ size
-        → At (record {
+        → Some (record {
           entered = (x - 1) / 2 % 32;
           from = (x - 1) / 2 / 32 / 512;
           size = (x - 1) / 2 / 32 % 512;
@@ -62,7 +62,7 @@ module _ (t : List ℕ) where
     from_is = rw upper_is (omega arith)
 
     pub unpacked-is : unpacked t x
-        ≡ At (record { entered = e; from = f; size = s; next = cond (eqb c 0) 0 (f + s + at.record_size t - ((at.settings t).leaf + (at.settings t).leaf)) })
+        ≡ Some (record { entered = e; from = f; size = s; next = cond (eqb c 0) 0 (f + s + at.record_size t - ((at.settings t).leaf + (at.settings t).leaf)) })
     unfolding unpacked
     unpacked-is = rw (ne_eqb x 0 some, crossing_is, entered_is, size_is, from_is)
 

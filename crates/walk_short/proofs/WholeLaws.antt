@@ -26,14 +26,14 @@ use Rattle.walk_steps.specs.Steps.{OnLevel}
 use Rattle.walk_steps.proofs.StepLaws.{b-small}
 use Rattle.walk_steps.proofs.NextLaws.{level-below, on-top}
 use Rattle.walk_short.specs.declared.gather.Parts.{Parts}
-use Rattle.walk_short.specs.declared.gather.Gathered.{Gathered}
-use Rattle.walk_short.specs.declared.gather.Gathered.TheVariants.{At, Broken}
+use Rattle.std.specs.Prelude.{Some, None}
+use Rattle.std.specs.Prelude as prelude
 use Rattle.walk_short.specs.declared.gather.SpanStep.{SpanStep}
 use Rattle.walk_short.specs.declared.gather.SpanStep.TheVariants as step
 use Rattle.walk_short.specs.Gathered.{gathered, down_to, pointed_to, span_step, Crossing, Walking, InRange}
 use Rattle.walk_short.proofs.GatherLaws.{gathered-led, child-pos}
 
-gathered_none : (n : ℕ) → Broken ≡ gathered n none
+gathered_none : (n : ℕ) → None ≡ gathered n none
 unfolding gathered
 gathered_none n = refl
 
@@ -45,7 +45,7 @@ module _ (t : List ℕ) (size level b i o len entered : ℕ) (w : Walking t size
   facts = w.on.facts
 
   -- The walk from here.
-  abbrev Whole : Gathered → Type 0
+  abbrev Whole : prelude.Option Parts → Type 0
   Whole r = r ≡ gathered entered (short_from t (H - 1 - level) level i o len)
 
   pub sum-few : o + len ≤ max_text + max_leaf
@@ -57,7 +57,7 @@ module _ (t : List ℕ) (size level b i o len entered : ℕ) (w : Walking t size
   pub over-asks : b < o + len → Crossing t size level b o entered
   over-asks past = record { on = w.on; place-in = w.place-in; near = omega (arith, w.short); few = omega (arith, w.few) }
 
-  pub over_by : b < o + len → (r : Gathered) → r ≡ gathered entered (by_edges t level i o) → Whole r
+  pub over_by : b < o + len → (r : prelude.Option Parts) → r ≡ gathered entered (by_edges t level i o) → Whole r
   over_by past r e = e ∙ ap (gathered entered) (sym (edges.over t (H - 1 - level) level i o len (omega (arith, w.on.b_is))))
 
   -- The span lies in the block.
@@ -65,7 +65,7 @@ module _ (t : List ℕ) (size level b i o len entered : ℕ) (w : Walking t size
     fits-full : o + len ≤ at.full_length t level
     fits-full = omega (arith, w.on.b_is)
 
-    pub last-by : level + 1 ≡ (at.settings t).levels → (r : Gathered) → r ≡ gathered entered (in_one_leaf t level i o len) → Whole r
+    pub last-by : level + 1 ≡ (at.settings t).levels → (r : prelude.Option Parts) → r ≡ gathered entered (in_one_leaf t level i o len) → Whole r
     last-by last r e =
         let z : H - 1 - level ≡ 0 = omega (arith, last) in
         e ∙ rw (z, edges.last_is t level i o len fits-full)
@@ -208,13 +208,13 @@ module _ (t : List ℕ) (size level b i o len entered : ℕ) (w : Walking t size
               few = omega (arith, w.few, v.inside.few);
             }
 
-        pub down_by : (f : BlockNumber) (s : ℕ) (q : BlockPlace) (n : ℕ) → x ≡ step.Down f s q n → (r : Gathered)
+        pub down_by : (f : BlockNumber) (s : ℕ) (q : BlockPlace) (n : ℕ) → x ≡ step.Down f s q n → (r : prelude.Option Parts)
             → r ≡ gathered (entered + n) (short_from t (H - 1 - (level + 1)) (level + 1) (f.0 + s) q.0 len) → Whole r
         unfolding below
         down_by f s q n e r r-is =
             let v = down-case f s q n e in
             let u = v.inside.walk_is in
-            let down : ℕ → ℕ → Gathered = λ a x. gathered (entered + n) (short_from t (H - 1 - (level + 1)) (level + 1) a x len) in
+            let down : ℕ → ℕ → prelude.Option Parts = λ a x. gathered (entered + n) (short_from t (H - 1 - (level + 1)) (level + 1) a x len) in
             r-is ∙ ap (λ (a : ℕ). down a q.0) v.block_is ∙ ap (down (at.link t level v.block + v.place / c)) v.place_is
             ∙ gathered-led u.0 entered n _ u.1 ∙ ap (gathered entered) (sym u.2) ∙ rw left
 
@@ -241,17 +241,17 @@ module _ (t : List ℕ) (size level b i o len entered : ℕ) (w : Walking t size
             record { on = w.on; place-in = v.place-in; near = omega (arith, v.past, w.short); few = omega (arith, w.few) }
 
         pub between-by : (f : BlockNumber) (q : BlockPlace)
-            → x ≡ step.Over f q → (r : Gathered) → r ≡ gathered (entered + 1) (by_edges t level (f.0 + 0) q.0) → Whole r
+            → x ≡ step.Over f q → (r : prelude.Option Parts) → r ≡ gathered (entered + 1) (by_edges t level (f.0 + 0) q.0) → Whole r
         between-by f q e r r-is =
             let v = over-case f q e in
             r-is ∙ rw (add-zero f.0) (gathered-led (visit level i o ∷ []) entered 1 (by_edges t level f.0 q.0) refl)
             ∙ ap (gathered entered) (sym v.walk_is) ∙ rw left
 
-        pub off-by : x ≡ step.Off → Whole Broken
+        pub off-by : x ≡ step.Off → Whole None
         unfolding Cases down_to
         off-by e = go cases
           where
-            go : ((j : ℕ) × (p : ℕ) × (n : ℕ) × Inside j p n) ⊎ (((j : ℕ) × (p : ℕ) × Between j p) ⊎ Off) → Whole Broken
+            go : ((j : ℕ) × (p : ℕ) × (n : ℕ) × Inside j p n) ⊎ (((j : ℕ) × (p : ℕ) × Between j p) ⊎ Off) → Whole None
             go (inl (j, p, k, v)) =
                 let same : step.Off ≡ step.Down (record { 0 = at.link t level j }) (p / c) (record { 0 = p % c }) k = sym e ∙ x-is ∙ v.step_is in
                 clash (let z : ◌≡◌ {A = ℕ} 0 1 = cc in z)
@@ -280,7 +280,7 @@ module _ (t : List ℕ) (h : Header) (k : HeaderOf t h) where
   -- The bytes that were found are in the tree.
   pub within-tree : at.layout t ≡ 2
       → (len : ℕ) → 0 < len → len ≤ h.settings.leaf → (below l i o : ℕ) → l + below + 1 ≡ (at.settings t).levels → o < at.full_length t l
-      → (r : Gathered) (n : ℕ) → r ≡ gathered n (short_from t below l i o len) → InRange t len r
+      → (r : prelude.Option Parts) (n : ℕ) → r ≡ gathered n (short_from t below l i o len) → InRange t len r
   unfolding gathered
   within-tree two len low short below l i o lev ho r n e =
       go (short_from t below l i o len) e (places.short-in t k.facts two len low (rw k.leaf_is at short) below l i o lev ho)
@@ -289,7 +289,7 @@ module _ (t : List ℕ) (h : Header) (k : HeaderOf t h) where
       go none e f = rw e tt
       go (some q) e f = let z = f q refl in rw e (z.few, z.first_in, z.next-in)
 
-  pub top-by : (p len : ℕ) → at.layout t ≡ 2 → 1 ≤ len → len ≤ h.settings.leaf → (r : Gathered)
+  pub top-by : (p len : ℕ) → at.layout t ≡ 2 → 1 ≤ len → len ≤ h.settings.leaf → (r : prelude.Option Parts)
       → r ≡ gathered 0 (short_from t ((at.settings t).levels - 1 - 0) 0 (p / h.top_length + 0) (p % h.top_length) len)
       → (r ≡ gathered 0 (short_of t p len)) × InRange t len r
   unfolding short_of
@@ -308,12 +308,12 @@ module _ (t : List ℕ) (h : Header) (k : HeaderOf t h) where
     pub position-asks : len ≤ h.settings.leaf → Walking t h.record_size 0 h.top_length s.place.0 len 0
     position-asks short = rw s-is (top-asks p len short)
 
-    pub position-by : at.layout t ≡ 2 → 1 ≤ len → len ≤ h.settings.leaf → (r : Gathered)
+    pub position-by : at.layout t ≡ 2 → 1 ≤ len → len ≤ h.settings.leaf → (r : prelude.Option Parts)
         → r ≡ gathered 0 (short_from t ((at.settings t).levels - 1 - 0) 0 (s.block.0 + 0) s.place.0 len)
         → (r ≡ gathered 0 (short_of t p len)) × InRange t len r
     position-by two low short r e = top-by p len two low short r (rw s-is at e)
 
 -- The two parts that a walk finds, within the tree.
-pub parts_in : (t : List ℕ) (x : ℕ) (found : Gathered) (q : Parts) → found ≡ At q → InRange t x found
+pub parts_in : (t : List ℕ) (x : ℕ) (found : prelude.Option Parts) (q : Parts) → found ≡ Some q → InRange t x found
     → (q.size ≤ x) × (q.from + q.size ≤ length t) × (q.next + (x - q.size) ≤ length t)
 parts_in t x found q is w = rw is at w

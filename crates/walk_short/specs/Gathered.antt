@@ -1,19 +1,19 @@
 -- The result of the walk of a short span, and the preconditions of its steps.
-use Rattle.std.specs.Prelude.{List, cond, ℕ, ◌+◌, ◌-◌, ◌*◌, ◌/◌, ◌%◌, ◌≤◌, ◌<◌, length, leb, eqb}
+use Rattle.std.specs.Prelude.{List, Some, None, cond, ℕ, ◌+◌, ◌-◌, ◌*◌, ◌/◌, ◌%◌, ◌≤◌, ◌<◌, length, leb, eqb}
+use Rattle.std.specs.Prelude as prelude
 use Rattle.std.proofs.Math.Option.{Option, none, some}
 use Rattle.format.specs.Layout as at
 use Rattle.format.specs.TreeReading.{is_kept_block, pointing_block, target_block, target_place}
 use Rattle.format.specs.TreeReading as format
 use Rattle.walk_steps.specs.Steps.{OnLevel}
-use Rattle.walk_short.specs.declared.gather.Gathered.{Gathered}
-use Rattle.walk_short.specs.declared.gather.Gathered.TheVariants.{At, Broken}
+use Rattle.walk_short.specs.declared.gather.Parts.{Parts}
 use Rattle.walk_short.specs.declared.gather.SpanStep.{SpanStep}
 use Rattle.walk_short.specs.declared.gather.SpanStep.TheVariants as step
 
 -- The result, with the number of blocks entered before.
-unfoldable pub gathered : ℕ → Option format.Short → Gathered
-gathered entered none = Broken
-gathered entered (some q) = At (record { entered = entered + length q.visits; from = q.from; size = q.size; next = q.next })
+unfoldable pub gathered : ℕ → Option format.Short → prelude.Option Parts
+gathered entered none = None
+gathered entered (some q) = Some (record { entered = entered + length q.visits; from = q.from; size = q.size; next = q.next })
 
 -- The result as one number.
 abbrev pub packed : ℕ → ℕ → ℕ → ℕ → ℕ
@@ -21,12 +21,12 @@ packed crossing entered size from = 1 + (crossing + 2 * (entered + 32 * (size + 
 
 module _ (t : List ℕ) where
   -- What a number stands for. The second part of a span that crosses a border is in the first edge of the next block.
-  unfoldable pub unpacked : ℕ → Gathered
+  unfoldable pub unpacked : ℕ → prelude.Option Parts
   unpacked x =
       let rest = (x - 1) / 2 in
       let upper = rest / 32 in
       let m = (at.settings t).leaf in
-      cond (eqb x 0) Broken (At (record {
+      cond (eqb x 0) None (Some (record {
         entered = rest % 32;
         from = upper / 512;
         size = upper % 512;
@@ -65,6 +65,6 @@ module _ (t : List ℕ) where
     pub few : entered ≤ 2 * level
 
 -- The bytes that were found are in the tree.
-abbrev pub InRange : List ℕ → ℕ → Gathered → Type 0
-InRange t len (At q) = (q.size ≤ len) × (q.from + q.size ≤ length t) × (q.next + (len - q.size) ≤ length t)
-InRange t len Broken = Unit {0}
+abbrev pub InRange : List ℕ → ℕ → prelude.Option Parts → Type 0
+InRange t len (Some q) = (q.size ≤ len) × (q.from + q.size ≤ length t) × (q.next + (len - q.size) ≤ length t)
+InRange t len None = Unit {0}

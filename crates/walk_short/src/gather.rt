@@ -24,12 +24,6 @@ pub struct Parts {
     pub next: usize,
 }
 
-#[derive(Clone, Copy)]
-pub enum Gathered {
-    At(Parts),
-    Broken,
-}
-
 // The next step of a span on a level: a kept block contains it, and the span continues in the block some steps after its first child, with a number of blocks
 // entered; or the span crosses the end of a block.
 #[derive(Clone, Copy)]
@@ -251,7 +245,7 @@ pub fn gather(
     ahead: BlockOffset,
     span: BlockSpan,
     entered: u32,
-) -> Gathered
+) -> Option<Parts>
     requires { (Walking t.now size on.level on.b span.place.0 span.len entered) × (at.layout t.now ≡ 2) }
     ensures { result ≡ gathered entered (short_from t.now ((at.settings t.now).levels - 1 - on.level) on.level
         (ahead.first.0 + ahead.steps) span.place.0 span.len) }
@@ -272,7 +266,7 @@ pub fn gather(
 }
 
 // The walk from a place of the text.
-pub fn from_text(t: &[u8], h: Header, p: TextPlace, len: u32) -> Gathered
+pub fn from_text(t: &[u8], h: Header, p: TextPlace, len: u32) -> Option<Parts>
     requires { (HeaderOf t.now h) × (at.layout t.now ≡ 2) × (1 ≤ len) × (len ≤ h.settings.leaf) × (p.0 + len ≤ h.text_length) }
     ensures { (result ≡ gathered 0 (short_of t.now p.0 len)) × InRange t.now len result }
 {

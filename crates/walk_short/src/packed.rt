@@ -5,7 +5,7 @@ ghost use Rattle.format.specs.Layout.{max_leaf};
 ghost use Rattle.format.specs.Layout as at;
 ghost use Rattle.walk_short.specs.Gathered.{packed, unpacked};
 
-use crate::gather::{Gathered, Parts};
+use crate::gather::Parts;
 
 // The number for a first part; `crossing` is 1 if the span crosses a border, else 0.
 pub fn pack(crossing: u32, entered: u32, size: u32, from: usize) -> u64
@@ -16,12 +16,12 @@ pub fn pack(crossing: u32, entered: u32, size: u32, from: usize) -> u64
 }
 
 // What a number stands for. Where the span crosses a border, its second part is in the first edge of the next block.
-pub fn unpack(t: &[u8], size: u32, m: u32, code: u64) -> Gathered
+pub fn unpack(t: &[u8], size: u32, m: u32, code: u64) -> Option<Parts>
     requires { (size ≡ at.record_size t.now) × (m ≡ (at.settings t.now).leaf) × (m ≤ max_leaf) × (m + m ≤ size) }
     ensures { result ≡ unpacked t.now code }
 {
     if code == 0 {
-        return Gathered::Broken;
+        return None;
     }
     let rest = (code - 1) / 2;
     let upper = rest / 32;
@@ -29,14 +29,14 @@ pub fn unpack(t: &[u8], size: u32, m: u32, code: u64) -> Gathered
     let from = (upper / 512) as usize;
     let len = (upper % 512) as u32;
     if (code - 1) % 2 == 0 {
-        return Gathered::At(Parts {
+        return Some(Parts {
             entered,
             from,
             size: len,
             next: 0,
         });
     }
-    Gathered::At(Parts {
+    Some(Parts {
         entered,
         from,
         size: len,

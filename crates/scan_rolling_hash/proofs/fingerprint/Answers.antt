@@ -26,7 +26,8 @@ loop-a-preserved c = let s = c.args.s.now in let k = c.loop-a.a-index in let p =
     let at : (j : ℕ) → j < 4 → get_or (get_or c.as_chunks.result.0.now k []) j 0 ≡ get_or s (4 * k + j) 0 =
     λ j b. ap (λ (x : List (List ℕ)). get_or (get_or x k []) j 0) c.as_chunks.ensures.front ∙ in-chunk 4 (length s / 4) s k j [] within b in (
       c.push_four-h.ensures.1,
-      rw e (fingerprint-four c.args.seed s (4 * k) c.loop-a.h _ _ _ _ _ (omega arith) (rw add-zero at (at 0 (omega arith))) (at 1 (omega arith)) (at 2 (omega arith)) (at 3 (omega arith))
+      rw e (fingerprint-four c.args.seed s (4 * k) c.loop-a.h _ _ _ _ _ (omega arith)
+          (rw add-zero at (at 0 (omega arith))) (at 1 (omega arith)) (at 2 (omega arith)) (at 3 (omega arith))
           c.loop-a.invariant.1 (c.push_four-h.ensures.0 ∙ four-steps c.args.seed c.loop-a.h _ _ _ _ _ _ _ _ p.0 p.1 p.2 p.3)),
     )
 

@@ -1,8 +1,6 @@
-use Rattle.search.proofs.AnswerCases.{earlier-at, earlier-outside}
+use Rattle.std.proofs.Common.{rules}
+use Rattle.search.proofs.AnswerCases.{earlier_by}
 use Rattle.search.proofs.occurs_earlier.Goals as goal
 
-pub returns-in-At : goal.returns-in-At
-returns-in-At c = earlier-at _ _ _ _ _ c.leftmost.ensures c.in-At.is
-
-pub returns-in-Outside : goal.returns-in-Outside
-returns-in-Outside c = earlier-outside _ _ _ _ c.leftmost.ensures c.in-Outside.is
+pub returns : goal.returns
+returns c = earlier_by _ _ _ _ _ c.leftmost.ensures (λ e. search rules) (λ p e. search rules)

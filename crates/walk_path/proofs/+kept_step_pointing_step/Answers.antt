@@ -1,8 +1,7 @@
 use mathlib.Core.List.{List}
 use mathlib.Core.Path.{◌≡◌, sym, ap, ◌∙◌}
-use Prim.Native.Nat.{ℕ, ◌+◌, ◌-◌, ◌/◌}
+use Prim.Native.Nat.{ℕ, ◌+◌, ◌/◌}
 use native.Mathlib.Omega.{arith}
-use Rattle.walk_path.proofs.kept_step.Reads as kept_step
 use Rattle.format.specs.Layout as at
 use Rattle.layout.proofs.ShapeLaws.{Shapes, shapes}
 use Rattle.walk_path.proofs.WalkLaws as laws
@@ -83,21 +82,23 @@ pointing_step-shape_of-shape-requires t c = c.requires.0.on.facts.long
 pub pointing_step-quotient-below-requires : goal.pointing_step-quotient-below-requires
 pointing_step-quotient-below-requires t c = omega (arith, (shapes _ _ c.shape_of-shape.ensures).arity_is, c.requires.0.on.facts.bounds.arity_low)
 
-pub pointing_step-to_kept-there-requires : goal.pointing_step-to_kept-there-requires
-pointing_step-to_kept-there-requires t c = c.requires
+pub pointing_step-to_kept-landing-requires : goal.pointing_step-to_kept-landing-requires
+pointing_step-to_kept-landing-requires t c = c.requires
 
 pub pointing_step-returns-in_default : goal.pointing_step-returns-in_default
-pointing_step-returns-in_default t c = sym laws.broken-word ∙ laws.landed-off _ _ _ _ _ _ _ c.requires.0 c.requires.1 _ c.to_kept-there.ensures c.in_default.is
+pointing_step-returns-in_default t c =
+    sym laws.broken-word ∙ laws.landed-off _ _ _ _ _ _ _ c.requires.0 c.requires.1 _ c.to_kept-landing.ensures c.in_default.is
 
 pub pointing_step-kept_step-requires : goal.pointing_step-kept_step-requires
 pointing_step-kept_step-requires t c = (
   omega (arith, c.decreases),
   (
-    laws.landed-kept _ _ _ _ _ _ _ c.requires.0 c.requires.1 _ c.to_kept-there.ensures _ _ _ c.in-At.is,
+    laws.landed-kept _ _ _ _ _ _ _ c.requires.0 c.requires.1 _ c.to_kept-landing.ensures _ _ c.in-Some.there.state c.in-Some.is,
     c.requires.1,
     c.quotient-below.ensures ∙ ap (λ (y : ℕ). c.args.b / y) (shapes _ _ c.shape_of-shape.ensures).arity_is,
   ),
 )
 
 pub pointing_step-returns : goal.pointing_step-returns
-pointing_step-returns t c = laws.landed-by _ _ _ _ _ _ _ c.requires.0 c.requires.1 _ c.to_kept-there.ensures _ _ _ c.in-At.is _ c.kept_step.ensures
+pointing_step-returns t c = laws.landed-by _ _ _ _ _ _ _ c.requires.0 c.requires.1 _ c.to_kept-landing.ensures _ _ c.in-Some.there.state c.in-Some.is
+    _ c.kept_step.ensures

@@ -1,27 +1,22 @@
-use Prim.Native.Nat.{◌/◌}
-use mathlib.Core.Path.{◌≡◌, refl}
+use Prim.Native.Nat.{◌/◌, ◌<◌}
+use mathlib.Core.Path.{◌≡◌}
 use native.Mathlib.Omega.{arith}
-use lib.ListN.{length, length-set}
-use lib.Seq.{paste-zero}
-use Rattle.cases_tokens.specs.Hexadecimals.{hex_bytes}
-use Rattle.cases_tokens.proofs.HexadecimalLaws.{byte_fits, put-more}
+use lib.ListN.{length}
+use lib.Seq.{length-take-le}
+use Rattle.cases_tokens.proofs.HexadecimalLaws.{byte_fits, right-more, bytes-in-front}
 use Rattle.cases_tokens.proofs.hexadecimal.put.Goals as goal
 
-pub loop-i-init : goal.loop-i-init
-loop-i-init c = (omega arith, refl, paste-zero c.args.out.now 0 (hex_bytes c.args.word.now))
-
-pub overflow_cast-out : goal.overflow_cast-out
-overflow_cast-out c = omega (arith, byte_fits c.args.word.now _ _ c.loop-i-test.true c.byte.ensures c.requires.0)
+pub overflow_cast-b : goal.overflow_cast-b
+overflow_cast-b c =
+    let there : c.loop-i.i < length c.args.word.now / 2 = omega (arith, length-take-le _ c.args.out.now c.requires.1) in
+    omega (arith, byte_fits c.args.word.now _ _ there c.byte.ensures c.requires.0)
 
 pub loop-i-preserved : goal.loop-i-preserved
-loop-i-preserved c = (
-  omega arith,
-  simp length-set c.loop-i.invariant.1,
-  put-more c.args.word.now c.loop-i.i _ c.loop-i-test.true c.byte.ensures c.args.out.now c.loop-i.out c.loop-i.invariant.2 (omega arith),
-)
-
-pub shape_of-out : goal.shape_of-out
-shape_of-out c = c.loop-i.invariant.1
+loop-i-preserved c =
+    let there : c.loop-i.i < length c.args.word.now / 2 = omega (arith, length-take-le _ c.args.out.now c.requires.1) in
+    right-more c.args.word.now c.loop-i.i _ there c.byte.ensures c.loop-i.b-items (omega arith) c.loop-i.invariant
 
 pub returns : goal.returns
-returns c = let e : c.loop-i.i ≡ length c.args.word.now / 2 = omega arith in rw e at c.loop-i.invariant.2
+returns c =
+    let size : length c.loop-i.b-items ≡ length c.args.word.now / 2 = omega (arith, length-take-le _ c.args.out.now c.requires.1) in
+    bytes-in-front c.args.word.now c.args.out.now c.loop-i.b-items size (λ k l. c.loop-i.invariant k (omega arith))

@@ -12,5 +12,5 @@ joined-joined-requires c = let e = c.in_ok-end.ensures in
     (c.requires.0, e.ends_in, omega (arith, c.min-within.ensures, end-left-small _ _ _ c.requires.0 _ e))
 
 pub returns : goal.returns
-returns c = laws.leaf-range-reached _ _ _ c.requires.0 c.requires.1 _ c.in_ok-end.ensures _ refl _ _ _ _ _ c.requires.2 c.min-within.ensures c.joined-joined.ensures
-    c.min-size.ensures c.min.ensures
+returns c = laws.leaf-range-reached _ _ _ c.requires.0 c.requires.1 _ c.in_ok-end.ensures _ refl _ _ _ _ _ c.requires.2 c.min-within.ensures
+    c.joined-joined.ensures c.min-size.ensures c.min.ensures

@@ -31,14 +31,14 @@ kept_step-enter-further-requires t c = (omega (arith, c.requires.1.near, c.requi
 
 pub kept_step-pointing_step-requires : goal.kept_step-pointing_step-requires
 kept_step-pointing_step-requires t c = let low = laws.lower-level _ _ _ _ _ _ c.requires.0.on (shapes _ _ c.shape_of-shape.ensures) c.if-down-shape.false c.quotient-below.ensures in
-    let z = c.child_with-next.ensures.chosen _ _ _ c.in-At.is in (
+    let z = c.child_with-next.ensures.chosen _ c.in-Some.is in (
       omega (arith, c.decreases, low.level_in),
       (record { on = low; block_in = z.in_table }, laws.to-child _ _ _ _ _ _ _ _ c.requires.0 c.requires.1 low _ _ _ _ z c.enter-further.ensures),
     )
 
 pub kept_step-returns : goal.kept_step-returns
 kept_step-returns t c = let low = laws.lower-level _ _ _ _ _ _ c.requires.0.on (shapes _ _ c.shape_of-shape.ensures) c.if-down-shape.false c.quotient-below.ensures in
-    let z = c.child_with-next.ensures.chosen _ _ _ c.in-At.is in
+    let z = c.child_with-next.ensures.chosen _ c.in-Some.is in
     laws.by-child _ _ _ _ _ _ _ _ c.requires.0 c.requires.1 low _ _ _ _ z c.enter-further.ensures _ c.pointing_step.ensures
 
 pub pointing_step-to_kept-there-requires : goal.pointing_step-to_kept-there-requires
@@ -48,8 +48,8 @@ pub pointing_step-returns-in_default : goal.pointing_step-returns-in_default
 pointing_step-returns-in_default t c = laws.not-handed _ _ _ _ _ _ _ _ c.to_kept-there.ensures c.in_default.is _
 
 pub pointing_step-kept_step-requires : goal.pointing_step-kept_step-requires
-pointing_step-kept_step-requires t c = let z = c.to_kept-there.ensures.to _ _ _ c.in-At.is in
+pointing_step-kept_step-requires t c = let z = c.to_kept-there.ensures.to _ c.in-Some.is in
     (omega (arith, c.decreases), (z.kept, z.seeks))
 
 pub pointing_step-returns : goal.pointing_step-returns
-pointing_step-returns t c = (c.to_kept-there.ensures.to _ _ _ c.in-At.is).found _ c.kept_step.ensures
+pointing_step-returns t c = (c.to_kept-there.ensures.to _ c.in-Some.is).found _ c.kept_step.ensures

@@ -17,8 +17,8 @@ returns-then-on-shape c = laws.last-points _ _ _ _ _ _ _ c.requires.0 c.requires
 pub gap-gap-requires : goal.gap-gap-requires
 gap-gap-requires c = field-there _ _ _ _ _ 3 c.requires.0.on (pointing-in _ _ _ c.requires.0.points) (omega arith)
 
-pub target_with-next-requires : goal.target_with-next-requires
-target_with-next-requires c = (c.requires.0, c.requires.1.number_in, c.requires.1.low, omega (arith, c.requires.1.few, c.requires.0.on.level_in, c.requires.0.on.facts.bounds.levels_high))
+pub target_with-requires : goal.target_with-requires
+target_with-requires c = (c.requires.0, c.requires.1.number_in, c.requires.1.low, omega (arith, c.requires.1.few, c.requires.0.on.level_in, c.requires.0.on.facts.bounds.levels_high))
 
 pub enter-requires : goal.enter-requires
 enter-requires c = (
@@ -26,9 +26,6 @@ enter-requires c = (
   laws.gap_small _ _ _ _ _ _ _ c.requires.0 c.requires.1 _ c.gap-gap.ensures,
 )
 
-pub returns-in-Kept : goal.returns-in-Kept
-returns-in-Kept c = laws.pointer-to _ _ _ _ _ _ _ c.requires.0 c.requires.1 _ c.target_with-next.ensures _ _ _ _ _
-    c.in-Kept.is c.gap-gap.ensures c.enter.ensures
-
-pub returns-in-Off : goal.returns-in-Off
-returns-in-Off c = laws.pointer-off _ _ _ _ _ _ _ c.requires.0 c.requires.1 _ c.target_with-next.ensures c.in-Off.is
+pub returns : goal.returns
+returns c = laws.pointer-to _ _ _ _ _ _ _ c.requires.0 c.requires.1 _ c.target_with.ensures _ _ _ c.in_ok-target.was
+    c.gap-gap.ensures c.enter.ensures

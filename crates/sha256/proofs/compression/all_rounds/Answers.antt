@@ -13,18 +13,21 @@ loop-k-init c = refl
 
 pub loop-k-preserved : goal.loop-k-preserved
 loop-k-preserved c =
-    let first : iter_rest (zip_first c.into_iter-k-iterator.result) ≡ c.args.k.now = cc in
-    let second : iter_rest (zip_second c.into_iter-k-iterator.result) ≡ c.args.words.now = cc in
-    let turn = zip_turn c.args.k.now c.args.words.now c.loop-k.yielded c.into_iter-k-iterator.result c.loop-k.k-iterator c.next.new.self c.next.result first second c.loop-k.yielded_by (c.in-Some.k, c.in-Some.w)
-    c.in-Some.is c.next.ensures.steps in
+    let s = c.into_iter-k-iterator.result in
+    let first : iter_rest (zip_first s) ≡ c.args.k.now = cc in
+    let second : iter_rest (zip_second s) ≡ c.args.words.now = cc in
+    let turn = zip_turn c.args.k.now c.args.words.now c.loop-k.yielded s c.loop-k.k-iterator c.next.new.self c.next.result
+    first second c.loop-k.yielded_by (c.in-Some.k, c.in-Some.w) c.in-Some.is c.next.ensures.steps in
     let more : length (c.loop-k.yielded ++ ((c.in-Some.k, c.in-Some.w) ∷ [])) ≡ length c.loop-k.yielded + 1 = grind (arith, common_steps) in
     rw more (rounds-more c.args.k.now c.args.words.now c.args.s c.loop-k.v _ (length c.loop-k.yielded) c.requires.0 c.loop-k.invariant
     (rw (← turn.2 0, ← turn.3 0) c.one_round-v.ensures))
 
 pub returns : goal.returns
 returns c =
-    let first : iter_rest (zip_first c.into_iter-k-iterator.result) ≡ c.args.k.now = cc in
-    let second : iter_rest (zip_second c.into_iter-k-iterator.result) ≡ c.args.words.now = cc in
-    let count = zip_end c.args.k.now c.args.words.now c.loop-k.yielded c.into_iter-k-iterator.result c.loop-k.k-iterator c.next.new.self c.next.result first second c.loop-k.yielded_by c.in-None.is c.next.ensures.steps in
+    let s = c.into_iter-k-iterator.result in
+    let first : iter_rest (zip_first s) ≡ c.args.k.now = cc in
+    let second : iter_rest (zip_second s) ≡ c.args.words.now = cc in
+    let count = zip_end c.args.k.now c.args.words.now c.loop-k.yielded s c.loop-k.k-iterator c.next.new.self c.next.result
+    first second c.loop-k.yielded_by c.in-None.is c.next.ensures.steps in
     let all : length c.loop-k.yielded ≡ 64 = omega (arith, count, sixty-four _ c.requires.0, c.requires.1) in
     rw all at c.loop-k.invariant
