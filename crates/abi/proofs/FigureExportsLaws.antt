@@ -13,4 +13,5 @@ module _ (t : List ℕ) (q : ℕ) (r : Result ℕ Refusal) (k : RowLengthAnswers
   length-answered n e = subst (λ (x : Result ℕ Refusal). RowLengthAnswers t q (replied (row_length_reply x)).number (replied (row_length_reply x)).value) e k
 
   pub length-refused : (number : Refusal) → r ≡ Err number → RowLengthAnswers t q (refusal_number number) 0
-  length-refused number e = subst (λ (x : Result ℕ Refusal). RowLengthAnswers t q (replied (row_length_reply x)).number (replied (row_length_reply x)).value) e k
+  length-refused number e = subst (λ (x : Result ℕ Refusal). RowLengthAnswers t q (replied (row_length_reply x)).number
+      (replied (row_length_reply x)).value) e k

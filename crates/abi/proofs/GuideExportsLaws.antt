@@ -13,10 +13,12 @@ use Rattle.query_guided.specs.Guided.{FindGuidedAnswers, find_guided_reply, step
 use Rattle.query_rank.specs.Counts.{uncounted_refusal}
 use Rattle.abi.proofs.CountExportsLaws.{select-above, refuses-above}
 
-module _ (t guide : List ℕ) (byte j : ℕ) (r : Result (TextPlace × ℕ × ℕ) Refusal) (k : FindGuidedAnswers t guide byte j (replied (find_guided_reply r)) (steps_of r)) where
+module _ (t guide : List ℕ) (byte j : ℕ) (r : Result (TextPlace × ℕ × ℕ) Refusal)
+    (k : FindGuidedAnswers t guide byte j (replied (find_guided_reply r)) (steps_of r)) where
   pub guided-answered : (place : TextPlace) (entered steps : ℕ) → r ≡ Ok (place, entered, steps)
       → FindGuidedAnswers t guide byte j (answer_with 0 place.0 entered) steps
-  guided-answered place entered steps e = subst (λ (x : Result (TextPlace × ℕ × ℕ) Refusal). FindGuidedAnswers t guide byte j (replied (find_guided_reply x)) (steps_of x)) e k
+  guided-answered place entered steps e = subst (λ (x : Result (TextPlace × ℕ × ℕ) Refusal). FindGuidedAnswers t guide byte j
+      (replied (find_guided_reply x)) (steps_of x)) e k
 
   pub guided-refused : (q : Refusal) → r ≡ Err q → FindGuidedAnswers t guide byte j (answer_with (refusal_number q) 0 0) 0
   guided-refused q e = subst (λ (x : Result (TextPlace × ℕ × ℕ) Refusal). FindGuidedAnswers t guide byte j (replied (find_guided_reply x)) (steps_of x)) e k
