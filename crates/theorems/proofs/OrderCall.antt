@@ -191,7 +191,8 @@ pub record TotalOrderOfTrees : Type 0 where
   pub antisymmetric : (t u : Borrowed) (T U : List ℕ) → CallHolds t T → CallHolds u U → (κs κs' : Lfts 2) (r r' : Result (Ordering × ℕ) Refusal)
       → Compare κs t u r → Compare κs' u t r' → AtOrBefore r → AtOrBefore r' → T ≡ U
   pub transitive : (t u v : Borrowed) (T U W : List ℕ) → CallHolds t T → CallHolds u U → CallHolds v W
-      → (κs κs' κs'' : Lfts 2) (r r' r'' : Result (Ordering × ℕ) Refusal) → Compare κs t u r → Compare κs' u v r' → Compare κs'' t v r'' → AtOrBefore r → AtOrBefore r' → AtOrBefore r''
+      → (κs κs' κs'' : Lfts 2) (r r' r'' : Result (Ordering × ℕ) Refusal)
+      → Compare κs t u r → Compare κs' u v r' → Compare κs'' t v r'' → AtOrBefore r → AtOrBefore r' → AtOrBefore r''
   pub total : (t u : Borrowed) (T U : List ℕ) → CallHolds t T → CallHolds u U → (κs κs' : Lfts 2) (r r' : Result (Ordering × ℕ) Refusal)
       → Compare κs t u r → Compare κs' u t r' → AtOrBefore r ⊎ AtOrBefore r'
 
