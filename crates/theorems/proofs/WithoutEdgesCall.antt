@@ -47,13 +47,13 @@ number-one t out = go (header_result t) (header-one t) (bool_cases (leb (length 
     go n (inr (inr (inr (inl e)))) (inr f) = rw (e, f) (inr (inr (inr (inl refl))))
     go n (inr (inr (inr (inr e)))) f = elim e [ ]
 
-refusal_is : (r : Result ℕ Refusal) → result_refusal r ≡ (replied (without_edges_reply r)).number
-refusal_is (Ok n) = refl
-refusal_is (Err q) = refl
+without-edges-refusal : (r : Result ℕ Refusal) → result_refusal r ≡ (replied (without_edges_reply r)).number
+without-edges-refusal (Ok n) = refl
+without-edges-refusal (Err q) = refl
 
 module _ (κs : Lfts 2) (t : Borrowed) (out after : BorrowedMut) (r : Result ℕ Refusal) (a : WithoutEdges κs t out after r) where
   pub without-edges-numbers : OneOf (5 ∷ 6 ∷ 7 ∷ 13 ∷ 0 ∷ []) (result_refusal r)
-  without-edges-numbers = rw (refusal_is r ∙ a.0) (number-one t.now out.now)
+  without-edges-numbers = rw (without-edges-refusal r ∙ a.0) (number-one t.now out.now)
 
   -- If the check accepts the tree, every question about the tree and about the written tree is answered, or refused, by the same text and settings.
   module _ (n : ℕ) (e : r ≡ Ok n) (u : Borrowed) (is : u.now ≡ take n after.now) (v : check_result t.now ≡ 0) where
