@@ -1,15 +1,19 @@
 -- build(text, leaf, arity, levels, counted, out): the block tree of a text, written into a buffer. Demand 2, and the last part of demand 3: the check
 -- accepts what build writes.
+use Rattle.std.specs.Prelude.{⊤, Result, Ok, Err}
+use Rattle.refusals.specs.declared.Refusal.TheVariants.{TreeDoesNotFit}
+use Rattle.refusals.specs.Refusals.{refusal_number}
+use Rattle.refusals.specs.RefusalsLaws.{number-above, one-number, answered-with}
 use mathlib.Core.List.{List, [], ◌∷◌, ◌++◌}
 use mathlib.Core.Bool.{true, cond, Bool}
 use mathlib.Core.Path.{◌≡◌, sym, ap, ◌∙◌, refl}
-use Prim.Native.Nat.{ℕ, zero, suc, ◌≤◌}
+use Prim.Native.Nat.{ℕ, ◌≤◌}
 use native.Mathlib.Omega.{arith}
 use contract.Lifetimes.{Lfts}
 use lib.ListN.{length, take, drop, replicate}
 use lib.Dec.{eqb, leb}
 use lib.Seq.{take-append_seam, drop-append_seam}
-use borrow.Author.Tests.{eq-eqb, ne_eqb, leb-true, le-leb}
+use borrow.Author.Tests.{ne_eqb, leb-true, le-leb}
 use Rattle.format.specs.Answers.{replied, build_refusal, build_size, build_buffer}
 use Rattle.format.specs.Layout.{Settings, length_ok, sizes_ok, counted_ok, given}
 use Rattle.format.specs.Layout as at
@@ -23,12 +27,10 @@ use Rattle.theory_built.specs.BuiltHeader.{built-header}
 use Rattle.theory_built.specs.ReadBack.{read-settings}
 use Rattle.theory_accepted.specs.AcceptedTrees.{Represents, accepted-represents, one-text}
 use Rattle.build_by_search.specs.BuildAnswer.{build_reply}
-use Rattle.build_by_search.specs.declared.BuildAnswer.{BuildAnswer}
-use Rattle.build_by_search.specs.declared.BuildAnswer.TheVariants as build
 use Rattle.build_size_bound.specs.SizeBound.{size_bound_for}
 use Rattle.build_size_bound.specs.SizeBoundHolds.{never-full}
-use Rattle.build_size_bound.specs.declared.SizeBoundAnswer.TheVariants as size-bound
 use Rattle.tree.proofs.Theorems as tree
+use Rattle.theorems.specs.CallContracts.{BuildAnswer, Refusal}
 use Rattle.theorems.specs.Promises.{Answers, CompleteBuilder, Refuses}
 use Rattle.theorems.specs.PublicFunctions.{build_function}
 use Rattle.theorems.proofs.CheckCall.{Check}
@@ -64,7 +66,7 @@ module _ (κs : Lfts 3) (text : Borrowed) (leaf arity levels : ℕ) (counted : B
   S = given leaf arity levels counted.now
 
   -- The result is the tree's size, which fits. The buffer begins with the tree, and the bytes after it are unchanged.
-  pub build-answer : (size : ℕ) → Build κs text leaf arity levels counted out after (build.Size size)
+  pub build-answer : (size : ℕ) → Build κs text leaf arity levels counted out after (Ok size)
       → (size ≤ length out.now) × (take size after.now ≡ tree_of S text.now) × (drop size after.now ≡ drop size out.now)
   unfolding build_size build_buffer
   build-answer size a =
@@ -78,38 +80,26 @@ module _ (κs : Lfts 3) (text : Borrowed) (leaf arity levels : ℕ) (counted : B
         rw (left, call-size-is) (drop-append_seam tree past),
       )
 
-  module _ (n : ℕ) (a : Build κs text leaf arity levels counted out after (build.Refused n)) where
-    -- A tree has bytes, so that a size of 0 is a refusal's.
-    build-not-zero : (m : ℕ) → build_refusal S text.now out.now ≡ m → 1 ≤ m
-    unfolding build_size
-    build-not-zero zero e =
-        let long = (header-facts (tree_of S text.now) (built-header S text.now (tree.taken S text.now out.now e))).long in
-        let size : 0 ≡ length (tree_of S text.now) = a.1.0 ∙ rw e in
-        absurd (let z : ⊥ = omega arith in z)
-    build-not-zero (suc m) e = omega arith
-
-    build-low : 1 ≤ n
-    build-low = rw a.0 (build-not-zero (build_refusal S text.now out.now) refl)
-
+  module _ (q : Refusal) (a : Build κs text leaf arity levels counted out after (Err q)) where
     -- A refusal is 1, 2, 3 or 4.
-    pub build-numbers : OneOf (1 ∷ 2 ∷ 3 ∷ 4 ∷ []) n
-    build-numbers = not-zero (1 ∷ 2 ∷ 3 ∷ 4 ∷ []) n build-low (rw a.0 (build-one S text.now out.now))
+    pub build-numbers : OneOf (1 ∷ 2 ∷ 3 ∷ 4 ∷ []) (refusal_number q)
+    build-numbers = not-zero (1 ∷ 2 ∷ 3 ∷ 4 ∷ []) (refusal_number q) (number-above q) (rw a.0 (build-one S text.now out.now))
 
     -- What is left in the buffer, by the number.
-    build-left : after.now ≡ cond (eqb n 4) (replicate (length out.now) 0) out.now
+    build-left : after.now ≡ cond (eqb (refusal_number q) 4) (replicate (length out.now) 0) out.now
     unfolding build_buffer
-    build-left = a.1.1 ∙ rw (← a.0, ne_eqb n 0 (λ e. omega (arith, build-low)))
+    build-left = a.1.1 ∙ rw (← a.0, ne_eqb (refusal_number q) 0 (λ e. omega (arith, number-above q)))
 
     -- Refusal 4 leaves zeros in the whole buffer.
-    pub build-zeros : n ≡ 4 → after.now ≡ replicate (length out.now) 0
-    build-zeros e = build-left ∙ rw (eq-eqb n 4 e)
+    pub build-zeros : q ≡ TreeDoesNotFit → after.now ≡ replicate (length out.now) 0
+    build-zeros e = build-left ∙ rw e
 
     -- Any other refusal leaves the buffer unchanged.
-    pub build-unchanged : (n ≡ 4 → ⊥) → after.now ≡ out.now
-    build-unchanged e = build-left ∙ rw (ne_eqb n 4 e)
+    pub build-unchanged : (q ≡ TreeDoesNotFit → ⊥) → after.now ≡ out.now
+    build-unchanged e = build-left ∙ rw (ne_eqb (refusal_number q) 4 (λ z. e (one-number q TreeDoesNotFit z)))
 
     -- With room of the size that enough answers, and counted bytes that question 3 takes, build is not refused.
-    pub build-has-room : (m : ℕ) → SizeBound (length text.now) leaf arity levels (length counted.now) (size-bound.Bytes m) → m ≤ length out.now
+    pub build-has-room : (m : ℕ) → SizeBound (length text.now) leaf arity levels (length counted.now) (Ok m) → m ≤ length out.now
         → counted_ok counted.now ≡ true → ⊥
     unfolding sizes_ok
     build-has-room m e space rising =
@@ -117,16 +107,16 @@ module _ (κs : Lfts 3) (text : Borrowed) (leaf arity levels : ℕ) (counted : B
         let k = size-bound-answer (length text.now) leaf arity levels (length counted.now) m e in
         let taken : Taken S text.now = record { length-ok = k.0; sizes-ok = k.1; counted-ok = rising } in
         let enough : size ≤ length out.now = omega (arith, k.2) in
-        omega (arith, build-low, a.0, never-full S text.now taken out.now enough)
+        omega (arith, number-above q, a.0, never-full S text.now taken out.now enough)
 
   -- It wrote a tree of this size at the start of the buffer.
-  module _ (size : ℕ) (a : Build κs text leaf arity levels counted out after (build.Size size)) where
+  module _ (size : ℕ) (a : Build κs text leaf arity levels counted out after (Ok size)) where
     abbrev T : List ℕ
     T = text.now
 
     -- Demand 2, first part: the bytes written are those of the block tree of the text.
     pub build-writes : take size after.now ≡ tree_of S T
-    build-writes = tree.build-writes κs text leaf arity levels counted out after (build.Size size) a refl
+    build-writes = tree.build-writes κs text leaf arity levels counted out after (Ok size) a refl
 
     -- The tree, as an argument of another call.
     module _ (t : Borrowed) (is : t.now ≡ take size after.now) where
@@ -135,10 +125,10 @@ module _ (κs : Lfts 3) (text : Borrowed) (leaf arity levels : ℕ) (counted : B
       passed = sym a.0
 
       accepted : check_result t.now ≡ 0
-      accepted = rw is (tree.build-accepted κs text leaf arity levels counted out after (build.Size size) a refl)
+      accepted = rw is (tree.build-accepted κs text leaf arity levels counted out after (Ok size) a refl)
 
       text-is : text_of t.now ≡ T
-      text-is = rw is (tree.build-text κs text leaf arity levels counted out after (build.Size size) a refl)
+      text-is = rw is (tree.build-text κs text leaf arity levels counted out after (Ok size) a refl)
 
       -- The header has the given settings.
       settings_are : at.settings t.now ≡ S
@@ -153,8 +143,8 @@ module _ (κs : Lfts 3) (text : Borrowed) (leaf arity levels : ℕ) (counted : B
       build-refuses = rw (← settings_are, ← text-is) (accepted-refuses t accepted)
 
       -- Demand 3, last part: the check accepts the written tree.
-      pub build-accepted : (κ : Lfts 1) (r : ℕ) → Check κ t r → r ≡ 0
-      build-accepted κ r c = c ∙ accepted
+      pub build-accepted : (κ : Lfts 1) (r : Result ⊤ Refusal) → Check κ t r → r ≡ Ok tt
+      build-accepted κ r c = answered-with r tt (c ∙ accepted) (λ y is. refl)
 
       -- The written tree represents the input, and no other text fits.
       pub build-one-text : Represents t.now T × ((U : List ℕ) → fits U t.now ≡ true → U ≡ T)
@@ -163,9 +153,9 @@ module _ (κs : Lfts 3) (text : Borrowed) (leaf arity levels : ℕ) (counted : B
           (rw text-is at s, λ U f. one-text t.now s.header-result s.linked U f ∙ text-is)
 
 -- Which answer has a size.
-call-size-is : (r : BuildAnswer) (n : ℕ) → 1 ≤ n → (replied (build_reply r)).value ≡ n → r ≡ build.Size n
-call-size-is (build.Size m) n low e = ap build.Size e
-call-size-is (build.Refused q) n low e = absurd (let z : ⊥ = omega arith in z)
+call-size-is : (r : BuildAnswer) (n : ℕ) → 1 ≤ n → (replied (build_reply r)).value ≡ n → r ≡ Ok n
+call-size-is (Ok m) n low e = ap Ok e
+call-size-is (Err q) n low e = absurd (let z : ⊥ = omega arith in z)
 
 -- Demand 3, last part: build is not refused if questions 1 to 3 pass and the buffer has at least the tree's size.
 pub build-accepts-exact-buffer : CompleteBuilder

@@ -1,6 +1,10 @@
 -- build_scanned(text, leaf, arity, levels, counted, words, out): the block tree of a text by one scan for each level, with the caller's table of words;
 -- scan_words(n, leaf) returns the number of words of that table. It writes what build writes, so demand 2 and the end of demand 3 follow from the theorems on
 -- build. Besides: the number of windows that it returns, its refusals, the table and the buffer afterwards.
+use Rattle.std.specs.Prelude.{⊤, Result, Ok, Err}
+use Rattle.refusals.specs.declared.Refusal.TheVariants.{TreeDoesNotFit, ScanTableTooShort}
+use Rattle.refusals.specs.Refusals.{refusal_number}
+use Rattle.refusals.specs.RefusalsLaws.{number-above, one-number}
 use mathlib.Core.List.{List, [], ◌∷◌}
 use mathlib.Core.Bool.{true}
 use mathlib.Core.Path.{◌≡◌, sym, ap, ◌∙◌, refl}
@@ -19,13 +23,10 @@ use Rattle.format.specs.TreeReading.{ask}
 use Rattle.format.specs.Blocks.{tree_of}
 use Rattle.theory_accepted.specs.AcceptedTrees.{Represents}
 use Rattle.build_by_search.specs.BuildAnswer.{build_reply}
-use Rattle.build_by_search.specs.declared.BuildAnswer.{BuildAnswer}
-use Rattle.build_by_search.specs.declared.BuildAnswer.TheVariants as build
-use Rattle.build_by_scan.specs.declared.BuildScannedAnswer.{BuildScannedAnswer}
-use Rattle.build_by_scan.specs.declared.BuildScannedAnswer.TheVariants as build-scanned
 use Rattle.build_by_scan.specs.ScanAnswers.{windows_of, table_words, build_scanned_refusal, scan_windows, build_scanned_buffer, build_scanned_reply}
 use Rattle.build_by_scan.proofs.ScannedOutcomes.{number_same, size_same, leaves-same}
 pub use Rattle.theorems.specs.CallContracts.{BuildScanned}
+use Rattle.theorems.specs.CallContracts.{BuildAnswer, BuildScannedAnswer, Refusal}
 use Rattle.theorems.specs.Promises.{Answers, Refuses}
 use Rattle.theorems.specs.PublicFunctions.{build_scanned_function, scan_words_function}
 use Rattle.theorems.proofs.BuildCall.{Build, build-numbers, build-zeros, build-answer, build-writes}
@@ -47,6 +48,11 @@ build_scanned_call = call build_scanned_function build-scanned-met.met (λ 𝓤 
 abbrev pub scan_words_call : Call
 scan_words_call = call scan_words_function scan-words-met.met (λ 𝓤 𝓛 mem run κs a. (tt, refl))
 
+-- Which answer has number 18.
+short-table : (r : BuildScannedAnswer) → (replied (build_scanned_reply r)).number ≡ 18 → r ≡ Err ScanTableTooShort
+short-table (Ok x) e = absurd (let z : ⊥ = omega arith in z)
+short-table (Err q) e = ap Err (one-number q ScanTableTooShort e)
+
 -- A call of build_scanned, which leaves the table `words` as `table` and the buffer `out` as `after`.
 module _ (κs : Lfts 4) (text : Borrowed) (leaf arity levels : ℕ) (counted : Borrowed) (words table out after : BorrowedMut) where
   abbrev S : Settings
@@ -62,25 +68,28 @@ module _ (κs : Lfts 4) (text : Borrowed) (leaf arity levels : ℕ) (counted : B
   κ = (κs.0, (κs.1.0, (κs.1.1.0, tt)))
 
   -- Unless it answers 18, build may answer the same, and leave the buffer so.
-  as-size : (size windows : ℕ) → Outcome (build-scanned.Size size windows) → Build κ text leaf arity levels counted out after (build.Size size)
+  as-size : (size windows : ℕ) → Outcome (Ok (size, windows)) → Build κ text leaf arity levels counted out after (Ok size)
   as-size size windows a =
       let long : build_scanned_refusal S T out.now (length words.now) ≡ 18 → ⊥ = λ e. omega (arith, a.0) in (
         a.0 ∙ number_same S T out.now (length words.now) long,
         (a.1.0 ∙ size_same S T out.now (length words.now) long, a.1.1.1.0 ∙ leaves-same S T out.now (length words.now) long),
       )
 
-  as-refused : (n : ℕ) → (n ≡ 18 → ⊥) → Outcome (build-scanned.Refused n) → Build κ text leaf arity levels counted out after (build.Refused n)
-  as-refused n other a =
-      let long : build_scanned_refusal S T out.now (length words.now) ≡ 18 → ⊥ = λ e. other (a.0 ∙ e) in (
+  as-refused : (q : Refusal) → (q ≡ ScanTableTooShort → ⊥) → Outcome (Err q) → Build κ text leaf arity levels counted out after (Err q)
+  as-refused q other a =
+      let long : build_scanned_refusal S T out.now (length words.now) ≡ 18 → ⊥ = λ e. other (one-number q ScanTableTooShort (a.0 ∙ e)) in (
         a.0 ∙ number_same S T out.now (length words.now) long,
         (a.1.0 ∙ size_same S T out.now (length words.now) long, a.1.1.1.0 ∙ leaves-same S T out.now (length words.now) long),
       )
 
   -- Demand 1: a refusal is 1, 2, 3, 18 or 4.
-  module _ (n : ℕ) (a : Outcome (build-scanned.Refused n)) where
-    pub scanned-numbers : OneOf (1 ∷ 2 ∷ 3 ∷ 18 ∷ 4 ∷ []) n
-    scanned-numbers = go (ℕ_discrete n 18)
+  module _ (q : Refusal) (a : Outcome (Err q)) where
+    pub scanned-numbers : OneOf (1 ∷ 2 ∷ 3 ∷ 18 ∷ 4 ∷ []) (refusal_number q)
+    scanned-numbers = go (ℕ_discrete (refusal_number q) 18)
       where
+        n : ℕ
+        n = refusal_number q
+
         among : OneOf (1 ∷ 2 ∷ 3 ∷ 4 ∷ []) n → OneOf (1 ∷ 2 ∷ 3 ∷ 18 ∷ 4 ∷ []) n
         among (inl e) = inl e
         among (inr (inl e)) = inr (inl e)
@@ -89,50 +98,42 @@ module _ (κs : Lfts 4) (text : Borrowed) (leaf arity levels : ℕ) (counted : B
 
         go : Dec (n ≡ 18) → OneOf (1 ∷ 2 ∷ 3 ∷ 18 ∷ 4 ∷ []) n
         go (yes e) = inr (inr (inr (inl e)))
-        go (no d) = among (build-numbers κ text leaf arity levels counted out after n (as-refused n d a))
-
-    scanned-low : 1 ≤ n
-    scanned-low = go scanned-numbers
-      where
-        go : OneOf (1 ∷ 2 ∷ 3 ∷ 18 ∷ 4 ∷ []) n → 1 ≤ n
-        go (inl e) = omega arith
-        go (inr (inl e)) = omega arith
-        go (inr (inr (inl e))) = omega arith
-        go (inr (inr (inr (inl e)))) = omega arith
-        go (inr (inr (inr (inr (inl e))))) = omega arith
-        go (inr (inr (inr (inr (inr e))))) = elim e [ ]
+        go (no d) = among (build-numbers κ text leaf arity levels counted out after q (as-refused q (λ e. d (ap refusal_number e)) a))
 
     -- Refusal 4 leaves zeros in the whole buffer, any other refusal leaves the buffer unchanged.
-    pub scanned-zeros : n ≡ 4 → after.now ≡ replicate (length out.now) 0
-    scanned-zeros e = build-zeros κ text leaf arity levels counted out after n (as-refused n (λ f. omega arith) a) e
+    pub scanned-zeros : q ≡ TreeDoesNotFit → after.now ≡ replicate (length out.now) 0
+    scanned-zeros e =
+        build-zeros κ text leaf arity levels counted out after q
+        (as-refused q (λ f. omega (arith, ap refusal_number e, ap refusal_number f)) a) e
 
-    pub scanned-unchanged : (n ≡ 4 → ⊥) → after.now ≡ out.now
+    pub scanned-unchanged : (q ≡ TreeDoesNotFit → ⊥) → after.now ≡ out.now
     unfolding build_scanned_buffer
-    scanned-unchanged e = a.1.1.1.0 ∙ rw (← a.0, ne_eqb n 0 (λ f. omega (arith, scanned-low)), ne_eqb n 4 e)
+    scanned-unchanged e = a.1.1.1.0 ∙ rw (
+      ← a.0,
+      ne_eqb (refusal_number q) 0 (λ f. omega (arith, number-above q)),
+      ne_eqb (refusal_number q) 4 (λ f. e (one-number q TreeDoesNotFit f)),
+    )
 
     -- Every refusal but 4 leaves the table unchanged. After 4, and if the call is not refused, the table's content is free.
-    pub scanned-table : (n ≡ 4 → ⊥) → table.now ≡ words.now
-    scanned-table e = a.1.1.1.1.untouched (λ f. omega (arith, scanned-low)) e
+    pub scanned-table : (q ≡ TreeDoesNotFit → ⊥) → table.now ≡ words.now
+    scanned-table e = a.1.1.1.1.untouched (λ f. omega (arith, number-above q)) (λ f. e (one-number q TreeDoesNotFit f))
 
   -- Refused with 18, if questions 1 to 3 pass and whatever the buffer: a table of fewer than 4 × (n / m rounded up) words. A table of the size that
   -- scan_words returns is never refused with 18.
   module _ (r : BuildScannedAnswer) (a : Outcome r) where
     pub scanned-short : length_ok (length T) ≡ true → sizes_ok S ≡ true → counted_ok counted.now ≡ true → length words.now < table_words (length T) leaf
-        → r ≡ build-scanned.Refused 18
+        → r ≡ Err ScanTableTooShort
     unfolding build_scanned_refusal
-    scanned-short one two three short = go r (a.0 ∙ rw (one, two, three, lt-leb (table_words (length T) leaf) (length words.now) short))
-      where
-        go : (r : BuildScannedAnswer) → (replied (build_scanned_reply r)).number ≡ 18 → r ≡ build-scanned.Refused 18
-        go (build-scanned.Size n w) e = absurd (let z : ⊥ = omega arith in z)
-        go (build-scanned.Refused n) e = ap build-scanned.Refused e
+    scanned-short one two three short = short-table r (a.0 ∙ rw (one, two, three, lt-leb (table_words (length T) leaf) (length words.now) short))
 
-    pub scanned-has-table : (w : ℕ) → ScanWords (length T) leaf w → w ≤ length words.now → (replied (build_scanned_reply r)).number ≡ 18 → ⊥
+    pub scanned-has-table : (w : ℕ) → ScanWords (length T) leaf w → w ≤ length words.now → r ≡ Err ScanTableTooShort → ⊥
     unfolding build_scanned_refusal
     scanned-has-table w c enough e =
         let long : table_words (length T) leaf ≤ length words.now = omega (arith, c) in
         let room = leb (length (tree_of S T)) (length out.now) in
         let is : 18 ≡ ask 1 (length_ok (length T)) (ask 2 (sizes_ok S) (ask 3 (counted_ok counted.now) (ask 4 room 0))) =
-        sym e ∙ a.0 ∙ rw (le-leb (table_words (length T) leaf) (length words.now) long) in
+        sym (ap (λ (x : BuildScannedAnswer). (replied (build_scanned_reply x)).number) e) ∙ a.0
+        ∙ rw (le-leb (table_words (length T) leaf) (length words.now) long) in
         go (rw is (asks-one ((1, length_ok (length T)) ∷ (2, sizes_ok S) ∷ (3, counted_ok counted.now) ∷ (4, room) ∷ [])))
       where
         go : OneOf (1 ∷ 2 ∷ 3 ∷ 4 ∷ 0 ∷ []) 18 → ⊥
@@ -146,18 +147,18 @@ module _ (κs : Lfts 4) (text : Borrowed) (leaf arity levels : ℕ) (counted : B
     -- Request 106: with the same text, settings and buffer, build_scanned and build return the same number and size and leave the same bytes, unless
     -- build_scanned is refused with 18.
     pub same-as-build : (κ : Lfts 3) (lent left : BorrowedMut) (b : BuildAnswer) → lent.now ≡ out.now → Build κ text leaf arity levels counted lent left b
-        → ((replied (build_scanned_reply r)).number ≡ 18 → ⊥)
-        → ((replied (build_scanned_reply r)).number ≡ (replied (build_reply b)).number) × ((replied (build_scanned_reply r)).value ≡ (replied (build_reply b)).value)
-        × (after.now ≡ left.now)
+        → (r ≡ Err ScanTableTooShort → ⊥)
+        → ((replied (build_scanned_reply r)).number ≡ (replied (build_reply b)).number)
+        × ((replied (build_scanned_reply r)).value ≡ (replied (build_reply b)).value) × (after.now ≡ left.now)
     same-as-build κ lent left b same c other =
-        let long : build_scanned_refusal S T out.now (length words.now) ≡ 18 → ⊥ = λ e. other (a.0 ∙ e) in (
+        let long : build_scanned_refusal S T out.now (length words.now) ≡ 18 → ⊥ = λ e. other (short-table r (a.0 ∙ e)) in (
           a.0 ∙ number_same S T out.now (length words.now) long ∙ ap (build_refusal S T) (sym same) ∙ sym c.0,
           a.1.0 ∙ size_same S T out.now (length words.now) long ∙ ap (build_size S T) (sym same) ∙ sym c.1.0,
           a.1.1.1.0 ∙ leaves-same S T out.now (length words.now) long ∙ ap (build_buffer S T) (sym same) ∙ sym c.1.1,
         )
 
   -- It wrote a tree of this size at the start of the buffer.
-  module _ (size windows : ℕ) (a : Outcome (build-scanned.Size size windows)) where
+  module _ (size windows : ℕ) (a : Outcome (Ok (size, windows))) where
     -- An answer is the tree's size, which fits; the buffer begins with the tree, and the bytes past it are unchanged.
     pub scanned-answer : (size ≤ length out.now) × (take size after.now ≡ tree_of S T) × (drop size after.now ≡ drop size out.now)
     scanned-answer = build-answer κ text leaf arity levels counted out after size (as-size size windows a)
@@ -180,7 +181,7 @@ module _ (κs : Lfts 4) (text : Borrowed) (leaf arity levels : ℕ) (counted : B
       scanned-refuses = build-refuses κ text leaf arity levels counted out after size (as-size size windows a) t is
 
       -- Demand 3, last part: the check accepts the written tree.
-      pub scanned-accepted : (κ : Lfts 1) (r : ℕ) → Check κ t r → r ≡ 0
+      pub scanned-accepted : (κ : Lfts 1) (r : Result ⊤ Refusal) → Check κ t r → r ≡ Ok tt
       scanned-accepted = build-accepted κ text leaf arity levels counted out after size (as-size size windows a) t is
 
       -- The written tree represents the input, and no other text fits.

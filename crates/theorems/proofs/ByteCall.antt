@@ -1,9 +1,13 @@
 -- byte(tree, place): the byte at a place, with the blocks entered.
+use Rattle.std.specs.Prelude.{Ok, Err}
+use Rattle.refusals.specs.declared.Refusal.TheVariants.{PastTheEnd}
+use Rattle.refusals.specs.Refusals.{refusal_number}
+use Rattle.refusals.specs.RefusalsLaws.{number-above, one-number}
 use mathlib.Core.List.{List, [], ◌∷◌}
 use mathlib.Core.Option.{Option, some, none}
 use mathlib.Core.Path.{◌≡◌, sym, ap, ◌∙◌, refl}
 use mathlib.Core.Logic.{inl, inr}
-use Prim.Native.Nat.{ℕ, zero, suc, ◌≤◌, ◌<◌}
+use Prim.Native.Nat.{ℕ, ◌≤◌, ◌<◌}
 use native.Mathlib.Omega.{arith}
 use contract.Lifetimes.{Lfts}
 use lib.ListN.{length, get_or}
@@ -17,12 +21,10 @@ use Rattle.format.specs.Answers.{Answer, refused, unless, replied, byte_answer, 
 use Rattle.format.specs.LayoutLaws.{ask-test}
 use Rattle.format.specs.AnswerLaws.{unless-passes}
 use Rattle.theory_paths.specs.Theorems as paths
-use Rattle.theory_paths.specs.Visits.{path-long}
 use Rattle.theory_paths.specs.PlaceBytes.{path-there}
 use Rattle.query_access.proofs.Theorems as access
-use Rattle.query_access.specs.declared.ByteAnswer.{ByteAnswer}
-use Rattle.query_access.specs.declared.ByteAnswer.TheVariants as answer
 use Rattle.query_access.specs.ReadAnswers.{byte_reply}
+use Rattle.theorems.specs.CallContracts.{ByteAnswer, Refusal}
 use Rattle.theorems.specs.Promises.{ByteAnswers, ByteRefuses, LengthOfPath}
 use Rattle.theorems.specs.PublicFunctions.{byte_function}
 use Rattle.theorems.proofs.AcceptedTree.{below, path-length, text-size}
@@ -69,7 +71,7 @@ byte_one t p =
 
 module _ (κs : Lfts 1) (t : Borrowed) (p : TextPlace) where
   -- On any tree, the result is the byte at the end of the place's path, with that path's length.
-  pub byte-answer : (v e : ℕ) → Byte κs t p (answer.Byte v e)
+  pub byte-answer : (v e : ℕ) → Byte κs t p (Ok (v, e))
       → (q : Path) × (path_of t.now p.0 ≡ some q) × (v ≡ at.leaf_byte t.now q.leaf) × LengthOfPath t.now (at.settings t.now).levels p.0 e
   byte-answer v e a =
       let w = byte-reached t.now p.0 (sym (ap (λ (s : Answer). s.number) a)) in
@@ -77,19 +79,11 @@ module _ (κs : Lfts 1) (t : Borrowed) (p : TextPlace) where
       let entered : e ≡ length w.path.visits = ap (λ (s : Answer). s.entered) z in
       (w.path, w.path_is, ap (λ (s : Answer). s.value) z, rw entered (length-of-path t.now w.pass p.0 w.path w.path_is))
 
-  -- A path enters a block, so that a figure of 0 is a refusal's.
-  pub byte-not-zero : (n : ℕ) → Byte κs t p (answer.Refused n) → 1 ≤ n
-  byte-not-zero zero a =
-      let w = byte-reached t.now p.0 (sym (ap (λ (s : Answer). s.number) a)) in
-      let z = a ∙ paths.byte-by-path t.now w.pass p.0 w.path w.path_is w.low in
-      absurd (let x : ⊥ = omega (arith, ap (λ (s : Answer). s.entered) z, path-long t.now p.0 w.path w.path_is) in x)
-  byte-not-zero (suc n) a = omega arith
-
   -- A refusal is 5, 6, 7, 10 or 14.
-  pub byte-numbers : (n : ℕ) → Byte κs t p (answer.Refused n) → OneOf (5 ∷ 6 ∷ 7 ∷ 10 ∷ 14 ∷ []) n
-  byte-numbers n a =
-      let e : n ≡ (byte_answer t.now p.0).number = ap (λ (s : Answer). s.number) a in
-      not-zero (5 ∷ 6 ∷ 7 ∷ 10 ∷ 14 ∷ []) n (byte-not-zero n a) (rw e (byte_one t.now p.0))
+  pub byte-numbers : (q : Refusal) → Byte κs t p (Err q) → OneOf (5 ∷ 6 ∷ 7 ∷ 10 ∷ 14 ∷ []) (refusal_number q)
+  byte-numbers q a =
+      let e : refusal_number q ≡ (byte_answer t.now p.0).number = ap (λ (s : Answer). s.number) a in
+      not-zero (5 ∷ 6 ∷ 7 ∷ 10 ∷ 14 ∷ []) (refusal_number q) (number-above q) (rw e (byte_one t.now p.0))
 
 -- Past the text.
 pub byte-ten : (t : List ℕ) → check_result t ≡ 0 → (p : ℕ) → length (text_of t) ≤ p → byte_answer t p ≡ refused 10
@@ -97,9 +91,9 @@ unfolding byte_answer
 byte-ten t v p h = rw (accepted-header t v, le-ltb p (at.text_length t) (omega (arith, text-size t v)))
 
 -- The refusal in each case.
-byte-no : (r : ByteAnswer) (n : ℕ) → replied (byte_reply r) ≡ refused (suc n) → r ≡ answer.Refused (suc n)
-byte-no (answer.Byte v e) n s = absurd (let z : ◌≡◌ {A = ℕ} 0 (suc n) = ap (λ (x : Answer). x.number) s in omega arith)
-byte-no (answer.Refused m) n s = ap (λ (x : Answer). answer.Refused x.number) s
+byte-no : (r : ByteAnswer) (q : Refusal) → replied (byte_reply r) ≡ refused (refusal_number q) → r ≡ Err q
+byte-no (Ok x) q s = absurd (let low = number-above q in let z : 0 ≡ refusal_number q = ap (λ (x : Answer). x.number) s in omega arith)
+byte-no (Err d) q s = ap Err (one-number d q (ap (λ (x : Answer). x.number) s))
 
 -- Any tree that the check accepts, and the one text that fits it.
 module _ (t : Borrowed) (v : check_result t.now ≡ 0) where
@@ -107,9 +101,9 @@ module _ (t : Borrowed) (v : check_result t.now ≡ 0) where
   accepted-answers = record {
     byte-of = λ κs p r a h.
         let w = access.byte-answers t (accepted-header t.now v) (accepted-links t.now v) κs p r (below t.now v h) a in
-        let is = ap (λ (o : Option Path). answer.Byte (get_or (text_of t.now) p.0 0) (path_length t.now o)) (sym w.path_is) in
+        let is = ap (λ (o : Option Path). Ok (get_or (text_of t.now) p.0 0, path_length t.now o)) (sym w.path_is) in
         (path_length t.now (path_of t.now p.0), path-length t.now v p.0 h, w.answer_is ∙ is);
   }
 
   pub accepted-refuses : ByteRefuses t (at.settings t.now) (text_of t.now)
-  accepted-refuses = record { byte_past = λ κs p r a h. byte-no r 9 (a ∙ byte-ten t.now v p.0 h) }
+  accepted-refuses = record { byte_past = λ κs p r a h. byte-no r PastTheEnd (a ∙ byte-ten t.now v p.0 h) }

@@ -1,4 +1,8 @@
 -- row_by_columns(tree, width, a, buffer): row a, from 0, of the text whose rearrangement the tree is of: all its bytes, copied.
+use Rattle.std.specs.Prelude.{Ok, Err}
+use Rattle.refusals.specs.declared.Refusal.TheVariants.{PathBroken}
+use Rattle.refusals.specs.Refusals.{refusal_number}
+use Rattle.refusals.specs.RefusalsLaws.{one-number}
 use mathlib.Core.List.{List, [], ◌∷◌, ◌++◌}
 use mathlib.Core.Bool.{Bool}
 use mathlib.Core.Path.{◌≡◌, ◌∙◌, refl}
@@ -16,10 +20,10 @@ use Rattle.format.specs.TreeReading.{text_of, header_result, check_result, asks}
 use Rattle.format.specs.CheckResultLaws.{accepted-header}
 use Rattle.format.specs.Answers.{byte_answer}
 use Rattle.format.specs.AnswerLaws.{next-passes, asks-pass}
-use Rattle.query_access.specs.declared.SpanAnswer.TheVariants as span
 use Rattle.columns.specs.Columns.{width_ok}
 use Rattle.query_columns.proofs.Theorems as columns
 use Rattle.query_columns.specs.ColumnRows.{cell, cells_hold, row_by_columns_refusal, row_by_columns_answer, row_by_columns_buffer}
+use Rattle.theorems.specs.CallContracts.{Refusal}
 use Rattle.theorems.specs.Promises.{ColumnAnswers, ColumnRefuses}
 use Rattle.theorems.specs.PublicFunctions.{row_by_columns_function}
 use Rattle.theorems.proofs.AcceptedTree.{text-size}
@@ -51,7 +55,7 @@ column_fits t w a room h =
 
 module _ (κs : Lfts 2) (t : Borrowed) (w a : ℕ) (buffer after : BorrowedMut) where
   -- A result is w bytes, which fit, and the bytes after them are unchanged.
-  pub column-answer : (m e : ℕ) → ByColumns κs t w a buffer after (span.Bytes m e)
+  pub column-answer : (m e : ℕ) → ByColumns κs t w a buffer after (Ok (m, e))
       → (m ≡ w) × (e ≡ 0) × (w ≤ length buffer.now) × (drop w after.now ≡ drop w buffer.now)
   unfolding row_by_columns_answer row_by_columns_buffer
   column-answer m e c =
@@ -64,26 +68,30 @@ module _ (κs : Lfts 2) (t : Borrowed) (w a : ℕ) (buffer after : BorrowedMut) 
         rw left (drop_at row (drop w buffer.now) w (length-tabulate w (λ b. (byte_answer t.now (cell t.now w a b)).value))),
       )
 
-  module _ (n : ℕ) (c : ByColumns κs t w a buffer after (span.Refused n)) where
+  module _ (q : Refusal) (c : ByColumns κs t w a buffer after (Err q)) where
     -- The number is the definition's.
-    column-answers : n ≡ row_by_columns_refusal t.now w a (length buffer.now)
+    column-answers : refusal_number q ≡ row_by_columns_refusal t.now w a (length buffer.now)
     unfolding row_by_columns_answer
-    column-answers = answers-refused n _ w 0 c.0.numbered c.0.answers
+    column-answers = answers-refused (refusal_number q) _ w 0 c.0.numbered c.0.answers
 
     -- A refusal is 5, 6, 7, 20, 10, 13 or 14.
-    pub column-numbers : OneOf (5 ∷ 6 ∷ 7 ∷ 20 ∷ 10 ∷ 13 ∷ 14 ∷ []) n
+    pub column-numbers : OneOf (5 ∷ 6 ∷ 7 ∷ 20 ∷ 10 ∷ 13 ∷ 14 ∷ []) (refusal_number q)
     column-numbers =
-        not-zero (5 ∷ 6 ∷ 7 ∷ 20 ∷ 10 ∷ 13 ∷ 14 ∷ []) n c.0.numbered (rw column-answers (column-one t.now w a (length buffer.now)))
+        not-zero (5 ∷ 6 ∷ 7 ∷ 20 ∷ 10 ∷ 13 ∷ 14 ∷ []) (refusal_number q) c.0.numbered (rw column-answers (column-one t.now w a (length buffer.now)))
 
     -- Refusal 14 leaves w zeros.
-    pub column-zeros : n ≡ 14 → after.now ≡ replicate w 0 ++ drop w buffer.now
+    pub column-zeros : q ≡ PathBroken → after.now ≡ replicate w 0 ++ drop w buffer.now
     unfolding row_by_columns_buffer
     column-zeros e = c.1 ∙ rw (← column-answers, e)
 
     -- Any other refusal leaves the buffer unchanged.
-    pub column-unchanged : (n ≡ 14 → ⊥) → after.now ≡ buffer.now
+    pub column-unchanged : (q ≡ PathBroken → ⊥) → after.now ≡ buffer.now
     unfolding row_by_columns_buffer
-    column-unchanged e = c.1 ∙ rw (← column-answers, ne_eqb n 0 (λ z. omega (arith, c.0.numbered)), ne_eqb n 14 e)
+    column-unchanged e = c.1 ∙ rw (
+      ← column-answers,
+      ne_eqb (refusal_number q) 0 (λ z. omega (arith, c.0.numbered)),
+      ne_eqb (refusal_number q) 14 (λ z. e (one-number q PathBroken z)),
+    )
 
 -- Any tree that the check accepts, and the one text that fits it.
 module _ (t : Borrowed) (v : check_result t.now ≡ 0) where

@@ -1,5 +1,7 @@
 -- Request 111, for answers: how far the correction of one byte changes what count and find return, for any two accepted trees that the two texts fit, whoever
 -- built them.
+use Rattle.std.specs.Prelude.{Ok, Err}
+use Rattle.refusals.specs.declared.Refusal.TheVariants.{NoSuchOccurrence}
 use mathlib.Core.List.{List}
 use mathlib.Core.Bool.{true}
 use mathlib.Core.Path.{◌≡◌, sym, ap, ◌∙◌}
@@ -13,10 +15,7 @@ use Rattle.text.specs.ListLaws.{lt-or-ge}
 use Rattle.text.specs.declared.TextPlace.{TextPlace}
 use Rattle.format.specs.Layout as at
 use Rattle.format.specs.FittingText.{fits}
-use Rattle.query_rank.specs.declared.CountAnswer.{CountAnswer}
-use Rattle.query_rank.specs.declared.CountAnswer.TheVariants as count
-use Rattle.query_select.specs.declared.FindAnswer.{FindAnswer}
-use Rattle.query_select.specs.declared.FindAnswer.TheVariants as find
+use Rattle.theorems.specs.CallContracts.{CountAnswer, FindAnswer, Refusal}
 use Rattle.theorems.specs.Promises.{CountedIn}
 use Rattle.theorems.proofs.CheckCall.{Check, check-answers, check-refuses}
 use Rattle.theorems.proofs.CountCall.{Count}
@@ -27,7 +26,7 @@ use Rattle.theorems.proofs.PublicCall.{Borrowed}
 -- An accepted tree, of any origin, settings and layout, that represents the text and counts the byte.
 pub record CountingTree (T : List ℕ) (byte : ℕ) (t : Borrowed) : Type 0 where
   pub lifetime : Lfts 1
-  pub accepted : Check lifetime t 0
+  pub accepted : Check lifetime t (Ok tt)
   pub fitting : fits T t.now ≡ true
   pub counting : CountedIn byte (at.settings t.now).counted
 
@@ -37,8 +36,8 @@ pub record CountsNear (d i : ℕ) (r s : CountAnswer) : Type 0 where
   pub other : ℕ
   pub one_entered : ℕ
   pub other_entered : ℕ
-  pub one_is : r ≡ count.Times one one_entered
-  pub other_is : s ≡ count.Times other other_entered
+  pub one_is : r ≡ Ok (one, one_entered)
+  pub other_is : s ≡ Ok (other, other_entered)
   -- The counts are at most 1 apart.
   pub above : one ≤ other + 1
   pub below : other ≤ one + 1
@@ -47,11 +46,11 @@ pub record CountsNear (d i : ℕ) (r s : CountAnswer) : Type 0 where
 
 -- An answer of find: this place, with any figure.
 abbrev pub FoundAt : FindAnswer → TextPlace → Type 0
-FoundAt r p = (e : ℕ) × (r ≡ find.At p e)
+FoundAt r p = (e : ℕ) × (r ≡ Ok (p, e))
 
 module _ (T : List ℕ) (byte : ℕ) (t : Borrowed) (k : CountingTree T byte t) where
   -- What count answers for any number of bytes of the text.
-  count-of : (κs : Lfts 1) (i : ℕ) (r : CountAnswer) → Count κs t byte i r → i ≤ length T → (e : ℕ) × (r ≡ count.Times (count_in byte (take i T)) e)
+  count-of : (κs : Lfts 1) (i : ℕ) (r : CountAnswer) → Count κs t byte i r → i ≤ length T → (e : ℕ) × (r ≡ Ok (count_in byte (take i T), e))
   unfolding count_in
   count-of κs zero r c h = (0, (check-answers k.lifetime t k.accepted T k.fitting).count.count_none κs byte r c k.counting)
   count-of κs (suc i) r c h =
@@ -68,11 +67,11 @@ module _ (T : List ℕ) (byte : ℕ) (t : Borrowed) (k : CountingTree T byte t) 
   find-low : (κs : Lfts 1) (j : ℕ) (r : FindAnswer) → Find κs t byte j r → (p : TextPlace) → FoundAt r p → (1 ≤ j) × (j ≤ count_in byte T)
   find-low κs j r c p is = go (lt-or-ge 0 j) (lt-or-ge (count_in byte T) j)
     where
-      clash : (e q : ℕ) → r ≡ find.At p e → r ≡ find.Refused q → (1 ≤ j) × (j ≤ count_in byte T)
+      clash : (e : ℕ) (q : Refusal) → r ≡ Ok (p, e) → r ≡ Err q → (1 ≤ j) × (j ≤ count_in byte T)
       clash e q y z = absurd (let x : ◌≡◌ {A = ℕ} 0 1 = cc in omega arith)
 
       none : (1 ≤ j → j ≤ count_in byte T → ⊥) → (1 ≤ j) × (j ≤ count_in byte T)
-      none h = clash is.0 12 is.1 ((check-refuses k.lifetime t k.accepted T k.fitting).find.find_none κs byte j r c k.counting h)
+      none h = clash is.0 NoSuchOccurrence is.1 ((check-refuses k.lifetime t k.accepted T k.fitting).find.find_none κs byte j r c k.counting h)
 
       go : (0 < j) ⊎ (j ≤ 0) → (count_in byte T < j) ⊎ (j ≤ count_in byte T) → (1 ≤ j) × (j ≤ count_in byte T)
       go (inl low) (inr high) = (low, high)
@@ -91,10 +90,14 @@ place_kept T U d k byte t u kt ku κs κ j r s a b p before is =
     let y = find_of U byte u ku κ j s b z.0 w.0 in
     (y.0, same p (place_of byte j T) (place_of byte j U) y.0 s p-is w.1 y.1)
   where
-    placed : (p q : TextPlace) (e f : ℕ) → find.At p e ≡ find.At q f → p ≡ q
-    placed p q e f z = cc
+    placed : (p q : TextPlace) (e f : ℕ) → ◌≡◌ {A = FindAnswer} (Ok (p, e)) (Ok (q, f)) → p ≡ q
+    placed p q e f z = ap at_place z
+      where
+        at_place : FindAnswer → TextPlace
+        at_place (Ok x) = x.0
+        at_place (Err d) = p
 
-    same : (p : TextPlace) (x y f : ℕ) (s : FindAnswer) → p ≡ record { 0 = x } → y ≡ x → s ≡ find.At (record { 0 = y }) f → s ≡ find.At p f
+    same : (p : TextPlace) (x y f : ℕ) (s : FindAnswer) → p ≡ record { 0 = x } → y ≡ x → s ≡ Ok (record { 0 = y }, f) → s ≡ Ok (p, f)
     same p x y f s p-is y-is s-is = rw (p-is, ← y-is) s-is
 
 -- Request 111: T and U differ at place d only; t and u are accepted trees of these texts, and both count the byte.

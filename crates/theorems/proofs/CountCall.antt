@@ -1,11 +1,15 @@
 -- count(tree, byte, i), rank: how often a counted byte occurs in the first i bytes, with the blocks entered; uncounted(tree, i) returns the refusal for a
 -- number that is not a byte.
+use Rattle.std.specs.Prelude.{Ok, Err}
+use Rattle.refusals.specs.declared.Refusal.TheVariants.{PastTheEnd, ByteNotCounted}
+use Rattle.refusals.specs.Refusals.{refusal_number}
+use Rattle.refusals.specs.RefusalsLaws.{number-above, one-number}
 use mathlib.Core.List.{List, [], ◌∷◌}
 use mathlib.Core.Option.{Option, some, none}
 use mathlib.Core.Bool.{Bool, true, false, cond}
 use mathlib.Core.Path.{◌≡◌, sym, ap, ◌∙◌, refl}
 use mathlib.Core.Logic.{◌⊎◌, inl, inr}
-use Prim.Native.Nat.{ℕ, suc, ◌+◌, ◌-◌, ◌≤◌, ◌<◌}
+use Prim.Native.Nat.{ℕ, ◌+◌, ◌-◌, ◌≤◌, ◌<◌}
 use native.Mathlib.Omega.{arith}
 use contract.Lifetimes.{Lfts}
 use lib.ListN.{length, take}
@@ -20,9 +24,8 @@ use Rattle.format.specs.Answers.{Answer, refused, unless, NeverZero, replied, is
 use Rattle.format.specs.Answers.{path_length}
 use Rattle.format.specs.AnswerLaws.{unless-passes}
 use Rattle.theory_counts.specs.Theorems as counts
-use Rattle.query_rank.specs.declared.CountAnswer.{CountAnswer}
-use Rattle.query_rank.specs.declared.CountAnswer.TheVariants as count
 use Rattle.query_rank.specs.Counts.{count_reply, uncounted_refusal}
+use Rattle.theorems.specs.CallContracts.{CountAnswer, Refusal}
 use Rattle.theorems.specs.Promises.{CountedIn, CountAnswers, CountRefuses, LengthOfPath}
 pub use Rattle.theorems.specs.CallContracts.{Count}
 use Rattle.theorems.specs.PublicFunctions.{count_function, uncounted_function}
@@ -35,7 +38,7 @@ use Rattle.query_rank.proofs.uncounted.uncounted.Met as uncounted-met
 use Rattle.query_rank.proofs.uncounted.uncounted.Reads as uncounted-reads
 
 -- What the contract of `uncounted` allows.
-abbrev pub Uncounted : (κs : Lfts 1) → Borrowed → (i : ℕ) → ℕ → Type 0
+abbrev pub Uncounted : (κs : Lfts 1) → Borrowed → (i : ℕ) → Refusal → Type 0
 Uncounted κs t i r = uncounted-reads.Post κs (t, (i, tt)) r (t, (i, tt))
 
 abbrev pub count_call : Call
@@ -82,7 +85,7 @@ count-summed t byte i h =
         inr (some-path r q minus plus (leb minus plus) e k)
 
 -- On any tree, blocks entered is the length of the path of place i - 1, and for i = 0 the count is 0 with no blocks entered.
-pub count-answer : (κs : Lfts 1) (t : Borrowed) (byte i c e : ℕ) → Count κs t byte i (count.Times c e)
+pub count-answer : (κs : Lfts 1) (t : Borrowed) (byte i c e : ℕ) → Count κs t byte i (Ok (c, e))
     → ((i ≡ 0) × (c ≡ 0) × (e ≡ 0)) ⊎ LengthOfPath t.now (at.settings t.now).levels (i - 1) e
 count-answer κs t byte i c e a = go (count-summed t.now byte i (sym (ap (λ (s : Answer). s.number) a.answers)))
   where
@@ -120,13 +123,14 @@ module _ (t : List ℕ) where
       (none_or (eqb i 0) (count_of t byte (number_of_byte t byte) (path_of t (i - 1))) _ (count_of-one byte (number_of_byte t byte) (path_of t (i - 1))) refl))
 
 -- A refusal is 5, 6, 7, 10, 11 or 14.
-pub count-numbers : (κs : Lfts 1) (t : Borrowed) (byte i n : ℕ) → Count κs t byte i (count.Refused n) → OneOf (5 ∷ 6 ∷ 7 ∷ 10 ∷ 11 ∷ 14 ∷ []) n
-count-numbers κs t byte i n a =
-    let e : n ≡ (count_answer t.now byte i).number = ap (λ (s : Answer). s.number) a.answers in
-    not-zero (5 ∷ 6 ∷ 7 ∷ 10 ∷ 11 ∷ 14 ∷ []) n a.numbered (rw e (count-one t.now byte i))
+pub count-numbers : (κs : Lfts 1) (t : Borrowed) (byte i : ℕ) (q : Refusal) → Count κs t byte i (Err q)
+    → OneOf (5 ∷ 6 ∷ 7 ∷ 10 ∷ 11 ∷ 14 ∷ []) (refusal_number q)
+count-numbers κs t byte i q a =
+    let e : refusal_number q ≡ (count_answer t.now byte i).number = ap (λ (s : Answer). s.number) a.answers in
+    not-zero (5 ∷ 6 ∷ 7 ∷ 10 ∷ 11 ∷ 14 ∷ []) (refusal_number q) a.numbered (rw e (count-one t.now byte i))
 
 -- A number above 255 is refused on any bytes: `uncounted` returns 5, 6, 7, 10 or 11, never 0.
-pub uncounted-numbers : (κs : Lfts 1) (t : Borrowed) (i r : ℕ) → Uncounted κs t i r → OneOf (5 ∷ 6 ∷ 7 ∷ 10 ∷ 11 ∷ []) r
+pub uncounted-numbers : (κs : Lfts 1) (t : Borrowed) (i : ℕ) (r : Refusal) → Uncounted κs t i r → OneOf (5 ∷ 6 ∷ 7 ∷ 10 ∷ 11 ∷ []) (refusal_number r)
 unfolding uncounted_refusal
 uncounted-numbers κs t i r a =
     rw a (then_one (5 ∷ 6 ∷ 7 ∷ []) (10 ∷ 11 ∷ []) (header_result t.now) _ (header-one t.now) (last (leb i (at.text_length t.now))))
@@ -136,14 +140,16 @@ uncounted-numbers κs t i r a =
     last false = inl refl
 
 -- The answer in each case.
-count_is : (r : CountAnswer) (v e : ℕ) → NeverZero (count_reply r) → replied (count_reply r) ≡ record { number = 0; value = v; entered = e } → r
-    ≡ count.Times v e
-count_is (count.Times w m) v e k s = cc (ap (λ (x : Answer). x.value) s, ap (λ (x : Answer). x.entered) s)
-count_is (count.Refused q) v e k s = absurd (let z : q ≡ 0 = ap (λ (x : Answer). x.number) s in omega arith)
+count_is : (r : CountAnswer) (v e : ℕ) → NeverZero (count_reply r) → replied (count_reply r) ≡ record { number = 0; value = v; entered = e } → r ≡ Ok (v, e)
+count_is (Ok x) v e k s =
+    let z : x.0 ≡ v = ap (λ (x : Answer). x.value) s in
+    let y : x.1 ≡ e = ap (λ (x : Answer). x.entered) s in
+    ap Ok (λ i. (z i, y i))
+count_is (Err q) v e k s = absurd (let z : refusal_number q ≡ 0 = ap (λ (x : Answer). x.number) s in omega arith)
 
-count_no : (r : CountAnswer) (n : ℕ) → replied (count_reply r) ≡ refused (suc n) → r ≡ count.Refused (suc n)
-count_no (count.Times v e) n s = absurd (let z : ◌≡◌ {A = ℕ} 0 (suc n) = ap (λ (x : Answer). x.number) s in omega arith)
-count_no (count.Refused m) n s = ap (λ (x : Answer). count.Refused x.number) s
+count_no : (r : CountAnswer) (q : Refusal) → replied (count_reply r) ≡ refused (refusal_number q) → r ≡ Err q
+count_no (Ok x) q s = absurd (let low = number-above q in let z : 0 ≡ refusal_number q = ap (λ (x : Answer). x.number) s in omega arith)
+count_no (Err d) q s = ap Err (one-number d q (ap (λ (x : Answer). x.number) s))
 
 -- Any tree that the check accepts, and the one text that fits it.
 module _ (t : Borrowed) (v : check_result t.now ≡ 0) where
@@ -161,7 +167,7 @@ module _ (t : Borrowed) (v : check_result t.now ≡ 0) where
 
   -- What it answers, for any number of bytes.
   count-answers : (κs : Lfts 1) (byte i : ℕ) (r : CountAnswer) → Count κs t byte i r → CountedIn byte S.counted → i ≤ length T
-      → r ≡ count.Times (count_in byte (take i T)) (cond (eqb i 0) 0 (path_length t.now (path_of t.now (i - 1))))
+      → r ≡ Ok (count_in byte (take i T), cond (eqb i 0) 0 (path_length t.now (path_of t.now (i - 1))))
   count-answers κs byte i r a k h =
       count_is r _ _ a.numbered (a.answers ∙ counts.count-of-text t.now v byte i (among-counted t.now byte k) (omega (arith, size)))
 
@@ -186,6 +192,6 @@ module _ (t : Borrowed) (v : check_result t.now ≡ 0) where
 
   pub accepted-refuses : CountRefuses t S T
   accepted-refuses = record {
-    count_past = λ κs byte i r a h. count_no r 9 (a.answers ∙ count-ten byte i h);
-    count_other = λ κs byte i r a h other. count_no r 10 (a.answers ∙ count-eleven byte i h other);
+    count_past = λ κs byte i r a h. count_no r PastTheEnd (a.answers ∙ count-ten byte i h);
+    count_other = λ κs byte i r a h other. count_no r ByteNotCounted (a.answers ∙ count-eleven byte i h other);
   }

@@ -1,9 +1,13 @@
 -- digest(tree, out): the SHA-256 of a tree's text; digest_text(text, out): the SHA-256 of a text.
+use Rattle.std.specs.Prelude.{⊤, Result, Err}
+use Rattle.refusals.specs.declared.Refusal.TheVariants.{PathBroken}
+use Rattle.refusals.specs.Refusals.{refusal_number, result_refusal}
+use Rattle.refusals.specs.RefusalsLaws.{number-above, one-number}
 use mathlib.Core.List.{List, [], ◌∷◌, ◌++◌}
 use mathlib.Core.Bool.{Bool, true, false, cond}
-use mathlib.Core.Path.{◌≡◌, refl, sym, ◌∙◌}
+use mathlib.Core.Path.{◌≡◌, refl, sym, ap, ◌∙◌}
 use mathlib.Core.Logic.{inl, inr}
-use Prim.Native.Nat.{ℕ, ◌≤◌}
+use Prim.Native.Nat.{ℕ}
 use native.Mathlib.Omega.{arith}
 use contract.Lifetimes.{Lfts}
 use lib.ListN.{length, drop, replicate}
@@ -17,6 +21,7 @@ use Rattle.theory_accepted.specs.AcceptedTrees.{accepted-represents}
 use Rattle.sha256.specs.Sha256.{digest_text_refusal}
 use Rattle.query_digest.specs.Digest.{digest_refusal, digest_buffer}
 use Rattle.query_digest.proofs.Theorems as digests
+use Rattle.theorems.specs.CallContracts.{Refusal}
 use Rattle.theorems.specs.Promises.{DigestAnswers, DigestRefuses}
 use Rattle.theorems.specs.PublicFunctions.{digest_function, digest_text_function}
 use Rattle.theorems.proofs.PublicCall.{Call, Borrowed, BorrowedMut, call}
@@ -50,24 +55,28 @@ text-one room = go (leb 32 room)
     go true = inr (inl refl)
     go false = inl refl
 
-module _ (κs : Lfts 2) (t : Borrowed) (out after : BorrowedMut) (r : ℕ) where
+module _ (κs : Lfts 2) (t : Borrowed) (out after : BorrowedMut) where
   -- digest returns 0, 5, 6, 7, 13 or 14.
-  pub digest-numbers : Digest κs t out after r → OneOf (5 ∷ 6 ∷ 7 ∷ 13 ∷ 14 ∷ 0 ∷ []) r
-  digest-numbers a = rw a.0 (digest-one t.now (length out.now))
+  pub digest-numbers : (r : Result ⊤ Refusal) → Digest κs t out after r → OneOf (5 ∷ 6 ∷ 7 ∷ 13 ∷ 14 ∷ 0 ∷ []) (result_refusal r)
+  digest-numbers r a = rw a.0 (digest-one t.now (length out.now))
 
   -- 14 leaves the first 32 bytes zero.
-  pub digest-zeros : Digest κs t out after r → r ≡ 14 → after.now ≡ replicate 32 0 ++ drop 32 out.now
+  pub digest-zeros : (r : Result ⊤ Refusal) → Digest κs t out after r → r ≡ Err PathBroken → after.now ≡ replicate 32 0 ++ drop 32 out.now
   unfolding digest_buffer buffer_after
-  digest-zeros a e = let n : digest_refusal t.now (length out.now) ≡ 14 = sym a.0 ∙ e in a.1 ∙ rw n
+  digest-zeros r a e = let n : digest_refusal t.now (length out.now) ≡ 14 = sym a.0 ∙ ap result_refusal e in a.1 ∙ rw n
 
   -- Any other refusal leaves the buffer unchanged.
-  pub digest-unchanged : Digest κs t out after r → 1 ≤ r → (r ≡ 14 → ⊥) → after.now ≡ out.now
+  pub digest-unchanged : (q : Refusal) → Digest κs t out after (Err q) → (q ≡ PathBroken → ⊥) → after.now ≡ out.now
   unfolding digest_buffer buffer_after
-  digest-unchanged a low other = a.1 ∙ rw (← a.0, ne_eqb r 0 (λ z. omega arith), ne_eqb r 14 other)
+  digest-unchanged q a other = a.1 ∙ rw (
+    ← a.0,
+    ne_eqb (refusal_number q) 0 (λ z. omega (arith, number-above q)),
+    ne_eqb (refusal_number q) 14 (λ z. other (one-number q PathBroken z)),
+  )
 
   -- digest_text returns 0 or 13.
-  pub digest-text-numbers : DigestText κs t out after r → OneOf (13 ∷ 0 ∷ []) r
-  digest-text-numbers a = rw a.0 (text-one (length out.now))
+  pub digest-text-numbers : (r : ℕ) → DigestText κs t out after r → OneOf (13 ∷ 0 ∷ []) r
+  digest-text-numbers r a = rw a.0 (text-one (length out.now))
 
 -- Every tree that the check accepts, with the one text that fits it.
 module _ (t : Borrowed) (v : check_result t.now ≡ 0) where

@@ -1,5 +1,7 @@
 -- Request 110, the empty text: its tree is the header, which the check accepts, and what the calls return for it. All follows from the theorems on any
 -- text.
+use Rattle.std.specs.Prelude.{Ok, Err}
+use Rattle.refusals.specs.declared.Refusal.TheVariants.{PastTheEnd, NoSuchOccurrence}
 use mathlib.Core.List.{List, []}
 use mathlib.Core.Bool.{true}
 use mathlib.Core.Path.{◌≡◌, sym, ap, ◌∙◌}
@@ -22,16 +24,7 @@ use Rattle.format.specs.LayoutLaws.{Readable, header-facts}
 use Rattle.format.specs.PieceLaws.{pieces_none}
 use Rattle.theory_paths.specs.Links.{Linked, linked-facts}
 use Rattle.theory_accepted.specs.AcceptedTrees.{one-text}
-use Rattle.query_access.specs.declared.ByteAnswer.{ByteAnswer}
-use Rattle.query_access.specs.declared.ByteAnswer.TheVariants as answer
-use Rattle.query_access.specs.declared.SpanAnswer.{SpanAnswer}
-use Rattle.query_access.specs.declared.SpanAnswer.TheVariants as span
-use Rattle.query_rank.specs.declared.CountAnswer.{CountAnswer}
-use Rattle.query_rank.specs.declared.CountAnswer.TheVariants as count
-use Rattle.query_select.specs.declared.FindAnswer.{FindAnswer}
-use Rattle.query_select.specs.declared.FindAnswer.TheVariants as find
-use Rattle.query_rows.specs.declared.RowAnswer.{RowAnswer}
-use Rattle.query_rows.specs.declared.RowAnswer.TheVariants as row
+use Rattle.theorems.specs.CallContracts.{ByteAnswer, SpanAnswer, CountAnswer, FindAnswer, RowAnswer}
 use Rattle.theorems.specs.Promises.{CountedIn, Answers, Refuses}
 use Rattle.theorems.proofs.ByteCall.{Byte}
 use Rattle.theorems.proofs.CheckCall.{Check, check-answers, check-one-text, check-refuses}
@@ -45,7 +38,7 @@ use Rattle.theorems.proofs.SpanCall.{Span}
 -- The answers of a tree of the empty text, whichever road led to it.
 module _ (t : Borrowed) (S : Settings) (answers : Answers t S []) (refuses : Refuses t S []) where
   -- Byte is refused with 10, and a run is empty.
-  pub empty-byte : (κ : Lfts 1) (p : TextPlace) (r : ByteAnswer) → Byte κ t p r → r ≡ answer.Refused 10
+  pub empty-byte : (κ : Lfts 1) (p : TextPlace) (r : ByteAnswer) → Byte κ t p r → r ≡ Err PastTheEnd
   empty-byte κ p r b = refuses.byte.byte_past κ p r b (omega arith)
 
   pub empty-run : (κ : Lfts 1) (p : TextPlace) (r : Borrowed) → Run κ t p r → r.now ≡ []
@@ -53,36 +46,36 @@ module _ (t : Borrowed) (S : Settings) (answers : Answers t S []) (refuses : Ref
 
   -- A span of 0 bytes at place 0 is empty; any other span is refused with 10.
   pub empty-span : (κ : Lfts 2) (p : TextPlace) (buffer after : BorrowedMut) (r : SpanAnswer) → Span κ t p 0 buffer after r → p.0 ≡ 0
-      → (r ≡ span.Bytes 0 0) × (after.now ≡ buffer.now)
+      → (r ≡ Ok (0, 0)) × (after.now ≡ buffer.now)
   unfolding substring
   empty-span κ p buffer after r s z =
       let w = answers.span.span_of κ p 0 buffer after r s (omega arith) (omega arith) in
-      (w.2 ∙ ap (span.Bytes 0) (w.1.other (λ short. omega (arith, short.low))), w.3)
+      (w.2 ∙ ap (λ (e : ℕ). Ok (0, e)) (w.1.other (λ short. omega (arith, short.low))), w.3)
 
   pub empty-span-past : (κ : Lfts 2) (p : TextPlace) (len : ℕ) (buffer after : BorrowedMut) (r : SpanAnswer) → Span κ t p len buffer after r → 1 ≤ p.0 + len
-      → (r ≡ span.Refused 10) × (after.now ≡ buffer.now)
+      → (r ≡ Err PastTheEnd) × (after.now ≡ buffer.now)
   empty-span-past κ p len buffer after r s some = refuses.span.span_past κ p len buffer after r s (omega arith)
 
   -- A count in 0 bytes is 0, with no blocks entered; a count in more bytes is refused with 10.
-  pub empty-count : (κ : Lfts 1) (byte : ℕ) (r : CountAnswer) → Count κ t byte 0 r → CountedIn byte S.counted → r ≡ count.Times 0 0
+  pub empty-count : (κ : Lfts 1) (byte : ℕ) (r : CountAnswer) → Count κ t byte 0 r → CountedIn byte S.counted → r ≡ Ok (0, 0)
   empty-count = answers.count.count_none
 
-  pub empty-count-past : (κ : Lfts 1) (byte i : ℕ) (r : CountAnswer) → Count κ t byte i r → 1 ≤ i → r ≡ count.Refused 10
+  pub empty-count-past : (κ : Lfts 1) (byte i : ℕ) (r : CountAnswer) → Count κ t byte i r → 1 ≤ i → r ≡ Err PastTheEnd
   empty-count-past κ byte i r c some = refuses.count.count_past κ byte i r c (omega arith)
 
   -- No byte occurs, so find is refused with 12.
-  pub empty-find : (κ : Lfts 1) (byte j : ℕ) (r : FindAnswer) → Find κ t byte j r → CountedIn byte S.counted → r ≡ find.Refused 12
+  pub empty-find : (κ : Lfts 1) (byte j : ℕ) (r : FindAnswer) → Find κ t byte j r → CountedIn byte S.counted → r ≡ Err NoSuchOccurrence
   unfolding count_in
   empty-find κ byte j r f k = refuses.find.find_none κ byte j r f k (λ low high. omega arith)
 
   -- There is no row.
   pub empty-row : (κ : Lfts 2) (q : ℕ) (buffer after : BorrowedMut) (r : RowAnswer) → Row κ t q buffer after r → CountedIn 10 S.counted
-      → (r ≡ row.Refused 12) × (after.now ≡ buffer.now)
+      → (r ≡ Err NoSuchOccurrence) × (after.now ≡ buffer.now)
   unfolding rows_of
   empty-row κ q buffer after r w k = refuses.row.row_none κ q buffer after r w k (λ low high. omega arith)
 
 -- A tree with n 0 that the check accepts, whoever made it and whatever its settings.
-module _ (κs : Lfts 1) (t : Borrowed) (c : Check κs t 0) (none : at.text_length t.now ≡ 0) where
+module _ (κs : Lfts 1) (t : Borrowed) (c : Check κs t (Ok tt)) (none : at.text_length t.now ≡ 0) where
   k : Readable t.now
   k = header-facts t.now (accepted-header t.now (sym c))
 

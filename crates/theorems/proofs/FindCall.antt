@@ -1,9 +1,13 @@
 -- find(tree, byte, j): the place of the j-th occurrence of a counted byte, with the number of blocks entered.
+use Rattle.std.specs.Prelude.{Ok, Err}
+use Rattle.refusals.specs.declared.Refusal.TheVariants.{ByteNotCounted, NoSuchOccurrence}
+use Rattle.refusals.specs.Refusals.{refusal_number}
+use Rattle.refusals.specs.RefusalsLaws.{number-above, one-number}
 use mathlib.Core.List.{List, [], ◌∷◌}
 use mathlib.Core.Bool.{true, false, ◌&&◌}
 use mathlib.Core.Path.{◌≡◌, ap, refl}
 use mathlib.Core.Logic.{◌⊎◌, inl, inr}
-use Prim.Native.Nat.{ℕ, suc, ◌≤◌, ◌<◌}
+use Prim.Native.Nat.{ℕ, ◌≤◌, ◌<◌}
 use native.Mathlib.Omega.{arith}
 use contract.Lifetimes.{Lfts}
 use lib.ListN.{length}
@@ -20,9 +24,8 @@ use Rattle.format.specs.CheckResultLaws.{accepted-header}
 use Rattle.format.specs.Answers.{Answer, refused, NeverZero, replied, number_of_byte, find_refusal, path_length, total, found as found_for}
 use Rattle.format.specs.FindAnswerLaws.{FindAnswers as FindAllowed}
 use Rattle.theory_counts.specs.Theorems as counts
-use Rattle.query_select.specs.declared.FindAnswer.{FindAnswer}
-use Rattle.query_select.specs.declared.FindAnswer.TheVariants as find
 use Rattle.query_select.specs.Found.{find_reply}
+use Rattle.theorems.specs.CallContracts.{FindAnswer, Refusal}
 use Rattle.theorems.specs.Promises.{CountedIn, FindAnswers, FindRefuses}
 pub use Rattle.theorems.specs.CallContracts.{Find}
 use Rattle.theorems.specs.PublicFunctions.{find_function}
@@ -41,25 +44,25 @@ module _ (κs : Lfts 1) (t : Borrowed) (byte j : ℕ) where
   outcome-of s f = find-outcome t.now byte j (check_result t.now) (λ v. v) s f
 
   -- A returned place is a place of the text.
-  pub find-answer : (p : TextPlace) (e : ℕ) → Find κs t byte j (find.At p e) → p.0 < at.text_length t.now
+  pub find-answer : (p : TextPlace) (e : ℕ) → Find κs t byte j (Ok (p, e)) → p.0 < at.text_length t.now
   find-answer p e a = outcome-below t.now byte j (record { number = 0; value = p.0; entered = e }) refl (outcome-of _ a.answers)
 
   -- A refusal is 5, 6, 7, 11, 12 or 14.
-  pub find-numbers : (n : ℕ) → Find κs t byte j (find.Refused n) → OneOf (5 ∷ 6 ∷ 7 ∷ 11 ∷ 12 ∷ 14 ∷ []) n
-  find-numbers n a = outcome-numbers t.now byte j n a.numbered (outcome-of _ a.answers)
+  pub find-numbers : (q : Refusal) → Find κs t byte j (Err q) → OneOf (5 ∷ 6 ∷ 7 ∷ 11 ∷ 12 ∷ 14 ∷ []) (refusal_number q)
+  find-numbers q a = outcome-numbers t.now byte j (refusal_number q) a.numbered (outcome-of _ a.answers)
 
 -- The answer in each case.
-find-no : (r : FindAnswer) (n : ℕ) → replied (find_reply r) ≡ refused (suc n) → r ≡ find.Refused (suc n)
-find-no (find.At p e) n s = absurd (let z : ◌≡◌ {A = ℕ} 0 (suc n) = ap (λ (x : Answer). x.number) s in omega arith)
-find-no (find.Refused m) n s = ap (λ (x : Answer). find.Refused x.number) s
+find-no : (r : FindAnswer) (q : Refusal) → replied (find_reply r) ≡ refused (refusal_number q) → r ≡ Err q
+find-no (Ok x) q s = absurd (let low = number-above q in let z : 0 ≡ refusal_number q = ap (λ (x : Answer). x.number) s in omega arith)
+find-no (Err d) q s = ap Err (one-number d q (ap (λ (x : Answer). x.number) s))
 
 find-is : (r : FindAnswer) (v e : ℕ) → NeverZero (find_reply r) → replied (find_reply r) ≡ record { number = 0; value = v; entered = e }
-    → r ≡ find.At (record { 0 = v }) e
-find-is (find.At p m) v e k s =
-    let z : p ≡ record { 0 = v } = ap (λ (n : ℕ). record { 0 = n }) (ap (λ (x : Answer). x.value) s) in
-    let y : m ≡ e = ap (λ (x : Answer). x.entered) s in
-    cc
-find-is (find.Refused q) v e k s = absurd (let z : q ≡ 0 = ap (λ (x : Answer). x.number) s in omega arith)
+    → r ≡ Ok (record { 0 = v }, e)
+find-is (Ok x) v e k s =
+    let z : x.0 ≡ record { 0 = v } = ap (λ (n : ℕ). record { 0 = n }) (ap (λ (x : Answer). x.value) s) in
+    let y : x.1 ≡ e = ap (λ (x : Answer). x.entered) s in
+    ap Ok (λ i. (z i, y i))
+find-is (Err q) v e k s = absurd (let z : refusal_number q ≡ 0 = ap (λ (x : Answer). x.number) s in omega arith)
 
 -- Any tree that the check accepts, and the one text that fits it.
 module _ (t : Borrowed) (v : check_result t.now ≡ 0) where
@@ -96,11 +99,11 @@ module _ (t : Borrowed) (v : check_result t.now ≡ 0) where
       go all e (inr h) = h
 
   -- Refused before the walk.
-  find-asked : (κs : Lfts 1) (byte j : ℕ) (r : FindAnswer) (n : ℕ) → Find κs t byte j r → find_refusal t.now byte j ≡ suc n → r ≡ find.Refused (suc n)
-  find-asked κs byte j r n a e = find-no r n (rw e at (a.answers.asked (rw e (omega arith))))
+  find-asked : (κs : Lfts 1) (byte j : ℕ) (r : FindAnswer) (q : Refusal) → Find κs t byte j r → find_refusal t.now byte j ≡ refusal_number q → r ≡ Err q
+  find-asked κs byte j r q a e = find-no r q (rw e at (a.answers.asked (rw e (omega (arith, number-above q)))))
 
   pub accepted-refuses : FindRefuses t S T
   accepted-refuses = record {
-    find_other = λ κs byte j r a other. find-asked κs byte j r 10 a (eleven byte j other);
-    find_none = λ κs byte j r a k none. find-asked κs byte j r 11 a (twelve byte j k none);
+    find_other = λ κs byte j r a other. find-asked κs byte j r ByteNotCounted a (eleven byte j other);
+    find_none = λ κs byte j r a k none. find-asked κs byte j r NoSuchOccurrence a (twelve byte j k none);
   }

@@ -1,5 +1,7 @@
 -- next_match(tree, ranges, mark): the next row after a mark whose cuts are each in their range; show(mark, tree, ranges) moves the caller's mark. `Theorems`
 -- of their crate has the theorems on the mark.
+use Rattle.std.specs.Prelude.{Err}
+use Rattle.refusals.specs.Refusals.{refusal_number}
 use mathlib.Core.List.{List, [], ◌∷◌}
 use mathlib.Core.Bool.{true}
 use mathlib.Core.Path.{◌≡◌, refl}
@@ -12,7 +14,7 @@ use Rattle.keys.specs.Keys.{ranges_ok}
 use Rattle.query_row_filter.specs.AllowedRows.{query_refusal}
 use Rattle.query_key_match.proofs.Theorems.{refusal_is}
 use Rattle.query_key_match.proofs.Theorems as key-match
-use Rattle.query_row_filter.specs.declared.NextRowAnswer.TheVariants as answer
+use Rattle.theorems.specs.CallContracts.{Refusal}
 use Rattle.theorems.specs.Promises.{CountedIn, MatchAnswers, MatchRefuses}
 use Rattle.theorems.specs.PublicFunctions.{next_match_function, advance_mark_function}
 use Rattle.theorems.proofs.AcceptedTree.{among-counted, not-counted}
@@ -33,8 +35,9 @@ advance_mark_call = call advance_mark_function advance-mark-met.met (λ 𝓤 �
 -- For any bytes.
 
 -- A refusal is 5, 6, 7, 19, 11 or 14.
-pub match-numbers : (κs : Lfts 2) (t ranges : Borrowed) (mark n : ℕ) → NextMatch κs t ranges mark (answer.Refused n) → OneOf (5 ∷ 6 ∷ 7 ∷ 19 ∷ 11 ∷ 14 ∷ []) n
-match-numbers κs t ranges mark n a = search-numbers t.now 19 (ranges_ok ranges.now) n a.numbered (refusal_is t.now ranges.now mark n a)
+pub match-numbers : (κs : Lfts 2) (t ranges : Borrowed) (mark : ℕ) (q : Refusal) → NextMatch κs t ranges mark (Err q)
+    → OneOf (5 ∷ 6 ∷ 7 ∷ 19 ∷ 11 ∷ 14 ∷ []) (refusal_number q)
+match-numbers κs t ranges mark q a = search-numbers t.now 19 (ranges_ok ranges.now) q (refusal_is t.now ranges.now mark q a)
 
 -- Any tree that the check accepts, and the one text that fits it.
 module _ (t : Borrowed) (v : check_result t.now ≡ 0) where

@@ -1,6 +1,11 @@
 -- compare(one, other) and first(one, other, number, order, shared): the lexicographic order of two trees' texts and the length of their longest common
 -- prefix; `first` returns the tree that comes first. For any bytes, and for two trees that the check accepts, whoever made them, with the texts that fit
 -- them.
+use Rattle.std.specs.Prelude.{Result, Ok, Err}
+use Rattle.std.specs.declared.cmp.Ordering.{Ordering}
+use Rattle.std.specs.declared.cmp.Ordering.TheVariants.{Less, Equal, Greater}
+use Rattle.refusals.specs.Refusals.{refusal_number}
+use Rattle.refusals.specs.RefusalsLaws.{number-above}
 use mathlib.Core.List.{List, [], ◌∷◌}
 use mathlib.Core.Bool.{Bool, true, false, cond}
 use mathlib.Core.Path.{◌≡◌, sym, ap, ◌∙◌, refl}
@@ -19,13 +24,11 @@ use Rattle.format.specs.FittingText.{fits}
 use Rattle.format.specs.CheckResultLaws.{accepted-header, accepted-links}
 use Rattle.theory_paths.specs.PlaceBytes.{byte-broken}
 use Rattle.theory_accepted.specs.AcceptedTrees.{one-text}
-use Rattle.query_compare.specs.declared.CompareAnswer.{CompareAnswer}
-use Rattle.query_compare.specs.declared.CompareAnswer.TheVariants as compare
 use Rattle.query_compare.proofs.Theorems as orders
-use Rattle.query_compare.specs.OrderAnswers.{Ordering, before, same, after, order_answer, by_lengths, compared_from, compare_answer}
+use Rattle.query_compare.specs.OrderAnswers.{order_answer, by_lengths, compared_from, compare_answer}
 use Rattle.query_compare.specs.TextOrder.{text_ordering, shared, outcome, first_of}
 use Rattle.query_compare.specs.OrderLaws.{clash, flip, Upto, shared-itself}
-use Rattle.query_compare.proofs.FirstLaws.{refused-low}
+use Rattle.theorems.specs.CallContracts.{Refusal}
 use Rattle.theorems.specs.PublicFunctions.{compare_function, first_function}
 use Rattle.theorems.proofs.CheckCall.{Check}
 use Rattle.theorems.proofs.PublicCall.{Call, Borrowed, call}
@@ -67,15 +70,15 @@ module _ (t u : List ℕ) where
       → OneOf (14 ∷ 0 ∷ []) (compared_from t u more p).number
   unfolding compared_from by_lengths
   from_one r s zero p h =
-      cond-one (ltb (at.text_length t) (at.text_length u)) (order_answer before p) _ (inr (inl refl))
-      (cond-one (ltb (at.text_length u) (at.text_length t)) (order_answer after p) (order_answer same p) (inr (inl refl)) (inr (inl refl)))
+      cond-one (ltb (at.text_length t) (at.text_length u)) (order_answer Less p) _ (inr (inl refl))
+      (cond-one (ltb (at.text_length u) (at.text_length t)) (order_answer Greater p) (order_answer Equal p) (inr (inl refl)) (inr (inl refl)))
   from_one r s (suc more) p h =
       let x = (byte_answer t p).value in
       let y = (byte_answer u p).value in
       or-one (byte_answer t p).number _ (place-one t p r (omega arith))
       (or-one (byte_answer u p).number _ (place-one u p s (omega arith))
-      (cond-one (ltb x y) (order_answer before p) _ (inr (inl refl))
-      (cond-one (ltb y x) (order_answer after p) (compared_from t u more (p + 1)) (inr (inl refl)) (from_one r s more (p + 1) (omega arith)))))
+      (cond-one (ltb x y) (order_answer Less p) _ (inr (inl refl))
+      (cond-one (ltb y x) (order_answer Greater p) (compared_from t u more (p + 1)) (inr (inl refl)) (from_one r s more (p + 1) (omega arith)))))
 
   order-one : OneOf (5 ∷ 6 ∷ 7 ∷ 14 ∷ 0 ∷ []) (compare_answer t u).number
   unfolding compare_answer
@@ -91,17 +94,17 @@ module _ (t u : List ℕ) where
       go zero zero e f = of_right (5 ∷ 6 ∷ 7 ∷ []) (14 ∷ 0 ∷ []) _ (from_one e f (min (at.text_length t) (at.text_length u)) 0 (omega arith))
 
 -- A refusal is 5, 6, 7 or 14.
-pub order-numbers : (κs : Lfts 2) (t u : Borrowed) (n : ℕ) → Compare κs t u (compare.Refused n) → OneOf (5 ∷ 6 ∷ 7 ∷ 14 ∷ []) n
-order-numbers κs t u n a =
-    let e : n ≡ (compare_answer t.now u.now).number = ap (λ (s : Answer). s.number) a.answers in
-    not-zero (5 ∷ 6 ∷ 7 ∷ 14 ∷ []) n (refused-low t.now u.now (compare.Refused n) a t u n refl) (rw e (order-one t.now u.now))
+pub order-numbers : (κs : Lfts 2) (t u : Borrowed) (q : Refusal) → Compare κs t u (Err q) → OneOf (5 ∷ 6 ∷ 7 ∷ 14 ∷ []) (refusal_number q)
+order-numbers κs t u q a =
+    let e : refusal_number q ≡ (compare_answer t.now u.now).number = ap (λ (s : Answer). s.number) a.answers in
+    not-zero (5 ∷ 6 ∷ 7 ∷ 14 ∷ []) (refusal_number q) (number-above q) (rw e (order-one t.now u.now))
 
 -- Trees that the check accepts.
 
 -- The check accepts the tree t, and T is the text that fits it.
 pub record CallHolds (t : Borrowed) (T : List ℕ) : Type 0 where
   pub lifetime : Lfts 1
-  pub check : Check lifetime t 0
+  pub check : Check lifetime t (Ok tt)
   pub fitting : fits T t.now ≡ true
 
 module _ (t : Borrowed) (T : List ℕ) (a : CallHolds t T) where
@@ -120,7 +123,7 @@ figures_in number order length = record { number = number.now; value = order.now
 
 module _ (t u : Borrowed) (T U : List ℕ) (a : CallHolds t T) (b : CallHolds u U) where
   -- The lexicographic order of the texts, and the length of their longest common prefix.
-  pub compare-of : (κs : Lfts 2) (r : CompareAnswer) → Compare κs t u r → r ≡ outcome (text_ordering T U) (shared T U)
+  pub compare-of : (κs : Lfts 2) (r : Result (Ordering × ℕ) Refusal) → Compare κs t u r → r ≡ outcome (text_ordering T U) (shared T U)
   compare-of κs r c = rw (text-is t T a, text-is u U b) at (orders.compare-texts t u (passes t T a) (passes u U b) (links t T a) (links u U b) κs r c)
 
   -- `first` returns the reference, pointer and bytes, of the tree whose text comes first (for equal texts the first), with the figures of the comparison
@@ -134,7 +137,7 @@ module _ (t u : Borrowed) (T U : List ℕ) (a : CallHolds t T) (b : CallHolds u 
 
 -- The result depends on the texts alone: two other trees of the same two texts, of any settings and layouts, give the same.
 module _ (t u t' u' : Borrowed) (T U : List ℕ) (a : CallHolds t T) (b : CallHolds u U) (a' : CallHolds t' T) (b' : CallHolds u' U) where
-  pub texts-alone : (κs κs' : Lfts 2) (r r' : CompareAnswer) → Compare κs t u r → Compare κs' t' u' r' → r ≡ r'
+  pub texts-alone : (κs κs' : Lfts 2) (r r' : Result (Ordering × ℕ) Refusal) → Compare κs t u r → Compare κs' t' u' r' → r ≡ r'
   texts-alone κs κs' r r' c c' = compare-of t u T U a b κs r c ∙ sym (compare-of t' u' T U a' b' κs' r' c')
 
   -- The same figures, and the tree of the same side.
@@ -148,32 +151,34 @@ module _ (t u t' u' : Borrowed) (T U : List ℕ) (a : CallHolds t T) (b : CallHo
       (z.1 ∙ sym z'.1, side (text_ordering T U) z.0 z'.0)
     where
       side : (s : Ordering) → r ≡ first_of s t u → r' ≡ first_of s t' u' → ((r ≡ t) × (r' ≡ t')) ⊎ ((r ≡ u) × (r' ≡ u'))
-      side before e e' = inl (e, e')
-      side same e e' = inl (e, e')
-      side after e e' = inr (e, e')
+      side Less e e' = inl (e, e')
+      side Equal e e' = inl (e, e')
+      side Greater e e' = inr (e, e')
 
 -- It is a total order on the texts.
 
 -- The first comes before the second, or both are equal.
-abbrev pub AtOrBefore : CompareAnswer → Type 0
-AtOrBefore (compare.Before n) = Unit {0}
-AtOrBefore (compare.Same n) = Unit {0}
-AtOrBefore (compare.After n) = ⊥
-AtOrBefore (compare.Refused q) = ⊥
+abbrev pub AtOrBefore : Result (Ordering × ℕ) Refusal → Type 0
+AtOrBefore (Ok (Less, n)) = Unit {0}
+AtOrBefore (Ok (Equal, n)) = Unit {0}
+AtOrBefore (Ok (Greater, n)) = ⊥
+AtOrBefore (Err q) = ⊥
 
-up-to : (s : Ordering) (n : ℕ) → AtOrBefore (outcome s n) → s ≡ after → ⊥
-up-to before n h e = clash before after (λ z. omega arith) e
-up-to same n h e = clash same after (λ z. omega arith) e
-up-to after n h e = h
+up-to : (s : Ordering) (n : ℕ) → AtOrBefore (outcome s n) → s ≡ Greater → ⊥
+up-to Less n h e = clash Less Greater (λ z. omega arith) e
+up-to Equal n h e = clash Equal Greater (λ z. omega arith) e
+up-to Greater n h e = h
 
-not_after : (s : Ordering) (n : ℕ) → (s ≡ after → ⊥) → AtOrBefore (outcome s n)
-not_after before n h = tt
-not_after same n h = tt
-not_after after n h = h refl
+not_after : (s : Ordering) (n : ℕ) → (s ≡ Greater → ⊥) → AtOrBefore (outcome s n)
+not_after Less n h = tt
+not_after Equal n h = tt
+not_after Greater n h = h refl
 
-module _ (t u : Borrowed) (T U : List ℕ) (a : CallHolds t T) (b : CallHolds u U) (κs : Lfts 2) (r : CompareAnswer) (c : Compare κs t u r) where
+module _ (t u : Borrowed) (T U : List ℕ) (a : CallHolds t T) (b : CallHolds u U) (κs : Lfts 2) (r : Result (Ordering × ℕ) Refusal) (c : Compare κs t u r) where
   upto-of : AtOrBefore r → Upto T U
-  upto-of h = let z : AtOrBefore (outcome (text_ordering T U) (shared T U)) = rw (compare-of t u T U a b κs r c) at h in up-to (text_ordering T U) (shared T U) z
+  upto-of h =
+      let z : AtOrBefore (outcome (text_ordering T U) (shared T U)) = rw (compare-of t u T U a b κs r c) at h in
+      up-to (text_ordering T U) (shared T U) z
 
   of-upto : Upto T U → AtOrBefore r
   of-upto h = rw (compare-of t u T U a b κs r c) (not_after (text_ordering T U) (shared T U) h)
@@ -181,15 +186,15 @@ module _ (t u : Borrowed) (T U : List ℕ) (a : CallHolds t T) (b : CallHolds u 
 -- What compare answers of any accepted trees t, u and v with the texts T, U and W.
 pub record TotalOrderOfTrees : Type 0 where
   -- Trees of one text are the same, and only these.
-  pub reflexive : (t u : Borrowed) (T : List ℕ) → CallHolds t T → CallHolds u T → (κs : Lfts 2) (r : CompareAnswer) → Compare κs t u r → r
-      ≡ compare.Same (length T)
-  pub antisymmetric : (t u : Borrowed) (T U : List ℕ) → CallHolds t T → CallHolds u U → (κs κs' : Lfts 2) (r r' : CompareAnswer) → Compare κs t u r
-      → Compare κs' u t r'
-      → AtOrBefore r → AtOrBefore r' → T ≡ U
-  pub transitive : (t u v : Borrowed) (T U W : List ℕ) → CallHolds t T → CallHolds u U → CallHolds v W → (κs κs' κs'' : Lfts 2) (r r' r'' : CompareAnswer)
+  pub reflexive : (t u : Borrowed) (T : List ℕ) → CallHolds t T → CallHolds u T → (κs : Lfts 2) (r : Result (Ordering × ℕ) Refusal) → Compare κs t u r
+      → r ≡ Ok (Equal, length T)
+  pub antisymmetric : (t u : Borrowed) (T U : List ℕ) → CallHolds t T → CallHolds u U → (κs κs' : Lfts 2) (r r' : Result (Ordering × ℕ) Refusal)
+      → Compare κs t u r → Compare κs' u t r' → AtOrBefore r → AtOrBefore r' → T ≡ U
+  pub transitive : (t u v : Borrowed) (T U W : List ℕ) → CallHolds t T → CallHolds u U → CallHolds v W
+      → (κs κs' κs'' : Lfts 2) (r r' r'' : Result (Ordering × ℕ) Refusal)
       → Compare κs t u r → Compare κs' u v r' → Compare κs'' t v r'' → AtOrBefore r → AtOrBefore r' → AtOrBefore r''
-  pub total : (t u : Borrowed) (T U : List ℕ) → CallHolds t T → CallHolds u U → (κs κs' : Lfts 2) (r r' : CompareAnswer) → Compare κs t u r → Compare κs' u t r'
-      → AtOrBefore r ⊎ AtOrBefore r'
+  pub total : (t u : Borrowed) (T U : List ℕ) → CallHolds t T → CallHolds u U → (κs κs' : Lfts 2) (r r' : Result (Ordering × ℕ) Refusal)
+      → Compare κs t u r → Compare κs' u t r' → AtOrBefore r ⊎ AtOrBefore r'
 
 pub tree-order : TotalOrderOfTrees
 tree-order = record {
@@ -200,17 +205,16 @@ tree-order = record {
   total = λ t u T U a b κs κs' r r' c c'. either t u T U a b κs κs' r r' c c' (text-order.total T U);
 }
   where
-    itself : (T : List ℕ) → outcome (text_ordering T T) (shared T T) ≡ compare.Same (length T)
-    itself T = let e : text_ordering T T ≡ same = ordering-refl T in rw (e, shared-itself T)
+    itself : (T : List ℕ) → outcome (text_ordering T T) (shared T T) ≡ Ok (Equal, length T)
+    itself T = let e : text_ordering T T ≡ Equal = ordering-refl T in rw (e, shared-itself T)
 
-    either : (t u : Borrowed) (T U : List ℕ) → CallHolds t T → CallHolds u U → (κs κs' : Lfts 2) (r r' : CompareAnswer) → Compare κs t u r → Compare κs' u t r'
-        → Upto T U ⊎ Upto U T → AtOrBefore r ⊎ AtOrBefore r'
+    either : (t u : Borrowed) (T U : List ℕ) → CallHolds t T → CallHolds u U → (κs κs' : Lfts 2) (r r' : Result (Ordering × ℕ) Refusal)
+        → Compare κs t u r → Compare κs' u t r' → Upto T U ⊎ Upto U T → AtOrBefore r ⊎ AtOrBefore r'
     either t u T U a b κs κs' r r' c c' (inl h) = inl (of-upto t u T U a b κs r c h)
     either t u T U a b κs κs' r r' c c' (inr h) = inr (of-upto u t U T b a κs' r' c' h)
 
 -- The other way round before becomes after, and the shared beginning stays.
-pub compare-flip : (t u : Borrowed) (T U : List ℕ) → CallHolds t T → CallHolds u U → (κs κs' : Lfts 2) (r r' : CompareAnswer) → Compare κs t u r
-    → Compare κs' u t r'
-    → (r ≡ outcome (text_ordering T U) (shared T U)) × (r' ≡ outcome (flip (text_ordering T U)) (shared T U))
+pub compare-flip : (t u : Borrowed) (T U : List ℕ) → CallHolds t T → CallHolds u U → (κs κs' : Lfts 2) (r r' : Result (Ordering × ℕ) Refusal)
+    → Compare κs t u r → Compare κs' u t r' → (r ≡ outcome (text_ordering T U) (shared T U)) × (r' ≡ outcome (flip (text_ordering T U)) (shared T U))
 compare-flip t u T U a b κs κs' r r' c c' =
     (compare-of t u T U a b κs r c, compare-of u t U T b a κs' r' c' ∙ rw (ordering-flip T U, shared-flip T U))

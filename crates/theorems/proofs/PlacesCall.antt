@@ -1,4 +1,6 @@
 -- places(tree, pattern, table): all places of a pattern, written to the caller's table of words.
+use Rattle.std.specs.Prelude.{Ok, Err}
+use Rattle.refusals.specs.Refusals.{refusal_number}
 use mathlib.Core.List.{List, [], ◌∷◌, ◌++◌}
 use mathlib.Core.Option.{some}
 use mathlib.Core.Bool.{true, ◌&&◌, Bool}
@@ -22,7 +24,7 @@ use Rattle.theory_paths.specs.Reads.{text-of-path}
 use Rattle.query_places.specs.PlacesLaws.{places-all, AllPlaces}
 use Rattle.query_places.proofs.Theorems as patterns
 use Rattle.query_places.specs.Places.{max_pattern, places_in, pattern_ok, places_of, places_refusal, places_answer, places_buffer}
-use Rattle.query_places.specs.declared.PlacesAnswer.TheVariants as places
+use Rattle.theorems.specs.CallContracts.{Refusal}
 use Rattle.theorems.specs.Promises.{PlacesAnswers, PlacesRefuses}
 use Rattle.theorems.specs.PublicFunctions.{places_function}
 use Rattle.theorems.proofs.PublicCall.{Call, Borrowed, BorrowedMut, call}
@@ -69,7 +71,7 @@ places-one t P room =
 module _ (κs : Lfts 3) (t P : Borrowed) (table after : BorrowedMut) where
   -- The result is the number of all places in the bytes that the tree's paths give, none of which breaks. The places fit the table and are at its start, and
   -- the words after them are unchanged.
-  pub places-answer : (n : ℕ) → Places κs t P table after (places.Number n)
+  pub places-answer : (n : ℕ) → Places κs t P table after (Ok n)
       → (ps : List ℕ) × AllPlaces P.now (text_of t.now) ps × (n ≡ length ps) × (n ≤ length table.now) × (after.now ≡ ps ++ drop n table.now)
       × ((p : ℕ) → p < at.text_length t.now → (q : Path) × (path_of t.now p ≡ some q) × (get_or (text_of t.now) p 0 ≡ at.leaf_byte t.now q.leaf))
   unfolding places_answer places_buffer places_of
@@ -90,21 +92,21 @@ module _ (κs : Lfts 3) (t P : Borrowed) (table after : BorrowedMut) where
             (w.0, w.1, text-of-path t.now (header-facts t.now k.pass) k.pass p low w.0 w.1),
       )
 
-  module _ (n : ℕ) (a : Places κs t P table after (places.Refused n)) where
+  module _ (q : Refusal) (a : Places κs t P table after (Err q)) where
     -- The number is the definition's.
-    places-answers : n ≡ places_refusal t.now P.now (length table.now)
+    places-answers : refusal_number q ≡ places_refusal t.now P.now (length table.now)
     unfolding places_answer
     places-answers = ap (λ (s : Answer). s.number) a.0.answers ∙ unless-number (places_refusal t.now P.now (length table.now)) _ refl
 
     -- A refusal is 5, 6, 7, 16, 14 or 17.
-    pub places-numbers : OneOf (5 ∷ 6 ∷ 7 ∷ 16 ∷ 14 ∷ 17 ∷ []) n
+    pub places-numbers : OneOf (5 ∷ 6 ∷ 7 ∷ 16 ∷ 14 ∷ 17 ∷ []) (refusal_number q)
     places-numbers =
-        not-zero (5 ∷ 6 ∷ 7 ∷ 16 ∷ 14 ∷ 17 ∷ []) n a.0.numbered (rw places-answers (places-one t.now P.now (length table.now)))
+        not-zero (5 ∷ 6 ∷ 7 ∷ 16 ∷ 14 ∷ 17 ∷ []) (refusal_number q) a.0.numbered (rw places-answers (places-one t.now P.now (length table.now)))
 
     -- A refusal leaves the table unchanged.
     pub places-unchanged : after.now ≡ table.now
     unfolding places_buffer
-    places-unchanged = a.1 ∙ rw (← places-answers, ne_eqb n 0 (λ e. omega (arith, a.0.numbered)))
+    places-unchanged = a.1 ∙ rw (← places-answers, ne_eqb (refusal_number q) 0 (λ e. omega (arith, a.0.numbered)))
 
 -- Any tree that the check accepts, and the one text that fits it.
 module _ (t : Borrowed) (v : check_result t.now ≡ 0) where

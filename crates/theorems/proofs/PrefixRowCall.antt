@@ -1,5 +1,7 @@
 -- next_with_prefix(tree, prefix, mark): the next row after a mark that starts with the prefix; next_with_prefix_guided(tree, guide, prefix, mark)
 -- the same with a guide. The theorems about repeated calls are in `Theorems` of their crate.
+use Rattle.std.specs.Prelude.{Err}
+use Rattle.refusals.specs.Refusals.{refusal_number}
 use mathlib.Core.List.{List, [], ◌∷◌}
 use mathlib.Core.Path.{◌≡◌, refl}
 use Prim.Native.Nat.{ℕ}
@@ -8,11 +10,11 @@ use Rattle.format.specs.Layout as at
 use Rattle.format.specs.TreeReading.{text_of, header_result, check_result}
 use Rattle.format.specs.CheckResultLaws.{accepted-header}
 use Rattle.query_places.specs.Places.{pattern_ok}
-use Rattle.query_row_filter.specs.declared.NextRowAnswer.TheVariants as answer
 use Rattle.query_guide.specs.Guides.{guide_refusal}
 use Rattle.query_guide.proofs.GuideList.{guide-checked}
 use Rattle.query_prefix.proofs.Theorems.{IsPrefixAnswer}
 use Rattle.query_prefix.proofs.Theorems as query-prefix
+use Rattle.theorems.specs.CallContracts.{Refusal}
 use Rattle.theorems.specs.Promises.{PrefixAnswers, PrefixRefuses}
 use Rattle.theorems.specs.PublicFunctions.{next_row_with_prefix_function, next_row_with_prefix_guided_function}
 use Rattle.theorems.proofs.AcceptedTree.{among-counted, not-counted}
@@ -33,20 +35,20 @@ next_row_with_prefix_guided_call = call next_row_with_prefix_guided_function gui
 -- For any bytes.
 
 -- A refusal is the number of a question before the walk, or 14.
-refusal-one : (t : List ℕ) (ok : ℕ) (sound : ok ≡ 0 → check_result t ≡ 0) (prefix : List ℕ) (mark n : ℕ)
-    → IsPrefixAnswer t ok prefix mark (answer.Refused n) → OneOf (5 ∷ 6 ∷ 7 ∷ 16 ∷ 11 ∷ 14 ∷ []) n
-refusal-one t ok sound prefix mark n a =
-    search-numbers t 16 (pattern_ok prefix) n a.numbered (query-prefix.prefix-refusal t ok sound prefix mark n a)
+refusal-one : (t : List ℕ) (ok : ℕ) (sound : ok ≡ 0 → check_result t ≡ 0) (prefix : List ℕ) (mark : ℕ) (q : Refusal)
+    → IsPrefixAnswer t ok prefix mark (Err q) → OneOf (5 ∷ 6 ∷ 7 ∷ 16 ∷ 11 ∷ 14 ∷ []) (refusal_number q)
+refusal-one t ok sound prefix mark q a =
+    search-numbers t 16 (pattern_ok prefix) q (query-prefix.prefix-refusal t ok sound prefix mark q a)
 
 -- A refusal is 5, 6, 7, 16, 11 or 14.
-pub prefix-numbers : (κs : Lfts 2) (t prefix : Borrowed) (mark n : ℕ)
-    → NextRowWithPrefix κs t prefix mark (answer.Refused n) → OneOf (5 ∷ 6 ∷ 7 ∷ 16 ∷ 11 ∷ 14 ∷ []) n
-prefix-numbers κs t prefix mark n a = refusal-one t.now (check_result t.now) (λ v. v) prefix.now mark n a
+pub prefix-numbers : (κs : Lfts 2) (t prefix : Borrowed) (mark : ℕ) (q : Refusal)
+    → NextRowWithPrefix κs t prefix mark (Err q) → OneOf (5 ∷ 6 ∷ 7 ∷ 16 ∷ 11 ∷ 14 ∷ []) (refusal_number q)
+prefix-numbers κs t prefix mark q a = refusal-one t.now (check_result t.now) (λ v. v) prefix.now mark q a
 
-pub prefix-guided-numbers : (κs : Lfts 3) (t guide prefix : Borrowed) (mark n : ℕ)
-    → NextRowWithPrefixGuided κs t guide prefix mark (answer.Refused n) → OneOf (5 ∷ 6 ∷ 7 ∷ 16 ∷ 11 ∷ 14 ∷ []) n
-prefix-guided-numbers κs t guide prefix mark n a =
-    refusal-one t.now (guide_refusal t.now guide.now) (guide-checked t.now guide.now) prefix.now mark n a
+pub prefix-guided-numbers : (κs : Lfts 3) (t guide prefix : Borrowed) (mark : ℕ) (q : Refusal)
+    → NextRowWithPrefixGuided κs t guide prefix mark (Err q) → OneOf (5 ∷ 6 ∷ 7 ∷ 16 ∷ 11 ∷ 14 ∷ []) (refusal_number q)
+prefix-guided-numbers κs t guide prefix mark q a =
+    refusal-one t.now (guide_refusal t.now guide.now) (guide-checked t.now guide.now) prefix.now mark q a
 
 -- Any tree that the check accepts, and the one text that fits it.
 module _ (t : Borrowed) (v : check_result t.now ≡ 0) where

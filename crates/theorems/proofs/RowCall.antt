@@ -1,8 +1,12 @@
 -- row(tree, q, buffer): row q of the text, copied.
+use Rattle.std.specs.Prelude.{Ok, Err}
+use Rattle.refusals.specs.declared.Refusal.TheVariants.{ByteNotCounted, NoSuchOccurrence, AnswerDoesNotFit, PathBroken}
+use Rattle.refusals.specs.Refusals.{refusal_number}
+use Rattle.refusals.specs.RefusalsLaws.{number-above, one-number}
 use mathlib.Core.List.{List, [], ◌∷◌, ◌++◌}
 use mathlib.Core.Path.{◌≡◌, ap, ◌∙◌, refl}
 use mathlib.Core.Logic.{◌⊎◌}
-use Prim.Native.Nat.{ℕ, suc, ◌+◌, ◌≤◌, ◌<◌}
+use Prim.Native.Nat.{ℕ, ◌+◌, ◌≤◌, ◌<◌}
 use native.Mathlib.Omega.{arith}
 use contract.Lifetimes.{Lfts}
 use lib.ListN.{length, drop}
@@ -14,9 +18,8 @@ use Rattle.format.specs.TreeReading.{text_of, check_result}
 use Rattle.format.specs.CheckResultLaws.{accepted-header}
 use Rattle.format.specs.RowRefusalLaws.{RowAnswers as RowAllowed}
 use Rattle.theory_counts.specs.RowsOfText.{row-lets, row-twelve, row-eleven}
-use Rattle.query_rows.specs.declared.RowAnswer.{RowAnswer}
-use Rattle.query_rows.specs.declared.RowAnswer.TheVariants as row
 use Rattle.query_rows.specs.RowAnswers.{row_reply}
+use Rattle.theorems.specs.CallContracts.{RowAnswer, Refusal}
 use Rattle.theorems.specs.Promises.{RowAnswers, RowRefuses}
 pub use Rattle.theorems.specs.CallContracts.{Row}
 use Rattle.theorems.specs.PublicFunctions.{row_function}
@@ -36,36 +39,36 @@ module _ (κs : Lfts 2) (t : Borrowed) (q : ℕ) (buffer after : BorrowedMut) wh
   outcome-of n m s = row-outcome t.now q buffer.now (check_result t.now) n m after.now s
 
   -- A row fits, and the bytes after it are unchanged.
-  pub row-answer : (m : ℕ) → Row κs t q buffer after (row.Bytes m) → (m ≤ length buffer.now) × (drop m after.now ≡ drop m buffer.now)
+  pub row-answer : (m : ℕ) → Row κs t q buffer after (Ok m) → (m ≤ length buffer.now) × (drop m after.now ≡ drop m buffer.now)
   row-answer m a = outcome-copied t.now q buffer.now m after.now (outcome-of 0 m a.answers)
 
   -- On a tree that the check refuses, the bytes copied are those that the paths give from some place on, and 13 means that the buffer is shorter than
   -- some such bytes.
-  pub row-free : (check_result t.now ≡ 0 → ⊥) → (m : ℕ) → Row κs t q buffer after (row.Bytes m)
+  pub row-free : (check_result t.now ≡ 0 → ⊥) → (m : ℕ) → Row κs t q buffer after (Ok m)
       → (p : ℕ) × (p + m ≤ at.text_length t.now) × (after.now ≡ substring (text_of t.now) p m ++ drop m buffer.now)
   row-free refuses m a = free-copied t.now q buffer.now (check_result t.now) 0 m after.now a.answers refuses refl
 
-  pub row-free-short : (check_result t.now ≡ 0 → ⊥) → Row κs t q buffer after (row.Refused 13)
+  pub row-free-short : (check_result t.now ≡ 0 → ⊥) → Row κs t q buffer after (Err AnswerDoesNotFit)
       → (p : ℕ) × (len : ℕ) × (p + len ≤ at.text_length t.now) × (length buffer.now < len)
   row-free-short refuses a = free-short t.now q buffer.now (check_result t.now) 13 0 after.now a.answers refuses refl
 
-  module _ (n : ℕ) (a : Row κs t q buffer after (row.Refused n)) where
+  module _ (d : Refusal) (a : Row κs t q buffer after (Err d)) where
     -- A refusal is 5, 6, 7, 11, 12, 13 or 14.
-    pub row-numbers : OneOf (5 ∷ 6 ∷ 7 ∷ 11 ∷ 12 ∷ 13 ∷ 14 ∷ []) n
-    row-numbers = row-outcome-numbers t.now q buffer.now n after.now a.numbered (outcome-of n 0 a.answers)
+    pub row-numbers : OneOf (5 ∷ 6 ∷ 7 ∷ 11 ∷ 12 ∷ 13 ∷ 14 ∷ []) (refusal_number d)
+    row-numbers = row-outcome-numbers t.now q buffer.now d after.now (outcome-of (refusal_number d) 0 a.answers)
 
     -- A refusal leaves the buffer unchanged; or, for a 14 in copying, zeros at its start, no more than a row can have, and the rest unchanged.
-    pub row-leaves : (after.now ≡ buffer.now) ⊎ ((n ≡ 14) × Zeros (row_most t.now q) buffer.now after.now)
-    row-leaves = row-outcome-leaves t.now q buffer.now n after.now a.numbered (outcome-of n 0 a.answers)
+    pub row-leaves : (after.now ≡ buffer.now) ⊎ ((d ≡ PathBroken) × Zeros (row_most t.now q) buffer.now after.now)
+    row-leaves = row-outcome-leaves t.now q buffer.now d after.now (outcome-of (refusal_number d) 0 a.answers)
 
 -- The answer in each case.
-row_is : (r : RowAnswer) (v : ℕ) → NeverZero (row_reply r) → (replied (row_reply r)).number ≡ 0 → (replied (row_reply r)).value ≡ v → r ≡ row.Bytes v
-row_is (row.Bytes m) v k z e = ap row.Bytes e
-row_is (row.Refused q) v k z e = absurd (let y : ⊥ = omega arith in y)
+row_is : (r : RowAnswer) (v : ℕ) → NeverZero (row_reply r) → (replied (row_reply r)).number ≡ 0 → (replied (row_reply r)).value ≡ v → r ≡ Ok v
+row_is (Ok m) v k z e = ap Ok e
+row_is (Err d) v k z e = absurd (let y : ⊥ = omega arith in y)
 
-row-no : (r : RowAnswer) (n : ℕ) → (replied (row_reply r)).number ≡ suc n → r ≡ row.Refused (suc n)
-row-no (row.Bytes m) n s = absurd (let z : ⊥ = omega arith in z)
-row-no (row.Refused m) n s = ap row.Refused s
+row-no : (r : RowAnswer) (d : Refusal) → (replied (row_reply r)).number ≡ refusal_number d → r ≡ Err d
+row-no (Ok m) d s = absurd (let z : ⊥ = omega (arith, number-above d) in z)
+row-no (Err e) d s = ap Err (one-number e d s)
 
 -- Any tree that the check accepts, and the one text that fits it.
 module _ (t : Borrowed) (v : check_result t.now ≡ 0) where
@@ -83,16 +86,16 @@ module _ (t : Borrowed) (v : check_result t.now ≡ 0) where
   }
 
   -- Refused before the walk.
-  row-asked : (κs : Lfts 2) (q : ℕ) (buffer after : BorrowedMut) (r : RowAnswer) (n : ℕ) → Row κs t q buffer after r
-      → row_refusal t.now q ≡ suc n → (r ≡ row.Refused (suc n)) × (after.now ≡ buffer.now)
-  row-asked κs q buffer after r n a e = let h = a.answers.asked (rw e (omega arith)) in (row-no r n (h.0 ∙ e), h.2)
+  row-asked : (κs : Lfts 2) (q : ℕ) (buffer after : BorrowedMut) (r : RowAnswer) (d : Refusal) → Row κs t q buffer after r
+      → row_refusal t.now q ≡ refusal_number d → (r ≡ Err d) × (after.now ≡ buffer.now)
+  row-asked κs q buffer after r d a e = let h = a.answers.asked (rw e (omega (arith, number-above d))) in (row-no r d (h.0 ∙ e), h.2)
 
   pub accepted-refuses : RowRefuses t S T
   accepted-refuses = record {
     row_other = λ κs q buffer after r a other.
-        row-asked κs q buffer after r 10 a (row-eleven t.now q (accepted-header t.now v) (not-counted t.now v 10 other));
-    row_none = λ κs q buffer after r a k none. row-asked κs q buffer after r 11 a (row-twelve t.now v (among-counted t.now 10 k) q none);
+        row-asked κs q buffer after r ByteNotCounted a (row-eleven t.now q (accepted-header t.now v) (not-counted t.now v 10 other));
+    row_none = λ κs q buffer after r a k none. row-asked κs q buffer after r NoSuchOccurrence a (row-twelve t.now v (among-counted t.now 10 k) q none);
     row_short = λ κs q buffer after r a k low high small.
         let h = a.answers.short (row-lets t.now v (among-counted t.now 10 k) q low high) v small in
-        (row-no r 12 h.0, h.2);
+        (row-no r AnswerDoesNotFit h.0, h.2);
   }

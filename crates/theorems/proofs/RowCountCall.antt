@@ -1,4 +1,6 @@
 -- row_count(tree): the number of rows. `Theorems` of its crate has the theorems on what it returns.
+use Rattle.std.specs.Prelude.{Err}
+use Rattle.refusals.specs.Refusals.{refusal_number}
 use mathlib.Core.List.{List, [], ◌∷◌}
 use mathlib.Core.Bool.{Bool, true, false, cond}
 use mathlib.Core.Path.{◌≡◌, ap, ◌∙◌, refl}
@@ -14,8 +16,8 @@ use Rattle.format.specs.TreeReading.{path_of, header_result, ask}
 use Rattle.format.specs.Answers.{Answer, byte_answer, is_counted, number_of_byte, total}
 use Rattle.format.specs.AnswerLaws.{unless-number}
 use Rattle.theory_paths.specs.PlaceBytes.{byte-path}
-use Rattle.query_rows.specs.declared.RowCountAnswer.TheVariants as row_count
 use Rattle.query_rows.specs.RowAnswers.{row_count_refusal, last_open, row_count_answer}
+use Rattle.theorems.specs.CallContracts.{Refusal}
 use Rattle.theorems.specs.PublicFunctions.{row_count_function}
 use Rattle.theorems.proofs.ByteCall.{byte_of-one}
 use Rattle.theorems.proofs.PublicCall.{Call, Borrowed, call}
@@ -55,10 +57,10 @@ call-rows-one t = go (lt-or-ge 0 (header_result t))
         let one = asked (is_counted t 10) last (last_one t pass) in
         rw (eq-eqb (header_result t) 0 pass) (of_right (5 ∷ 6 ∷ 7 ∷ []) (11 ∷ 14 ∷ 0 ∷ []) (ask 11 (is_counted t 10) last) one)
 
-pub row-count-numbers : (κs : Lfts 1) (t : Borrowed) (n : ℕ) → CountOf κs t (row_count.Refused n) → OneOf (5 ∷ 6 ∷ 7 ∷ 11 ∷ 14 ∷ []) n
+pub row-count-numbers : (κs : Lfts 1) (t : Borrowed) (q : Refusal) → CountOf κs t (Err q) → OneOf (5 ∷ 6 ∷ 7 ∷ 11 ∷ 14 ∷ []) (refusal_number q)
 unfolding row_count_answer
-row-count-numbers κs t n a =
+row-count-numbers κs t q a =
     let rows = total t.now (number_of_byte t.now 10) + cond (last_open t.now) 1 0 in
     let reply : Answer = record { number = 0; value = rows; entered = 0 } in
-    let e : n ≡ row_count_refusal t.now = ap (λ (s : Answer). s.number) a.answers ∙ unless-number (row_count_refusal t.now) reply refl in
-    not-zero (5 ∷ 6 ∷ 7 ∷ 11 ∷ 14 ∷ []) n a.numbered (rw e (call-rows-one t.now))
+    let e : refusal_number q ≡ row_count_refusal t.now = ap (λ (s : Answer). s.number) a.answers ∙ unless-number (row_count_refusal t.now) reply refl in
+    not-zero (5 ∷ 6 ∷ 7 ∷ 11 ∷ 14 ∷ []) (refusal_number q) a.numbered (rw e (call-rows-one t.now))

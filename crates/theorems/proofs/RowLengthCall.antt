@@ -1,4 +1,6 @@
 -- row_length(tree, q): the number of bytes of a row. `Theorems` of its crate has the theorems on what it returns.
+use Rattle.std.specs.Prelude.{Err}
+use Rattle.refusals.specs.Refusals.{refusal_number}
 use mathlib.Core.List.{[], ◌∷◌}
 use mathlib.Core.Path.{◌≡◌, refl}
 use mathlib.Core.Logic.{◌⊎◌, inl, inr}
@@ -8,7 +10,7 @@ use contract.Lifetimes.{Lfts}
 use Rattle.text.specs.ListLaws.{lt-or-ge}
 use Rattle.format.specs.TreeReading.{check_result}
 use Rattle.format.specs.Answers.{row_most, row_refusal}
-use Rattle.query_rows.specs.declared.RowLengthAnswer.TheVariants as row-length
+use Rattle.theorems.specs.CallContracts.{Refusal}
 use Rattle.theorems.specs.PublicFunctions.{row_length_function}
 use Rattle.theorems.proofs.PublicCall.{Call, Borrowed, call}
 use Rattle.theorems.proofs.RefusalNumbers.{OneOf, of_right}
@@ -21,9 +23,12 @@ abbrev pub row_length_call : Call
 row_length_call = call row_length_function row-length-met.met (λ 𝓤 𝓛 mem run κs a. (tt, refl))
 
 -- For any bytes: a refusal is 5, 6, 7, 11, 12 or 14.
-pub length-numbers : (κs : Lfts 1) (t : Borrowed) (q n : ℕ) → LengthOf κs t q (row-length.Refused n) → OneOf (5 ∷ 6 ∷ 7 ∷ 11 ∷ 12 ∷ 14 ∷ []) n
-length-numbers κs t q n a = go (lt-or-ge 0 (row_refusal t.now q)) (lt-or-ge 0 (check_result t.now))
+pub length-numbers : (κs : Lfts 1) (t : Borrowed) (q : ℕ) (d : Refusal) → LengthOf κs t q (Err d) → OneOf (5 ∷ 6 ∷ 7 ∷ 11 ∷ 12 ∷ 14 ∷ []) (refusal_number d)
+length-numbers κs t q d a = go (lt-or-ge 0 (row_refusal t.now q)) (lt-or-ge 0 (check_result t.now))
   where
+    n : ℕ
+    n = refusal_number d
+
     free : ((n ≡ 0) × (0 ≤ row_most t.now q)) ⊎ ((n ≡ 14) × (◌≡◌ {A = ℕ} 0 0)) → OneOf (5 ∷ 6 ∷ 7 ∷ 11 ∷ 12 ∷ 14 ∷ []) n
     free (inl e) = absurd (let z : ⊥ = omega (arith, a.numbered, e.0) in z)
     free (inr e) = of_right (5 ∷ 6 ∷ 7 ∷ 11 ∷ 12 ∷ []) (14 ∷ []) n (inl e.0)

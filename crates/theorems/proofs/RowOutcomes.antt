@@ -1,4 +1,8 @@
 -- The outcomes of row, with or without a guide, for any bytes given as a tree and as a guide, and the buffer afterwards.
+use Rattle.refusals.specs.declared.Refusal.{Refusal}
+use Rattle.refusals.specs.declared.Refusal.TheVariants.{PathBroken}
+use Rattle.refusals.specs.Refusals.{refusal_number}
+use Rattle.refusals.specs.RefusalsLaws.{number-above, one-number}
 use mathlib.Core.List.{List, [], ◌∷◌, ◌++◌}
 use mathlib.Core.Option.{Option, some, none}
 use mathlib.Core.Bool.{Bool, true, false, not}
@@ -183,18 +187,18 @@ module _ (t : List ℕ) (q : ℕ) (buffer : List ℕ) where
   outcome-copied m after (broken z same) = absurd (let y : ⊥ = omega arith in y)
   outcome-copied m after (asked low z same) = absurd (let y : ⊥ = omega arith in y)
 
-  module _ (n : ℕ) (after : List ℕ) (l : 1 ≤ n) where
+  module _ (d : Refusal) (after : List ℕ) where
     -- A refusal is 5, 6, 7, 11, 12, 13 or 14.
-    pub row-outcome-numbers : RowOutcome n 0 after → OneOf (5 ∷ 6 ∷ 7 ∷ 11 ∷ 12 ∷ 13 ∷ 14 ∷ []) n
-    row-outcome-numbers (asked low z same) = row_first t q n low z
-    row-outcome-numbers (short z same) = of_right (5 ∷ 6 ∷ 7 ∷ 11 ∷ 12 ∷ []) (13 ∷ 14 ∷ []) n (inl z)
-    row-outcome-numbers (broken z left) = of_right (5 ∷ 6 ∷ 7 ∷ 11 ∷ 12 ∷ []) (13 ∷ 14 ∷ []) n (inr (inl z))
-    row-outcome-numbers (copied z fits rest) = absurd (let y : ⊥ = omega arith in y)
+    pub row-outcome-numbers : RowOutcome (refusal_number d) 0 after → OneOf (5 ∷ 6 ∷ 7 ∷ 11 ∷ 12 ∷ 13 ∷ 14 ∷ []) (refusal_number d)
+    row-outcome-numbers (asked low z same) = row_first t q (refusal_number d) low z
+    row-outcome-numbers (short z same) = of_right (5 ∷ 6 ∷ 7 ∷ 11 ∷ 12 ∷ []) (13 ∷ 14 ∷ []) (refusal_number d) (inl z)
+    row-outcome-numbers (broken z left) = of_right (5 ∷ 6 ∷ 7 ∷ 11 ∷ 12 ∷ []) (13 ∷ 14 ∷ []) (refusal_number d) (inr (inl z))
+    row-outcome-numbers (copied z fits rest) = absurd (let y : ⊥ = omega (arith, number-above d) in y)
 
     -- A refusal leaves the buffer unchanged; or, for a 14 in copying, zeros at its start and the rest unchanged.
-    pub row-outcome-leaves : RowOutcome n 0 after → (after ≡ buffer) ⊎ ((n ≡ 14) × Zeros (row_most t q) buffer after)
+    pub row-outcome-leaves : RowOutcome (refusal_number d) 0 after → (after ≡ buffer) ⊎ ((d ≡ PathBroken) × Zeros (row_most t q) buffer after)
     row-outcome-leaves (asked low z same) = inl same
     row-outcome-leaves (short z same) = inl same
     row-outcome-leaves (broken z (inl same)) = inl same
-    row-outcome-leaves (broken z (inr part)) = inr (z, part)
-    row-outcome-leaves (copied z fits rest) = absurd (let y : ⊥ = omega arith in y)
+    row-outcome-leaves (broken z (inr part)) = inr (one-number d PathBroken z, part)
+    row-outcome-leaves (copied z fits rest) = absurd (let y : ⊥ = omega (arith, number-above d) in y)

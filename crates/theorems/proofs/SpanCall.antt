@@ -1,4 +1,8 @@
 -- span(tree, place, length, buffer): bytes copied from a place on, with the blocks that a short span enters.
+use Rattle.std.specs.Prelude.{Ok, Err}
+use Rattle.refusals.specs.declared.Refusal.TheVariants.{PastTheEnd, AnswerDoesNotFit, PathBroken}
+use Rattle.refusals.specs.Refusals.{refusal_number}
+use Rattle.refusals.specs.RefusalsLaws.{one-number}
 use mathlib.Core.List.{List, [], ◌∷◌, ◌++◌}
 use mathlib.Core.Bool.{true, Bool}
 use mathlib.Core.Path.{◌≡◌, ◌∙◌, refl}
@@ -13,12 +17,12 @@ use Rattle.text.specs.declared.TextPlace.{TextPlace}
 use Rattle.format.specs.Layout as at
 use Rattle.format.specs.TreeReading.{text_of, header_result, check_result, asks}
 use Rattle.format.specs.CheckResultLaws.{accepted-header}
-use Rattle.format.specs.Answers.{span_blocks, span_reached, buffer_after, span_bytes, span_refusal, span_answer, span_buffer, span_questions}
+use Rattle.query_access.specs.ReadAnswers.{span_reply}
+use Rattle.format.specs.Answers.{refused, replied, span_blocks, span_reached, buffer_after, span_bytes, span_refusal, span_answer, span_buffer, span_questions}
 use Rattle.format.specs.AnswerLaws.{next-passes, asks-pass}
 use Rattle.theory_edges.specs.Theorems as edges
 use Rattle.query_access.proofs.Theorems as access
-use Rattle.query_access.specs.declared.SpanAnswer.{SpanAnswer}
-use Rattle.query_access.specs.declared.SpanAnswer.TheVariants as span
+use Rattle.theorems.specs.CallContracts.{SpanAnswer, Refusal}
 use Rattle.theorems.specs.Promises.{BlocksOfSpan, SpanAnswers, SpanRefuses}
 use Rattle.theorems.specs.PublicFunctions.{span_function}
 use Rattle.theorems.proofs.AcceptedTree.{text-size}
@@ -57,7 +61,7 @@ span-passes t p len room h =
 
 module _ (κs : Lfts 2) (t : Borrowed) (p : TextPlace) (len : ℕ) (buffer after : BorrowedMut) where
   -- The result is the given length, which fits, with the blocks entered, and the bytes after it are unchanged.
-  pub span-answer : (m e : ℕ) → Span κs t p len buffer after (span.Bytes m e)
+  pub span-answer : (m e : ℕ) → Span κs t p len buffer after (Ok (m, e))
       → (m ≡ len) × BlocksOfSpan t.now (at.settings t.now).levels p.0 len e × (len ≤ length buffer.now)
       × (drop len after.now ≡ drop len buffer.now)
   unfolding span_answer span_buffer buffer_after
@@ -73,26 +77,30 @@ module _ (κs : Lfts 2) (t : Borrowed) (p : TextPlace) (len : ℕ) (buffer after
         rw left (drop_at bytes (drop len buffer.now) len (edges.span-length t.now w.pass p.0 len w.reached)),
       )
 
-  module _ (n : ℕ) (a : Span κs t p len buffer after (span.Refused n)) where
+  module _ (q : Refusal) (a : Span κs t p len buffer after (Err q)) where
     -- The number is the definition's.
-    span-answers : n ≡ span_refusal t.now p.0 len (length buffer.now)
+    span-answers : refusal_number q ≡ span_refusal t.now p.0 len (length buffer.now)
     unfolding span_answer
-    span-answers = answers-refused n _ len _ a.0.numbered a.0.answers
+    span-answers = answers-refused (refusal_number q) _ len _ a.0.numbered a.0.answers
 
     -- A refusal is 5, 6, 7, 10, 13 or 14.
-    pub span-numbers : OneOf (5 ∷ 6 ∷ 7 ∷ 10 ∷ 13 ∷ 14 ∷ []) n
+    pub span-numbers : OneOf (5 ∷ 6 ∷ 7 ∷ 10 ∷ 13 ∷ 14 ∷ []) (refusal_number q)
     span-numbers =
-        not-zero (5 ∷ 6 ∷ 7 ∷ 10 ∷ 13 ∷ 14 ∷ []) n a.0.numbered (rw span-answers (span-one t.now p.0 len (length buffer.now)))
+        not-zero (5 ∷ 6 ∷ 7 ∷ 10 ∷ 13 ∷ 14 ∷ []) (refusal_number q) a.0.numbered (rw span-answers (span-one t.now p.0 len (length buffer.now)))
 
     -- Refusal 14 leaves zeros in the first `len` bytes.
-    pub span-zeros : n ≡ 14 → after.now ≡ replicate len 0 ++ drop len buffer.now
+    pub span-zeros : q ≡ PathBroken → after.now ≡ replicate len 0 ++ drop len buffer.now
     unfolding span_buffer buffer_after
     span-zeros e = a.1 ∙ rw (← span-answers, e)
 
     -- Any other refusal leaves the buffer unchanged.
-    pub span-unchanged : (n ≡ 14 → ⊥) → after.now ≡ buffer.now
+    pub span-unchanged : (q ≡ PathBroken → ⊥) → after.now ≡ buffer.now
     unfolding span_buffer buffer_after
-    span-unchanged e = a.1 ∙ rw (← span-answers, ne_eqb n 0 (λ z. omega (arith, a.0.numbered)), ne_eqb n 14 e)
+    span-unchanged e = a.1 ∙ rw (
+      ← span-answers,
+      ne_eqb (refusal_number q) 0 (λ z. omega (arith, a.0.numbered)),
+      ne_eqb (refusal_number q) 14 (λ z. e (one-number q PathBroken z)),
+    )
 
 -- Any tree that the check accepts, and the one text that fits it.
 module _ (t : Borrowed) (v : check_result t.now ≡ 0) where
@@ -114,11 +122,12 @@ module _ (t : Borrowed) (v : check_result t.now ≡ 0) where
   }
 
   -- A refused span answers its number, and leaves the buffer.
-  refuses : (κs : Lfts 2) (p : TextPlace) (len : ℕ) (buffer after : BorrowedMut) (r : SpanAnswer) (n : ℕ) → Span κs t p len buffer after r
-      → span_refusal t.now p.0 len (length buffer.now) ≡ suc n → (suc n ≡ 14 → ⊥) → (r ≡ span.Refused (suc n)) × (after.now ≡ buffer.now)
+  refuses : (κs : Lfts 2) (p : TextPlace) (len : ℕ) (buffer after : BorrowedMut) (r : SpanAnswer) (q : Refusal) (n : ℕ) → suc n ≡ refusal_number q
+      → Span κs t p len buffer after r → span_refusal t.now p.0 len (length buffer.now) ≡ suc n → (suc n ≡ 14 → ⊥) → (r ≡ Err q) × (after.now ≡ buffer.now)
   unfolding span_answer span_buffer buffer_after
-  refuses κs p len buffer after r n a e other =
-      (access.copied-no r n (a.0.answers ∙ rw e), a.1 ∙ rw (e, ne_eqb (suc n) 0 (λ z. omega arith), ne_eqb (suc n) 14 other))
+  refuses κs p len buffer after r q n is a e other =
+      let said : replied (span_reply r) ≡ refused (suc n) = a.0.answers ∙ rw e in
+      (access.copied-no r q (rw is at said), a.1 ∙ rw (e, ne_eqb (suc n) 0 (λ z. omega arith), ne_eqb (suc n) 14 other))
 
   span-ten : (p len room : ℕ) → length T < p + len → span_refusal t.now p len room ≡ 10
   unfolding span_refusal span_questions
@@ -130,7 +139,7 @@ module _ (t : Borrowed) (v : check_result t.now ≡ 0) where
 
   pub accepted-refuses : SpanRefuses t (at.settings t.now) T
   accepted-refuses = record {
-    span_past = λ κs p len buffer after r a h. refuses κs p len buffer after r 9 a (span-ten p.0 len (length buffer.now) h) (λ z. omega arith);
+    span_past = λ κs p len buffer after r a h. refuses κs p len buffer after r PastTheEnd 9 refl a (span-ten p.0 len (length buffer.now) h) (λ z. omega arith);
     span_short = λ κs p len buffer after r a h small.
-        refuses κs p len buffer after r 12 a (span-thirteen p.0 len (length buffer.now) h small) (λ z. omega arith);
+        refuses κs p len buffer after r AnswerDoesNotFit 12 refl a (span-thirteen p.0 len (length buffer.now) h small) (λ z. omega arith);
   }

@@ -1,8 +1,10 @@
 -- without_edges(tree, out) writes the tree in layout 1. `Theorems` of its crate has the theorems on what it writes and refuses; here: every call returns the
 -- same for the written tree.
+use Rattle.std.specs.Prelude.{Result, Ok, Err}
+use Rattle.refusals.specs.Refusals.{result_refusal}
 use mathlib.Core.List.{List, [], ◌∷◌}
 use mathlib.Core.Bool.{true, false, cond}
-use mathlib.Core.Path.{◌≡◌, refl}
+use mathlib.Core.Path.{◌≡◌, refl, ◌∙◌}
 use mathlib.Core.Logic.{◌⊎◌, inl, inr}
 use Prim.Native.Nat.{ℕ}
 use contract.Lifetimes.{Lfts}
@@ -13,9 +15,8 @@ use Rattle.format.specs.Answers.{replied}
 use Rattle.format.specs.Layout as at
 use Rattle.format.specs.TreeReading.{text_of, ask, header_result, check_result}
 use Rattle.theory_without_edges.specs.WithoutEdges.{without_edges}
-use Rattle.build_without_edges.specs.declared.WithoutEdgesAnswer.{WithoutEdgesAnswer}
-use Rattle.build_without_edges.specs.declared.WithoutEdgesAnswer.TheVariants.{Size}
 use Rattle.build_without_edges.specs.WithoutEdgesAnswers.{without_edges_refusal, without_edges_reply}
+use Rattle.theorems.specs.CallContracts.{Refusal}
 use Rattle.theorems.specs.Promises.{Answers, Refuses}
 use Rattle.theorems.specs.PublicFunctions.{without_edges_function}
 use Rattle.theorems.proofs.PublicCall.{Call, Borrowed, BorrowedMut, call}
@@ -46,12 +47,16 @@ number-one t out = go (header_result t) (header-one t) (bool_cases (leb (length 
     go n (inr (inr (inr (inl e)))) (inr f) = rw (e, f) (inr (inr (inr (inl refl))))
     go n (inr (inr (inr (inr e)))) f = elim e [ ]
 
-module _ (κs : Lfts 2) (t : Borrowed) (out after : BorrowedMut) (r : WithoutEdgesAnswer) (a : WithoutEdges κs t out after r) where
-  pub without-edges-numbers : OneOf (5 ∷ 6 ∷ 7 ∷ 13 ∷ 0 ∷ []) (replied (without_edges_reply r)).number
-  without-edges-numbers = rw a.0 (number-one t.now out.now)
+without-edges-refusal : (r : Result ℕ Refusal) → result_refusal r ≡ (replied (without_edges_reply r)).number
+without-edges-refusal (Ok n) = refl
+without-edges-refusal (Err q) = refl
+
+module _ (κs : Lfts 2) (t : Borrowed) (out after : BorrowedMut) (r : Result ℕ Refusal) (a : WithoutEdges κs t out after r) where
+  pub without-edges-numbers : OneOf (5 ∷ 6 ∷ 7 ∷ 13 ∷ 0 ∷ []) (result_refusal r)
+  without-edges-numbers = rw (without-edges-refusal r ∙ a.0) (number-one t.now out.now)
 
   -- If the check accepts the tree, every question about the tree and about the written tree is answered, or refused, by the same text and settings.
-  module _ (n : ℕ) (e : r ≡ Size n) (u : Borrowed) (is : u.now ≡ take n after.now) (v : check_result t.now ≡ 0) where
+  module _ (n : ℕ) (e : r ≡ Ok n) (u : Borrowed) (is : u.now ≡ take n after.now) (v : check_result t.now ≡ 0) where
     settings_are : at.settings u.now ≡ at.settings t.now
     settings_are = (drops.written-header κs t out after r a n e u is).2.settings_are
 

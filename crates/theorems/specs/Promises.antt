@@ -2,6 +2,7 @@
 -- `scanned-tree` of proofs/Theorems.antt; each is named below beside its type. A call is a relation (`CallContracts`): `Byte κs t p r` means that the contract
 -- of byte allows the answer r for the tree t and the place p. `x.now` are the bytes of x.
 use Rattle.std.specs.Prelude.{List, [], ◌++◌, true, false, cond, ◌≡◌, ◌↔◌, ℕ, ◌+◌, ◌-◌, ◌≤◌, ◌<◌, ◌*◌, ◌/◌, length, get_or, take, drop, eqb}
+use Rattle.std.specs.Prelude.{⊤, Result, Ok, Err}
 use Rattle.std.proofs.Math.Option.{some}
 use contract.Lifetimes.{Lfts}
 use Rattle.text.specs.Text.{substring, count_in, place_of, row_of, rows_of}
@@ -24,20 +25,14 @@ use Rattle.sha256.specs.Sha256.{sha256}
 use Rattle.build_by_scan.specs.ScanAnswers.{windows_of}
 use Rattle.query_places.specs.Places.{max_pattern, places_in, pattern_ok}
 use Rattle.query_places.specs.PlacesLaws.{AllPlaces}
-use Rattle.query_access.specs.declared.ByteAnswer.TheVariants as answer
-use Rattle.query_access.specs.declared.SpanAnswer.TheVariants as span
-use Rattle.query_rank.specs.declared.CountAnswer.TheVariants as count
-use Rattle.query_select.specs.declared.FindAnswer.TheVariants as find
-use Rattle.query_rows.specs.declared.RowAnswer.TheVariants as row
-use Rattle.query_places.specs.declared.PlacesAnswer.TheVariants as places
-use Rattle.query_row_filter.specs.declared.NextRowAnswer.TheVariants as next
-use Rattle.build_by_search.specs.declared.BuildAnswer.TheVariants as build
-use Rattle.build_by_scan.specs.declared.BuildScannedAnswer.TheVariants as build-scanned
+use Rattle.query_row_filter.specs.declared.NextRow.TheVariants as next
+use Rattle.refusals.specs.declared.Refusal.TheVariants.{PastTheEnd, ByteNotCounted, NoSuchOccurrence, AnswerDoesNotFit}
+use Rattle.refusals.specs.declared.Refusal.TheVariants.{PatternLengthWrong, PatternTableTooShort, CutsWrong, WidthDoesNotDivide}
 use Rattle.abi.proofs.Theorems.{calls as exported}
 use Rattle.list_lines.proofs.Theorems.{calls as listing}
 use Rattle.licence.proofs.Theorems.{calls as licence}
 use Rattle.theorems.specs.PublicFunctions.{functions, Every}
-use Rattle.theorems.specs.CallContracts.{Borrowed, BorrowedMut, TextPlace, ByteAnswer, SpanAnswer, CountAnswer}
+use Rattle.theorems.specs.CallContracts.{Borrowed, BorrowedMut, TextPlace, Refusal, ByteAnswer, SpanAnswer, CountAnswer}
 use Rattle.theorems.specs.CallContracts.{FindAnswer, RowAnswer, PlacesAnswer, NextRowAnswer, BuildAnswer}
 use Rattle.theorems.specs.CallContracts.{Check, Build, BuildScanned, Byte, Run, Span, Count, Find, Row, Places, Digest, NextMatch}
 use Rattle.theorems.specs.CallContracts.{NextRowWithPrefix, ByColumns}
@@ -74,11 +69,11 @@ module _ (t : Borrowed) (S : Settings) (T : List ℕ) where
   pub record ByteAnswers : Type 0 where
     -- A place of the text: its byte, with the length of its path.
     pub byte-of : (κs : Lfts 1) (p : TextPlace) (r : ByteAnswer) → Byte κs t p r → p.0 < length T
-        → (e : ℕ) × LengthOfPath t.now S.levels p.0 e × (r ≡ answer.Byte (get_or T p.0 0) e)
+        → (e : ℕ) × LengthOfPath t.now S.levels p.0 e × (r ≡ Ok (get_or T p.0 0, e))
 
   pub record ByteRefuses : Type 0 where
     -- A place past the end of the text: 10.
-    pub byte_past : (κs : Lfts 1) (p : TextPlace) (r : ByteAnswer) → Byte κs t p r → length T ≤ p.0 → r ≡ answer.Refused 10
+    pub byte_past : (κs : Lfts 1) (p : TextPlace) (r : ByteAnswer) → Byte κs t p r → length T ≤ p.0 → r ≡ Err PastTheEnd
 
   -- docs/FORMAT.md, "Run"
   pub record RunAnswers : Type 0 where
@@ -96,136 +91,137 @@ module _ (t : Borrowed) (S : Settings) (T : List ℕ) where
     -- A span inside the text that fits the buffer: its bytes at the start of the buffer, the rest unchanged; with the number of blocks entered.
     pub span_of : (κs : Lfts 2) (p : TextPlace) (len : ℕ) (buffer after : BorrowedMut) (r : SpanAnswer) → Span κs t p len buffer after r
         → p.0 + len ≤ length T → len ≤ length buffer.now
-        → (e : ℕ) × BlocksOfSpan t.now S.levels p.0 len e × (r ≡ span.Bytes len e) × (after.now ≡ substring T p.0 len ++ drop len buffer.now)
+        → (e : ℕ) × BlocksOfSpan t.now S.levels p.0 len e × (r ≡ Ok (len, e)) × (after.now ≡ substring T p.0 len ++ drop len buffer.now)
 
   pub record SpanRefuses : Type 0 where
     -- A span past the end of the text: 10, and the buffer is unchanged.
     pub span_past : (κs : Lfts 2) (p : TextPlace) (len : ℕ) (buffer after : BorrowedMut) (r : SpanAnswer) → Span κs t p len buffer after r
-        → length T < p.0 + len → (r ≡ span.Refused 10) × (after.now ≡ buffer.now)
+        → length T < p.0 + len → (r ≡ Err PastTheEnd) × (after.now ≡ buffer.now)
     -- A buffer that is too short: 13, and it is unchanged.
     pub span_short : (κs : Lfts 2) (p : TextPlace) (len : ℕ) (buffer after : BorrowedMut) (r : SpanAnswer) → Span κs t p len buffer after r
-        → p.0 + len ≤ length T → length buffer.now < len → (r ≡ span.Refused 13) × (after.now ≡ buffer.now)
+        → p.0 + len ≤ length T → length buffer.now < len → (r ≡ Err AnswerDoesNotFit) × (after.now ≡ buffer.now)
 
   -- docs/FORMAT.md, "Count"
   pub record CountAnswers : Type 0 where
     -- A counted byte: how often it occurs in the first i bytes, with the length of the path of place i - 1.
     pub count-of : (κs : Lfts 1) (byte i : ℕ) (r : CountAnswer) → Count κs t byte i r → CountedIn byte S.counted → 1 ≤ i → i ≤ length T
-        → (e : ℕ) × LengthOfPath t.now S.levels (i - 1) e × (r ≡ count.Times (count_in byte (take i T)) e)
+        → (e : ℕ) × LengthOfPath t.now S.levels (i - 1) e × (r ≡ Ok (count_in byte (take i T), e))
     -- In 0 bytes: 0, with no block entered.
-    pub count_none : (κs : Lfts 1) (byte : ℕ) (r : CountAnswer) → Count κs t byte 0 r → CountedIn byte S.counted → r ≡ count.Times 0 0
+    pub count_none : (κs : Lfts 1) (byte : ℕ) (r : CountAnswer) → Count κs t byte 0 r → CountedIn byte S.counted → r ≡ Ok (0, 0)
 
   pub record CountRefuses : Type 0 where
     -- More bytes than the text has: 10.
-    pub count_past : (κs : Lfts 1) (byte i : ℕ) (r : CountAnswer) → Count κs t byte i r → length T < i → r ≡ count.Refused 10
+    pub count_past : (κs : Lfts 1) (byte i : ℕ) (r : CountAnswer) → Count κs t byte i r → length T < i → r ≡ Err PastTheEnd
     -- A byte that is not counted: 11.
     pub count_other : (κs : Lfts 1) (byte i : ℕ) (r : CountAnswer) → Count κs t byte i r → i ≤ length T → (CountedIn byte S.counted → ⊥)
-        → r ≡ count.Refused 11
+        → r ≡ Err ByteNotCounted
 
   -- docs/FORMAT.md, "Find"
   pub record FindAnswers : Type 0 where
     -- A counted byte that occurs j times or more: the place of its j-th occurrence, with the length of that place's path.
     pub find_of : (κs : Lfts 1) (byte j : ℕ) (r : FindAnswer) → Find κs t byte j r → CountedIn byte S.counted → 1 ≤ j → j ≤ count_in byte T
-        → (e : ℕ) × LengthOfPath t.now S.levels (place_of byte j T) e × (r ≡ find.At (record { 0 = place_of byte j T }) e)
+        → (e : ℕ) × LengthOfPath t.now S.levels (place_of byte j T) e × (r ≡ Ok (record { 0 = place_of byte j T }, e))
 
   pub record FindRefuses : Type 0 where
     -- A byte that is not counted: 11.
-    pub find_other : (κs : Lfts 1) (byte j : ℕ) (r : FindAnswer) → Find κs t byte j r → (CountedIn byte S.counted → ⊥) → r ≡ find.Refused 11
+    pub find_other : (κs : Lfts 1) (byte j : ℕ) (r : FindAnswer) → Find κs t byte j r → (CountedIn byte S.counted → ⊥) → r ≡ Err ByteNotCounted
     -- No j-th occurrence: 12.
     pub find_none : (κs : Lfts 1) (byte j : ℕ) (r : FindAnswer) → Find κs t byte j r → CountedIn byte S.counted → (1 ≤ j → j ≤ count_in byte T → ⊥)
-        → r ≡ find.Refused 12
+        → r ≡ Err NoSuchOccurrence
 
   -- docs/FORMAT.md, "Row"
   pub record RowAnswers : Type 0 where
     -- A row of the text, which fits the buffer: its bytes at the buffer's start, the rest of the buffer unchanged.
     pub row-of : (κs : Lfts 2) (q : ℕ) (buffer after : BorrowedMut) (r : RowAnswer) → Row κs t q buffer after r
         → CountedIn 10 S.counted → 1 ≤ q → q ≤ length (rows_of T) → length (row_of T q) ≤ length buffer.now
-        → (r ≡ row.Bytes (length (row_of T q))) × (after.now ≡ row_of T q ++ drop (length (row_of T q)) buffer.now)
+        → (r ≡ Ok (length (row_of T q))) × (after.now ≡ row_of T q ++ drop (length (row_of T q)) buffer.now)
 
   pub record RowRefuses : Type 0 where
     -- Byte 10 is not counted: 11, and the buffer is unchanged.
     pub row_other : (κs : Lfts 2) (q : ℕ) (buffer after : BorrowedMut) (r : RowAnswer) → Row κs t q buffer after r
-        → (CountedIn 10 S.counted → ⊥) → (r ≡ row.Refused 11) × (after.now ≡ buffer.now)
+        → (CountedIn 10 S.counted → ⊥) → (r ≡ Err ByteNotCounted) × (after.now ≡ buffer.now)
     -- No row of this number: 12, and the buffer is unchanged.
     pub row_none : (κs : Lfts 2) (q : ℕ) (buffer after : BorrowedMut) (r : RowAnswer) → Row κs t q buffer after r
-        → CountedIn 10 S.counted → (1 ≤ q → q ≤ length (rows_of T) → ⊥) → (r ≡ row.Refused 12) × (after.now ≡ buffer.now)
+        → CountedIn 10 S.counted → (1 ≤ q → q ≤ length (rows_of T) → ⊥) → (r ≡ Err NoSuchOccurrence) × (after.now ≡ buffer.now)
     -- A buffer that is too short: 13, and it is unchanged.
     pub row_short : (κs : Lfts 2) (q : ℕ) (buffer after : BorrowedMut) (r : RowAnswer) → Row κs t q buffer after r → CountedIn 10 S.counted
-        → 1 ≤ q → q ≤ length (rows_of T) → length buffer.now < length (row_of T q) → (r ≡ row.Refused 13) × (after.now ≡ buffer.now)
+        → 1 ≤ q → q ≤ length (rows_of T) → length buffer.now < length (row_of T q) → (r ≡ Err AnswerDoesNotFit) × (after.now ≡ buffer.now)
 
   -- docs/FORMAT.md, "Places"
   pub record PlacesAnswers : Type 0 where
     -- A pattern of 1 to 256 bytes, whose places fit the table: all its places, rising, each once, at the table's start, with their number.
     pub places-of : (κs : Lfts 3) (P : Borrowed) (table after : BorrowedMut) (r : PlacesAnswer) → Places κs t P table after r
         → 1 ≤ length P.now → length P.now ≤ max_pattern → (ps : List ℕ) → ps ≡ places_in P.now T → length ps ≤ length table.now
-        → AllPlaces P.now T ps × (r ≡ places.Number (length ps)) × (after.now ≡ ps ++ drop (length ps) table.now)
+        → AllPlaces P.now T ps × (r ≡ Ok (length ps)) × (after.now ≡ ps ++ drop (length ps) table.now)
 
   pub record PlacesRefuses : Type 0 where
     -- A pattern of another length: 16, and the table is unchanged.
     pub places_length : (κs : Lfts 3) (P : Borrowed) (table after : BorrowedMut) (r : PlacesAnswer) → Places κs t P table after r
-        → (1 ≤ length P.now → length P.now ≤ max_pattern → ⊥) → (r ≡ places.Refused 16) × (after.now ≡ table.now)
+        → (1 ≤ length P.now → length P.now ≤ max_pattern → ⊥) → (r ≡ Err PatternLengthWrong) × (after.now ≡ table.now)
     -- A table that is too short: 17, and it is unchanged.
     pub places_short : (κs : Lfts 3) (P : Borrowed) (table after : BorrowedMut) (r : PlacesAnswer) → Places κs t P table after r → 1 ≤ length P.now
-        → length P.now ≤ max_pattern → length table.now < length (places_in P.now T) → (r ≡ places.Refused 17) × (after.now ≡ table.now)
+        → length P.now ≤ max_pattern → length table.now < length (places_in P.now T) → (r ≡ Err PatternTableTooShort) × (after.now ≡ table.now)
 
   -- docs/FORMAT.md, "Digest"
   pub record DigestAnswers : Type 0 where
     -- The text's SHA-256, in the first 32 bytes of the buffer.
-    pub digest_of : (κs : Lfts 2) (out after : BorrowedMut) (r : ℕ) → Digest κs t out after r → 32 ≤ length out.now
-        → (r ≡ 0) × (after.now ≡ sha256 T ++ drop 32 out.now)
+    pub digest_of : (κs : Lfts 2) (out after : BorrowedMut) (r : Result ⊤ Refusal) → Digest κs t out after r → 32 ≤ length out.now
+        → (r ≡ Ok tt) × (after.now ≡ sha256 T ++ drop 32 out.now)
 
   pub record DigestRefuses : Type 0 where
     -- A buffer that is too short: 13, and it is unchanged.
-    pub digest_short : (κs : Lfts 2) (out after : BorrowedMut) (r : ℕ) → Digest κs t out after r → length out.now < 32 → (r ≡ 13) × (after.now ≡ out.now)
+    pub digest_short : (κs : Lfts 2) (out after : BorrowedMut) (r : Result ⊤ Refusal) → Digest κs t out after r → length out.now < 32
+        → (r ≡ Err AnswerDoesNotFit) × (after.now ≡ out.now)
 
   -- docs/FORMAT.md, "Keys"
   pub record MatchAnswers : Type 0 where
     -- The next row after the mark that matches the ranges; if there is none, the mark goes to the number of rows, or stays if it is above.
     pub match_of : (κs : Lfts 2) (ranges : Borrowed) (mark : ℕ) (r : NextRowAnswer) → NextMatch κs t ranges mark r
         → ranges_ok ranges.now ≡ true → CountedIn 10 S.counted
-        → r ≡ cond (eqb (next_match ranges.now T mark) 0) (next.Nothing (match_outcome ranges.now T mark).mark) (next.Row (next_match ranges.now T mark))
+        → r ≡ Ok (cond (eqb (next_match ranges.now T mark) 0) (next.Nothing (match_outcome ranges.now T mark).mark) (next.Row (next_match ranges.now T mark)))
 
   pub record MatchRefuses : Type 0 where
     -- Ranges that are not ranges of 1 to 10 cuts: 19.
     pub match_ranges : (κs : Lfts 2) (ranges : Borrowed) (mark : ℕ) (r : NextRowAnswer) → NextMatch κs t ranges mark r → ranges_ok ranges.now ≡ false
-        → r ≡ next.Refused 19
+        → r ≡ Err CutsWrong
     -- Byte 10 is not counted: 11.
     pub match_other : (κs : Lfts 2) (ranges : Borrowed) (mark : ℕ) (r : NextRowAnswer) → NextMatch κs t ranges mark r → ranges_ok ranges.now ≡ true
-        → (CountedIn 10 S.counted → ⊥) → r ≡ next.Refused 11
+        → (CountedIn 10 S.counted → ⊥) → r ≡ Err ByteNotCounted
 
   -- docs/FORMAT.md, "Rows by prefix"
   pub record PrefixAnswers : Type 0 where
     -- The next row after the mark that starts with the prefix; if there is none, the mark goes to the number of rows, or stays if it is above.
     pub prefix_of : (κs : Lfts 2) (prefix : Borrowed) (mark : ℕ) (r : NextRowAnswer) → NextRowWithPrefix κs t prefix mark r
         → pattern_ok prefix.now ≡ true → CountedIn 10 S.counted
-        → r ≡ cond (eqb (next_with_prefix prefix.now (rows_of T) mark) 0)
+        → r ≡ Ok (cond (eqb (next_with_prefix prefix.now (rows_of T) mark) 0)
         (next.Nothing (outcome_at (next_with_prefix prefix.now (rows_of T) mark) (length (rows_of T)) mark).mark)
-        (next.Row (next_with_prefix prefix.now (rows_of T) mark))
+        (next.Row (next_with_prefix prefix.now (rows_of T) mark)))
 
   pub record PrefixRefuses : Type 0 where
     -- A prefix of no bytes or of more than 256: 16.
     pub prefix_length : (κs : Lfts 2) (prefix : Borrowed) (mark : ℕ) (r : NextRowAnswer) → NextRowWithPrefix κs t prefix mark r
-        → pattern_ok prefix.now ≡ false → r ≡ next.Refused 16
+        → pattern_ok prefix.now ≡ false → r ≡ Err PatternLengthWrong
     -- Byte 10 is not counted: 11.
     pub prefix_other : (κs : Lfts 2) (prefix : Borrowed) (mark : ℕ) (r : NextRowAnswer) → NextRowWithPrefix κs t prefix mark r → pattern_ok prefix.now ≡ true
-        → (CountedIn 10 S.counted → ⊥) → r ≡ next.Refused 11
+        → (CountedIn 10 S.counted → ⊥) → r ≡ Err ByteNotCounted
 
   -- docs/FORMAT.md, "Columns before rows"
   pub record ColumnAnswers : Type 0 where
     -- T is a text by columns: row a of that text, all w bytes, at the buffer's start, the rest of the buffer unchanged.
     pub column_of : (κs : Lfts 2) (w a : ℕ) (buffer after : BorrowedMut) (r : SpanAnswer) → ByColumns κs t w a buffer after r
         → width_ok w (length T) ≡ true → a < length T / w → w ≤ length buffer.now
-        → (r ≡ span.Bytes w 0) × (after.now ≡ substring (uncolumns w T) (a * w) w ++ drop w buffer.now)
+        → (r ≡ Ok (w, 0)) × (after.now ≡ substring (uncolumns w T) (a * w) w ++ drop w buffer.now)
 
   pub record ColumnRefuses : Type 0 where
     -- Width 0, or the length of the text is no multiple of the width: 20, and the buffer is unchanged.
     pub column_width : (κs : Lfts 2) (w a : ℕ) (buffer after : BorrowedMut) (r : SpanAnswer) → ByColumns κs t w a buffer after r
-        → width_ok w (length T) ≡ false → (r ≡ span.Refused 20) × (after.now ≡ buffer.now)
+        → width_ok w (length T) ≡ false → (r ≡ Err WidthDoesNotDivide) × (after.now ≡ buffer.now)
     -- A row past the last: 10, and the buffer is unchanged.
     pub column_past : (κs : Lfts 2) (w a : ℕ) (buffer after : BorrowedMut) (r : SpanAnswer) → ByColumns κs t w a buffer after r
-        → width_ok w (length T) ≡ true → length T / w ≤ a → (r ≡ span.Refused 10) × (after.now ≡ buffer.now)
+        → width_ok w (length T) ≡ true → length T / w ≤ a → (r ≡ Err PastTheEnd) × (after.now ≡ buffer.now)
     -- A buffer that is too short: 13, and it is unchanged.
     pub column_short : (κs : Lfts 2) (w a : ℕ) (buffer after : BorrowedMut) (r : SpanAnswer) → ByColumns κs t w a buffer after r
-        → width_ok w (length T) ≡ true → a < length T / w → length buffer.now < w → (r ≡ span.Refused 13) × (after.now ≡ buffer.now)
+        → width_ok w (length T) ≡ true → a < length T / w → length buffer.now < w → (r ≡ Err AnswerDoesNotFit) × (after.now ≡ buffer.now)
 
   -- All questions together: T gives the answer to each.
   pub record Answers : Type 0 where
@@ -303,11 +299,11 @@ NoPreconditions = OfEveryCall NoPrecondition
 
 -- Demand 3, `check-accepts`: check accepts a tree exactly if it represents a text.
 abbrev pub ExactCheck : Type 0
-ExactCheck = (κs : Lfts 1) (t : Borrowed) (r : ℕ) → Check κs t r → (r ≡ 0) ↔ ((T : List ℕ) × Represents t.now T)
+ExactCheck = (κs : Lfts 1) (t : Borrowed) (r : Result ⊤ Refusal) → Check κs t r → (r ≡ Ok tt) ↔ ((T : List ℕ) × Represents t.now T)
 
 -- Demand 3, `any-tree`: a tree that check accepted, whoever made it, represents exactly one text, which determines the answer to every question.
 abbrev pub AnyTree : Type 0
-AnyTree = (κs : Lfts 1) (t : Borrowed) → Check κs t 0 → (T : List ℕ) × OnlyText t (at.settings t.now) T
+AnyTree = (κs : Lfts 1) (t : Borrowed) → Check κs t (Ok tt) → (T : List ℕ) × OnlyText t (at.settings t.now) T
 
 -- Demand 3, `build-accepts-exact-buffer`: build refuses no text, settings and buffer that pass questions 1 to 4.
 abbrev pub CompleteBuilder : Type 0
@@ -316,22 +312,22 @@ CompleteBuilder =
     → Build κs text leaf arity levels counted out after r
     → length_ok (length text.now) ≡ true → sizes_ok (given leaf arity levels counted.now) ≡ true → counted_ok counted.now ≡ true
     → length (tree_of (given leaf arity levels counted.now) text.now) ≤ length out.now
-    → r ≡ build.Size (length (tree_of (given leaf arity levels counted.now) text.now))
+    → r ≡ Ok (length (tree_of (given leaf arity levels counted.now) text.now))
 
 -- Demands 2 and 3, `built-tree`: what build wrote is the block tree of its text; check accepts it; it represents that text alone, which determines the answer
 -- to every question.
 abbrev pub BuiltTree : Type 0
 BuiltTree =
     (κs : Lfts 3) (text : Borrowed) (leaf arity levels : ℕ) (counted : Borrowed) (out after : BorrowedMut) (size : ℕ)
-    → Build κs text leaf arity levels counted out after (build.Size size) → (t : Borrowed) → t.now ≡ take size after.now
-    → (t.now ≡ tree_of (given leaf arity levels counted.now) text.now) × ((κ : Lfts 1) (r : ℕ) → Check κ t r → r ≡ 0)
+    → Build κs text leaf arity levels counted out after (Ok size) → (t : Borrowed) → t.now ≡ take size after.now
+    → (t.now ≡ tree_of (given leaf arity levels counted.now) text.now) × ((κ : Lfts 1) (r : Result ⊤ Refusal) → Check κ t r → r ≡ Ok tt)
     × OnlyText t (given leaf arity levels counted.now) text.now
 
 -- Demands 2 and 3, `scanned-tree`: the same for build_scanned, and the number of windows that it returns is that of the text.
 abbrev pub ScannedTree : Type 0
 ScannedTree =
     (κs : Lfts 4) (text : Borrowed) (leaf arity levels : ℕ) (counted : Borrowed) (words table out after : BorrowedMut) (size windows : ℕ)
-    → BuildScanned κs text leaf arity levels counted words table out after (build-scanned.Size size windows) → (t : Borrowed) → t.now ≡ take size after.now
+    → BuildScanned κs text leaf arity levels counted words table out after (Ok (size, windows)) → (t : Borrowed) → t.now ≡ take size after.now
     → (windows ≡ windows_of (given leaf arity levels counted.now) text.now)
-    × (t.now ≡ tree_of (given leaf arity levels counted.now) text.now) × ((κ : Lfts 1) (r : ℕ) → Check κ t r → r ≡ 0)
+    × (t.now ≡ tree_of (given leaf arity levels counted.now) text.now) × ((κ : Lfts 1) (r : Result ⊤ Refusal) → Check κ t r → r ≡ Ok tt)
     × OnlyText t (given leaf arity levels counted.now) text.now
