@@ -72,9 +72,9 @@ hex-gives w entry exit r a e =
     rw (← a) (first_gives r (hex_bytes w) exit fits (ap (λ (l : List ℕ). take (made_size r) l) e ∙ take-start entry (hex_bytes w) (made_size r) fits))
 
 -- The fault that `?` passes on.
-pub passed-on : (r : Result ℕ Fault) (f : Fault) → IsErrAnd r (λ d. d ≡ f) → r ≡ Err f
-passed-on (Ok n) f k = absurd k
-passed-on (Err d) f k = ap Err k
+pub fault-passed-on : (r : Result ℕ Fault) (f : Fault) → IsErrAnd r (λ d. d ≡ f) → r ≡ Err f
+fault-passed-on (Ok n) f k = absurd k
+fault-passed-on (Err d) f k = ap Err k
 
 -- What is given, read off the buffer.
 
