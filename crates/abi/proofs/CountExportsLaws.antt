@@ -1,4 +1,7 @@
 -- Count, find and row: their answers as numbers, also for a number above 255.
+use Rattle.std.specs.Prelude.{Result, Ok, Err}
+use Rattle.refusals.specs.declared.Refusal.{Refusal}
+use Rattle.refusals.specs.Refusals.{refusal_number}
 use mathlib.Core.List.{List}
 use mathlib.Core.Bool.{Bool, true, false, cond}
 use mathlib.Core.Path.{◌≡◌, refl, sym, ap, subst, ◌∙◌}
@@ -16,18 +19,16 @@ use Rattle.format.specs.LayoutLaws.{header-facts}
 use Rattle.format.specs.FindAnswerLaws.{FindAnswers}
 use Rattle.theory_counts.specs.CountsLocal.{byte_of}
 use Rattle.theory_counts.specs.Ranks as ranks
-use Rattle.query_select.specs.declared.FindAnswer.{FindAnswer}
-use Rattle.query_select.specs.declared.FindAnswer.TheVariants as find
 use Rattle.query_rank.specs.Counts.{uncounted_refusal}
 use Rattle.query_select.specs.Found.{find_reply}
 use Rattle.text.specs.declared.TextPlace.{TextPlace}
 
-module _ (t : List ℕ) (byte j : ℕ) (r : FindAnswer) (k : FindAnswers t byte j (replied (find_reply r))) where
-  pub find-answered : (place : TextPlace) (entered : ℕ) → r ≡ find.At place entered → FindAnswers t byte j (answer_with 0 place.0 entered)
-  find-answered place entered e = subst (λ (x : FindAnswer). FindAnswers t byte j (replied (find_reply x))) e k
+module _ (t : List ℕ) (byte j : ℕ) (r : Result (TextPlace × ℕ) Refusal) (k : FindAnswers t byte j (replied (find_reply r))) where
+  pub find-answered : (place : TextPlace) (entered : ℕ) → r ≡ Ok (place, entered) → FindAnswers t byte j (answer_with 0 place.0 entered)
+  find-answered place entered e = subst (λ (x : Result (TextPlace × ℕ) Refusal). FindAnswers t byte j (replied (find_reply x))) e k
 
-  pub find-refused : (q : ℕ) → r ≡ find.Refused q → FindAnswers t byte j (answer_with q 0 0)
-  find-refused q e = subst (λ (x : FindAnswer). FindAnswers t byte j (replied (find_reply x))) e k
+  pub find-refused : (q : Refusal) → r ≡ Err q → FindAnswers t byte j (answer_with (refusal_number q) 0 0)
+  find-refused q e = subst (λ (x : Result (TextPlace × ℕ) Refusal). FindAnswers t byte j (replied (find_reply x))) e k
 
 -- A row by its number and length.
 pub row_by : (t : List ℕ) (ok q : ℕ) (buffer after : List ℕ) (s : Answer) (number size : ℕ) → answer_with number size 0 ≡ s

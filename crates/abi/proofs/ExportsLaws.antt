@@ -1,4 +1,7 @@
 -- The refusal and the figures of an answer, by its variants.
+use Rattle.std.specs.Prelude.{Result, Ok, Err}
+use Rattle.refusals.specs.declared.Refusal.{Refusal}
+use Rattle.refusals.specs.Refusals.{refusal_number}
 use mathlib.Core.List.{List}
 use mathlib.Core.Option.{Option, none, some}
 use mathlib.Core.Bool.{Bool, true, false, cond}
@@ -14,11 +17,7 @@ use Rattle.format.specs.Layout as at
 use Rattle.format.specs.TreeReading.{Path, path_of, header_result}
 use Rattle.format.specs.LayoutLaws.{header-facts}
 use Rattle.theory_paths.specs.Shift.{left-most}
-use Rattle.query_access.specs.declared.SpanAnswer.{SpanAnswer}
-use Rattle.query_access.specs.declared.SpanAnswer.TheVariants as span
 use Rattle.query_access.specs.ReadAnswers.{span_reply, IsSpanAnswer}
-use Rattle.build_by_search.specs.declared.BuildAnswer.{BuildAnswer}
-use Rattle.build_by_search.specs.declared.BuildAnswer.TheVariants as build
 use Rattle.build_by_search.specs.BuildAnswer.{build_reply}
 
 -- The reply of an answer that is known.
@@ -27,19 +26,19 @@ reply-is reply r x s is e = sym (ap (λ y. replied (reply y)) e) ∙ is
 
 -- build
 
-module _ (r : BuildAnswer) (number size : ℕ) (n-is : (replied (build_reply r)).number ≡ number) (s-is : (replied (build_reply r)).value ≡ size) where
-  pub build-answered : (n : ℕ) → r ≡ build.Size n → (0 ≡ number) × (n ≡ size)
+module _ (r : Result ℕ Refusal) (number size : ℕ) (n-is : (replied (build_reply r)).number ≡ number) (s-is : (replied (build_reply r)).value ≡ size) where
+  pub build-answered : (n : ℕ) → r ≡ Ok n → (0 ≡ number) × (n ≡ size)
   build-answered n e = (
-    sym (ap (λ (x : BuildAnswer). (replied (build_reply x)).number) e)
+    sym (ap (λ (x : Result ℕ Refusal). (replied (build_reply x)).number) e)
         ∙ n-is,
-    sym (ap (λ (x : BuildAnswer). (replied (build_reply x)).value) e) ∙ s-is,
+    sym (ap (λ (x : Result ℕ Refusal). (replied (build_reply x)).value) e) ∙ s-is,
   )
 
-  pub build-refused : (q : ℕ) → r ≡ build.Refused q → (q ≡ number) × (0 ≡ size)
+  pub build-refused : (q : Refusal) → r ≡ Err q → (refusal_number q ≡ number) × (0 ≡ size)
   build-refused q e = (
-    sym (ap (λ (x : BuildAnswer). (replied (build_reply x)).number) e)
+    sym (ap (λ (x : Result ℕ Refusal). (replied (build_reply x)).number) e)
         ∙ n-is,
-    sym (ap (λ (x : BuildAnswer). (replied (build_reply x)).value) e) ∙ s-is,
+    sym (ap (λ (x : Result ℕ Refusal). (replied (build_reply x)).value) e) ∙ s-is,
   )
 
 -- run: no longer than the longest text
@@ -64,11 +63,11 @@ run_short t p =
 
 -- span
 
-module _ (t : List ℕ) (p len room : ℕ) (r : SpanAnswer) (k : IsSpanAnswer t p len room r) where
-  pub span-answered : (n entered : ℕ) → r ≡ span.Bytes n entered → (0 ≡ (span_answer t p len room).number) × (entered ≡ (span_answer t p len room).entered)
-  span-answered n entered e = let z = sym (ap (λ (x : SpanAnswer). replied (span_reply x)) e) ∙ k.answers in
+module _ (t : List ℕ) (p len room : ℕ) (r : Result (ℕ × ℕ) Refusal) (k : IsSpanAnswer t p len room r) where
+  pub span-answered : (n entered : ℕ) → r ≡ Ok (n, entered) → (0 ≡ (span_answer t p len room).number) × (entered ≡ (span_answer t p len room).entered)
+  span-answered n entered e = let z = sym (ap (λ (x : Result (ℕ × ℕ) Refusal). replied (span_reply x)) e) ∙ k.answers in
       (ap (λ (s : Answer). s.number) z, ap (λ (s : Answer). s.entered) z)
 
-  pub span-refused : (q : ℕ) → r ≡ span.Refused q → (q ≡ (span_answer t p len room).number) × (0 ≡ (span_answer t p len room).entered)
-  span-refused q e = let z = sym (ap (λ (x : SpanAnswer). replied (span_reply x)) e)
+  pub span-refused : (q : Refusal) → r ≡ Err q → (refusal_number q ≡ (span_answer t p len room).number) × (0 ≡ (span_answer t p len room).entered)
+  span-refused q e = let z = sym (ap (λ (x : Result (ℕ × ℕ) Refusal). replied (span_reply x)) e)
       ∙ k.answers in (ap (λ (s : Answer). s.number) z, ap (λ (s : Answer). s.entered) z)

@@ -1,4 +1,7 @@
 -- A guide's calls, as numbers.
+use Rattle.std.specs.Prelude.{Result, Ok, Err}
+use Rattle.refusals.specs.declared.Refusal.{Refusal}
+use Rattle.refusals.specs.Refusals.{refusal_number}
 use mathlib.Core.List.{List}
 use mathlib.Core.Path.{◌≡◌, refl, ap, subst, ◌∙◌}
 use Prim.Native.Nat.{ℕ, ◌<◌}
@@ -6,19 +9,19 @@ use native.Mathlib.Omega.{arith}
 use lib.ListN.{get_or}
 use Rattle.format.specs.Answers.{refused, replied, answer_with}
 use Rattle.text.specs.declared.TextPlace.{TextPlace}
-use Rattle.query_guided.specs.declared.FindGuidedAnswer.{FindGuidedAnswer}
-use Rattle.query_guided.specs.declared.FindGuidedAnswer.TheVariants as find-guided
 use Rattle.query_guided.specs.Guided.{FindGuidedAnswers, find_guided_reply, steps_of}
 use Rattle.query_rank.specs.Counts.{uncounted_refusal}
 use Rattle.abi.proofs.CountExportsLaws.{select-above, refuses-above}
 
-module _ (t guide : List ℕ) (byte j : ℕ) (r : FindGuidedAnswer) (k : FindGuidedAnswers t guide byte j (replied (find_guided_reply r)) (steps_of r)) where
-  pub guided-answered : (place : TextPlace) (entered steps : ℕ) → r ≡ find-guided.At place entered steps
+module _ (t guide : List ℕ) (byte j : ℕ) (r : Result (TextPlace × ℕ × ℕ) Refusal)
+    (k : FindGuidedAnswers t guide byte j (replied (find_guided_reply r)) (steps_of r)) where
+  pub guided-answered : (place : TextPlace) (entered steps : ℕ) → r ≡ Ok (place, entered, steps)
       → FindGuidedAnswers t guide byte j (answer_with 0 place.0 entered) steps
-  guided-answered place entered steps e = subst (λ (x : FindGuidedAnswer). FindGuidedAnswers t guide byte j (replied (find_guided_reply x)) (steps_of x)) e k
+  guided-answered place entered steps e = subst (λ (x : Result (TextPlace × ℕ × ℕ) Refusal). FindGuidedAnswers t guide byte j
+      (replied (find_guided_reply x)) (steps_of x)) e k
 
-  pub guided-refused : (q : ℕ) → r ≡ find-guided.Refused q → FindGuidedAnswers t guide byte j (answer_with q 0 0) 0
-  guided-refused q e = subst (λ (x : FindGuidedAnswer). FindGuidedAnswers t guide byte j (replied (find_guided_reply x)) (steps_of x)) e k
+  pub guided-refused : (q : Refusal) → r ≡ Err q → FindGuidedAnswers t guide byte j (answer_with (refusal_number q) 0 0) 0
+  guided-refused q e = subst (λ (x : Result (TextPlace × ℕ × ℕ) Refusal). FindGuidedAnswers t guide byte j (replied (find_guided_reply x)) (steps_of x)) e k
 
 -- A number above 255.
 pub guided-above : (t : List ℕ) → ((k : ℕ) → get_or t k 0 < 256)

@@ -3,8 +3,6 @@ ghost use Rattle.std.specs.Prelude.{◌≡◌, length};
 ghost use Rattle.columns.specs.Columns.{columns_refusal, columns_buffer, uncolumns_buffer};
 ghost use Rattle.query_columns.specs.ColumnRows.{row_by_columns_refusal, row_by_columns_buffer};
 
-use query_access::SpanAnswer;
-
 // Rearranges a text of rows of `width` bytes, end byte included, by columns.
 pub fn bt_to_columns(text: &[u8], width: u32, out: &mut [u8]) -> u32
     ensures value { result ≡ columns_refusal width text.now out.old }
@@ -28,7 +26,7 @@ pub fn bt_row_by_columns(tree: &[u8], width: u32, a: u32, buffer: &mut [u8]) -> 
 {
     let copied = query_columns::row_by_columns(tree, width, a, buffer);
     match copied {
-        SpanAnswer::Bytes(_, _) => 0,
-        SpanAnswer::Refused(number) => number,
+        Ok(_) => 0,
+        Err(refusal) => refusal.number(),
     }
 }

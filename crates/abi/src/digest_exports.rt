@@ -8,7 +8,7 @@ pub fn bt_digest(tree: &[u8], out: &mut [u8]) -> u32
     ensures value { result ≡ digest_refusal tree.now (length out.old) }
     ensures out_after { out.new ≡ digest_buffer tree.now out.old }
 {
-    query_digest::digest(tree, out)
+    refusals::result_refusal(query_digest::digest(tree, out))
 }
 
 // Writes the SHA-256 of a text to the first 32 bytes of `out`.

@@ -7,8 +7,6 @@ ghost use Rattle.query_info.specs.Info.{info_buffer, version_number};
 ghost use Rattle.format.specs.Answers.{answer_with};
 
 use crate::figures::{put_u32, put_u64};
-use query_places::PlacesWordsAnswer;
-use query_rows::{RowCountAnswer, RowLengthAnswer};
 
 // The version as one number.
 pub fn bt_version() -> u32
@@ -22,7 +20,7 @@ pub fn bt_info(tree: &[u8], figures: &mut [u64; query_info::FIGURES]) -> u32
     ensures value { result ≡ header_result tree.now }
     ensures figures_after { figures.new ≡ info_buffer tree.now }
 {
-    query_info::info(tree, figures)
+    refusals::result_refusal(query_info::info(tree, figures))
 }
 
 // The number of rows.
@@ -31,8 +29,8 @@ pub fn bt_row_count(tree: &[u8], rows: &mut u64) -> u32
 {
     let count = query_rows::row_count(tree);
     match count {
-        RowCountAnswer::Rows(n) => put_u64(rows, n, 0),
-        RowCountAnswer::Refused(number) => put_u64(rows, 0, number),
+        Ok(n) => put_u64(rows, n, 0),
+        Err(refusal) => put_u64(rows, 0, refusal.number()),
     }
 }
 
@@ -42,8 +40,8 @@ pub fn bt_row_length(tree: &[u8], q: u32, len: &mut u32) -> u32
 {
     let length = query_rows::row_length(tree, q);
     match length {
-        RowLengthAnswer::Bytes(n) => put_u32(len, n, 0),
-        RowLengthAnswer::Refused(number) => put_u32(len, 0, number),
+        Ok(n) => put_u32(len, n, 0),
+        Err(refusal) => put_u32(len, 0, refusal.number()),
     }
 }
 
@@ -53,7 +51,7 @@ pub fn bt_places_words(tree: &[u8], len: u32, words: &mut u32) -> u32
 {
     let room = query_places::places_words(tree, len);
     match room {
-        PlacesWordsAnswer::Words(n) => put_u32(words, n, 0),
-        PlacesWordsAnswer::Refused(number) => put_u32(words, 0, number),
+        Ok(n) => put_u32(words, n, 0),
+        Err(refusal) => put_u32(words, 0, refusal.number()),
     }
 }

@@ -8,7 +8,6 @@ ghost use Rattle.query_row_filter.specs.AllowedRows.{AllowedOutcome, query_refus
 ghost use Rattle.query_places.specs.Places.{pattern_ok};
 
 use crate::figures::{put_next_row, put_row, put_u32, put_words};
-use query_guided::FindGuidedAnswer;
 
 // The number of words of the guide of a tree.
 pub fn bt_guide_words(tree: &[u8], words: &mut u64) -> u32
@@ -31,7 +30,7 @@ pub fn bt_make_guide(tree: &[u8], table: &mut [u8], words: &mut u64) -> u32
 pub fn bt_check_guide(tree: &[u8], guide: &[u8]) -> u32
     ensures { result ≡ guide_refusal tree.now guide.now }
 {
-    build_guide::check_guide(tree, guide)
+    refusals::result_refusal(build_guide::check_guide(tree, guide))
 }
 
 // The place of the j-th occurrence of a counted byte, the number of blocks on its path, and the steps on level 0.
@@ -49,18 +48,18 @@ pub fn bt_find_guided(
 {
     if 255 < byte {
         *steps = 0;
-        let number = query_rank::uncounted::uncounted(tree, 0);
+        let number = query_rank::uncounted::uncounted(tree, 0).number();
         return put_u32(place, 0, put_u32(entered, 0, number));
     }
     let found = query_guided::find_guided(tree, guide, byte as u8, j);
     match found {
-        FindGuidedAnswer::At(at, path, walked) => {
+        Ok((at, path, walked)) => {
             *steps = walked;
             put_u32(place, at.0, put_u32(entered, path, 0))
         }
-        FindGuidedAnswer::Refused(number) => {
+        Err(refusal) => {
             *steps = 0;
-            put_u32(place, 0, put_u32(entered, 0, number))
+            put_u32(place, 0, put_u32(entered, 0, refusal.number()))
         }
     }
 }

@@ -24,14 +24,7 @@ ghost use Rattle.query_row_filter.specs.AllowedRows.{AllowedOutcome, query_refus
 ghost use Rattle.query_key_match.specs.MatchAnswer.{MatchOutcome};
 
 use crate::figures::{put_next_row, put_row, put_u32, put_u64};
-use list_lines::ListAnswer;
-use query_access::read_by_header::RunRangeAnswer;
-use query_access::{ByteAnswer, SpanAnswer};
-use query_places::PlacesAnswer;
-use query_rank::CountAnswer;
-use query_select::FindAnswer;
 use text::TextPlace;
-use tree::{BuildAnswer, BuildScannedAnswer, SizeBoundAnswer};
 
 // Builds the tree of a text.
 pub fn bt_build(
@@ -49,8 +42,8 @@ pub fn bt_build(
 {
     let built = tree::build(text, leaf, arity, levels, counted, out);
     match built {
-        BuildAnswer::Size(n) => put_u32(size, n, 0),
-        BuildAnswer::Refused(number) => put_u32(size, 0, number),
+        Ok(n) => put_u32(size, n, 0),
+        Err(refusal) => put_u32(size, 0, refusal.number()),
     }
 }
 
@@ -78,8 +71,8 @@ pub fn bt_build_scanned(
 {
     let scanned = tree::build_scanned(text, leaf, arity, levels, counted, work, out);
     match scanned {
-        BuildScannedAnswer::Size(n, w) => put_u32(size, n, put_u32(windows, w, 0)),
-        BuildScannedAnswer::Refused(number) => put_u32(size, 0, put_u32(windows, 0, number)),
+        Ok((n, w)) => put_u32(size, n, put_u32(windows, w, 0)),
+        Err(refusal) => put_u32(size, 0, put_u32(windows, 0, refusal.number())),
     }
 }
 
@@ -103,8 +96,8 @@ pub fn bt_size_bound(
 {
     let room = tree::size_bound(n, leaf, arity, levels, counted);
     match room {
-        SizeBoundAnswer::Bytes(bytes) => put_u64(size, bytes, 0),
-        SizeBoundAnswer::Refused(number) => put_u64(size, 0, number),
+        Ok(bytes) => put_u64(size, bytes, 0),
+        Err(refusal) => put_u64(size, 0, refusal.number()),
     }
 }
 
@@ -112,7 +105,7 @@ pub fn bt_size_bound(
 pub fn bt_check(tree: &[u8]) -> u32
     ensures { result ≡ check_result tree.now }
 {
-    tree::check(tree)
+    refusals::result_refusal(tree::check(tree))
 }
 
 // The byte at a place, and the number of blocks entered.
@@ -121,8 +114,8 @@ pub fn bt_byte(tree: &[u8], place: u32, value: &mut u32, entered: &mut u32) -> u
 {
     let answer = query_access::byte(tree, TextPlace(place));
     match answer {
-        ByteAnswer::Byte(byte, blocks) => put_u32(value, byte as u32, put_u32(entered, blocks, 0)),
-        ByteAnswer::Refused(number) => put_u32(value, 0, put_u32(entered, 0, number)),
+        Ok((byte, blocks)) => put_u32(value, byte as u32, put_u32(entered, blocks, 0)),
+        Err(refusal) => put_u32(value, 0, put_u32(entered, 0, refusal.number())),
     }
 }
 
@@ -134,12 +127,12 @@ pub fn bt_run_range(tree: &[u8], place: u32, offset: &mut u64, len: &mut u32) ->
 {
     let range = query_access::run_range(tree, TextPlace(place));
     match range {
-        RunRangeAnswer::At(part) => put_u64(
+        Ok(part) => put_u64(
             offset,
             part.from as u64,
             put_u32(len, part.length as u32, 0),
         ),
-        RunRangeAnswer::Refused(number) => put_u64(offset, 0, put_u32(len, 0, number)),
+        Err(refusal) => put_u64(offset, 0, put_u32(len, 0, refusal.number())),
     }
 }
 
@@ -151,8 +144,8 @@ pub fn bt_span(tree: &[u8], place: u32, len: u32, buffer: &mut [u8], entered: &m
 {
     let copied = query_access::span(tree, TextPlace(place), len, buffer);
     match copied {
-        SpanAnswer::Bytes(_, blocks) => put_u32(entered, blocks, 0),
-        SpanAnswer::Refused(number) => put_u32(entered, 0, number),
+        Ok((_, blocks)) => put_u32(entered, blocks, 0),
+        Err(refusal) => put_u32(entered, 0, refusal.number()),
     }
 }
 
@@ -161,13 +154,13 @@ pub fn bt_count(tree: &[u8], byte: u32, i: u32, times: &mut u64, entered: &mut u
     ensures { answer_with result times.new entered.new ≡ count_answer tree.now byte i }
 {
     if 255 < byte {
-        let number = query_rank::uncounted::uncounted(tree, i);
+        let number = query_rank::uncounted::uncounted(tree, i).number();
         return put_u64(times, 0, put_u32(entered, 0, number));
     }
     let counted = query_rank::count(tree, byte as u8, i);
     match counted {
-        CountAnswer::Times(count, visits) => put_u64(times, count, put_u32(entered, visits, 0)),
-        CountAnswer::Refused(number) => put_u64(times, 0, put_u32(entered, 0, number)),
+        Ok((count, visits)) => put_u64(times, count, put_u32(entered, visits, 0)),
+        Err(refusal) => put_u64(times, 0, put_u32(entered, 0, refusal.number())),
     }
 }
 
@@ -176,13 +169,13 @@ pub fn bt_find(tree: &[u8], byte: u32, j: u32, place: &mut u32, entered: &mut u3
     ensures { FindBy tree.now (check_result tree.now) byte j (answer_with result place.new entered.new) }
 {
     if 255 < byte {
-        let number = query_rank::uncounted::uncounted(tree, 0);
+        let number = query_rank::uncounted::uncounted(tree, 0).number();
         return put_u32(place, 0, put_u32(entered, 0, number));
     }
     let found = query_select::find(tree, byte as u8, j);
     match found {
-        FindAnswer::At(at, path) => put_u32(place, at.0, put_u32(entered, path, 0)),
-        FindAnswer::Refused(number) => put_u32(place, 0, put_u32(entered, 0, number)),
+        Ok((at, path)) => put_u32(place, at.0, put_u32(entered, path, 0)),
+        Err(refusal) => put_u32(place, 0, put_u32(entered, 0, refusal.number())),
     }
 }
 
@@ -201,8 +194,8 @@ pub fn bt_places(tree: &[u8], pattern: &[u8], table: &mut [u32], number: &mut u3
 {
     let written = query_places::places(tree, pattern, table);
     match written {
-        PlacesAnswer::Number(n) => put_u32(number, n, 0),
-        PlacesAnswer::Refused(q) => put_u32(number, 0, q),
+        Ok(n) => put_u32(number, n, 0),
+        Err(refusal) => put_u32(number, 0, refusal.number()),
     }
 }
 
@@ -232,7 +225,7 @@ pub fn bt_list(tree: &[u8], out: &mut [u8], len: &mut u32) -> u32
 {
     let listed = list_lines::list(tree, out);
     match listed {
-        ListAnswer::Bytes(n) => put_u32(len, n, 0),
-        ListAnswer::Refused(number) => put_u32(len, 0, number),
+        Ok(n) => put_u32(len, n, 0),
+        Err(refusal) => put_u32(len, 0, refusal.number()),
     }
 }

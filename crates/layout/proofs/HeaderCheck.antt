@@ -116,7 +116,8 @@ fine-is s true true r e = cc
 fine-is s true false r e = cc
 fine-is s false b r e = cc
 
-refused-is : (q : Refusal) (a b : Bool) (r : Settings) → Err q ≡ cond a (cond b (Ok r) (Err CountedBytesWrong)) (Err SettingsOutOfBounds) → (a ≡ false) ⊎ (b ≡ false)
+refused-is : (q : Refusal) (a b : Bool) (r : Settings) → Err q ≡ cond a (cond b (Ok r) (Err CountedBytesWrong)) (Err SettingsOutOfBounds)
+    → (a ≡ false) ⊎ (b ≡ false)
 refused-is q true true r e = absurd (let z : ◌≡◌ {A = ℕ} 0 1 = cc in omega arith)
 refused-is q true false r e = inr refl
 refused-is q false b r e = inl refl

@@ -4,17 +4,18 @@ use mathlib.Core.Path.{◌≡◌, refl, sym, ap, ◌∙◌}
 use Prim.Native.Nat.{ℕ, suc, ◌+◌, ◌≤◌, ◌<◌}
 use native.Mathlib.Omega.{arith}
 use native.Mathlib.Numerals.{add-one}
-use lib.ListN.{length, set, take, drop, length-append, length-drop}
-use lib.Seq.{paste-zero, take-length, take_at, drop-drop, drop-append-add, length-take-le, set_split, append_snoc}
-use borrow.Rule.Slice.PartMut.{put_mid}
-use Rattle.std.proofs.lemmas.Slice.{put_mid-paste}
+use lib.ListN.{length, get_or, set, take, drop, length-append, length-drop}
+use lib.Seq.{paste, paste-suc, paste-zero, take-length, take_at, drop-drop, drop-append-add, length-take-le, set_split, append_snoc}
 use Rattle.list_lines.specs.ListedLines.{list_written, ListPut}
 
 module _ (d : List ℕ) (at : ℕ) where
-  -- Bytes put into a part of the buffer.
-  pub put_all : (k : ℕ) (s : List ℕ) → k ≡ length s → put_mid at k d s ≡ list_written d at s
+  -- One byte more.
+  pub put-more : (e s : List ℕ) (i : ℕ) → e ≡ paste d at s i → at + i < length d → i < length s → set e (at + i) (get_or s i 0) ≡ paste d at s (i + 1)
+  put-more e s i q h k = rw (q, add-one) (paste-suc d at s i 0 h k)
+
+  pub put_all : (e s : List ℕ) (i : ℕ) → e ≡ paste d at s i → i ≡ length s → e ≡ list_written d at s
   unfolding list_written
-  put_all k s is = put_mid-paste at k d s s (length s) refl (sym is) refl ∙ rw (take-length s)
+  put_all e s i q l = rw (q, l, take-length s)
 
   written_none : d ≡ list_written d at []
   unfolding list_written

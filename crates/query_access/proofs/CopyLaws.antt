@@ -52,7 +52,8 @@ module _ (t : List ℕ) (p len : ℕ) where
     rest-broken z = rw (open-rest, z)
 
 -- A byte's answer: the byte of its place, or a refusal by 14.
-module _ (t : List ℕ) (h : Header) (k : HeaderOf t h) (p : ℕ) (low : p < h.text_length) (a : Result (ℕ × ℕ) Refusal) (a_is : replied (byte_reply a) ≡ byte_answer t p)
+module _ (t : List ℕ) (h : Header) (k : HeaderOf t h) (p : ℕ) (low : p < h.text_length) (a : Result (ℕ × ℕ) Refusal)
+    (a_is : replied (byte_reply a) ≡ byte_answer t p)
   where
     pub byte-good : (v n : ℕ) → a ≡ Ok (v, n) → ((byte_answer t p).number ≡ 0) × (v ≡ (byte_answer t p).value)
     byte-good v n e =
@@ -60,7 +61,8 @@ module _ (t : List ℕ) (h : Header) (k : HeaderOf t h) (p : ℕ) (low : p < h.t
         (sym (ap (λ (s : Answer). s.number) z), ap (λ (s : Answer). s.value) z)
 
     pub byte-refused : (q : Refusal) → a ≡ Err q → (byte_answer t p).number ≡ 14
-    byte-refused q e = only-14 t k.passes p (omega (arith, k.length_is)) (refusal_number q) (ap (λ (x : Result (ℕ × ℕ) Refusal). replied (byte_reply x)) (sym e) ∙ a_is)
+    byte-refused q e = only-14 t k.passes p (omega (arith, k.length_is)) (refusal_number q)
+        (ap (λ (x : Result (ℕ × ℕ) Refusal). replied (byte_reply x)) (sym e) ∙ a_is)
 
 -- Buffer e, where i of the len bytes from p were copied to buffer d.
 pub record Copying (t : List ℕ) (p len : ℕ) (d e : List ℕ) (i : ℕ) : Type 0 where
@@ -94,7 +96,8 @@ module _ (t : List ℕ) (p len : ℕ) (d : List ℕ) (room : len ≤ length d) w
       rw z (copy_more (i + n) (places_written e i t (p + i) n) w (omega arith) (byte_answer t (p + i + n)).value (rw s (good n (omega arith))) (rw s))
 
   -- The first n bytes are known.
-  pub copy-known : (n : ℕ) → n ≤ len → ((x : ℕ) → x < n → (byte_answer t (p + x)).number ≡ 0) → (e : List ℕ) → e ≡ places_written d 0 t p n → Copying t p len d e n
+  pub copy-known : (n : ℕ) → n ≤ len → ((x : ℕ) → x < n → (byte_answer t (p + x)).number ≡ 0) → (e : List ℕ) → e ≡ places_written d 0 t p n
+      → Copying t p len d e n
   copy-known n fits good e is =
       let z : p + 0 ≡ p = omega arith in
       let s : 0 + n ≡ n = omega arith in

@@ -29,7 +29,8 @@ use Rattle.std.specs.Prelude.{Option, Some, None}
 use Rattle.std.specs.Option.{ok_or}
 use Rattle.query_access.specs.ReadAnswers.{byte_reply, IsRunAnswer}
 use Rattle.walk_ranges.specs.LeafEnds.{LeafEndAt, Joined}
-use Rattle.query_access.specs.ReadByRuns.{IsRunOfPlace, ReadsOn, LeafRunAt, LeafRunOf, LeafRangeAt, ReadsFrom, LeafRangeOf, IsRangeAnswer, places_written, RunCopied}
+use Rattle.query_access.specs.ReadByRuns.{IsRunOfPlace, ReadsOn, LeafRunAt, LeafRunOf, LeafRangeAt, ReadsFrom}
+use Rattle.query_access.specs.ReadByRuns.{LeafRangeOf, IsRangeAnswer, places_written, RunCopied}
 use Rattle.query_access.proofs.RunLaws.{run-answers, run-from, run-size, run-some}
 use Rattle.walk_ranges.proofs.LeafEndLaws.{end_is, end-left, end-entered, left-min, joined-answers}
 

@@ -14,7 +14,8 @@ use Rattle.text.specs.Text.{tabulate}
 use Rattle.format.specs.Layout as at
 use Rattle.format.specs.TreeReading.{ask, header_result}
 use Rattle.format.specs.Answers.{Answer, refused, unless, NeverZero, replied}
-use Rattle.format.specs.Answers.{byte_answer, paths_hold, span_questions, buffer_after, is_short, span_reached, span_bytes, span_blocks, span_refusal, span_answer}
+use Rattle.format.specs.Answers.{byte_answer, paths_hold, span_questions, buffer_after, is_short, span_reached}
+use Rattle.format.specs.Answers.{span_bytes, span_blocks, span_refusal, span_answer}
 use Rattle.format.specs.Answers.{span_buffer, copy_refusal, copy_answer, copy_buffer}
 use Rattle.layout.specs.declared.header.Header.{Header}
 use Rattle.layout.specs.Header.{header_answer}
@@ -38,12 +39,14 @@ ByPaths t p len d = Spanned t p len d (paths_hold t p len) (tabulate len (values
 abbrev pub Whole : List ℕ → ℕ → ℕ → List ℕ → Answer → List ℕ → Type 0
 Whole t p len d = Spanned t p len d (span_reached t p len) (span_bytes t p len) (span_blocks t p len)
 
-pub access-answered : (t : List ℕ) (p len : ℕ) (d after : List ℕ) (r : Result (ℕ × ℕ) Refusal) → NeverZero (span_reply r) → Whole t p len d (replied (span_reply r)) after
+pub access-answered : (t : List ℕ) (p len : ℕ) (d after : List ℕ) (r : Result (ℕ × ℕ) Refusal) → NeverZero (span_reply r)
+    → Whole t p len d (replied (span_reply r)) after
     → IsSpanAnswer t p len (length d) r × (after ≡ span_buffer t p len d)
 unfolding span_answer span_refusal span_buffer
 access-answered t p len d after r numbered k = (record { answers = k.answers; numbered = numbered }, k.leaves)
 
-pub copy-answered : (t : List ℕ) (p len : ℕ) (d after : List ℕ) (r : Result (ℕ × ℕ) Refusal) → NeverZero (span_reply r) → ByPaths t p len d (replied (span_reply r)) after
+pub copy-answered : (t : List ℕ) (p len : ℕ) (d after : List ℕ) (r : Result (ℕ × ℕ) Refusal) → NeverZero (span_reply r)
+    → ByPaths t p len d (replied (span_reply r)) after
     → IsCopyAnswer t p len (length d) r × (after ≡ copy_buffer t p len d)
 unfolding copy_answer copy_refusal copy_buffer
 copy-answered t p len d after r numbered k = (record { answers = k.answers; numbered = numbered }, k.leaves)

@@ -51,7 +51,9 @@ module _ (t : List ℕ) (w a : ℕ) (d : List ℕ) where
   module _ (h : Header) (k : HeaderOf t h) where
     pub read-width : width_ok w h.text_length ≡ false → Read (Err WidthDoesNotDivide) d
     unfolding row_by_columns_refusal
-    read-width other = let z : width_ok w (at.text_length t) ≡ false = rw k.length_is at other in stays WidthDoesNotDivide 19 refl (rw (k.passes, z)) (λ y. omega arith)
+    read-width other =
+        let z : width_ok w (at.text_length t) ≡ false = rw k.length_is at other in
+        stays WidthDoesNotDivide 19 refl (rw (k.passes, z)) (λ y. omega arith)
 
     module _ (ok : width_ok w h.text_length ≡ true) where
       ok-t : width_ok w (at.text_length t) ≡ true

@@ -68,7 +68,8 @@ module _ (t : List ℕ) (h : Header) (k : HeaderOf t h) (p len : ℕ) (low : p +
 
   pub part-broken : (q : Refusal) → r ≡ Err q → PartRead t p len false after
   part-broken q is =
-      let z : refusal_number q ≡ ask 14 (paths_hold t p len) 0 = sym (ap (λ (x : Result (ℕ × ℕ) Refusal). (replied (span_reply x)).number) is) ∙ answer-number in
+      let z : refusal_number q ≡ ask 14 (paths_hold t p len) 0 =
+      sym (ap (λ (x : Result (ℕ × ℕ) Refusal). (replied (span_reply x)).number) is) ∙ answer-number in
       let b = asked-broken (paths_hold t p len) (refusal_number q) (number-above q) z in
       record { holds = sym b; bytes = λ y. bool_clash false y refl }
 
@@ -130,6 +131,7 @@ module _ (t : List ℕ) (p x : ℕ) (in_text : p + x ≤ at.text_length t) where
   unfolding hash_answer
   from-broken e = rw (rest_is, e)
 
-pub from_all : (t : List ℕ) (p n : ℕ) → n ≡ at.text_length t → paths_hold t p (n - p) ≡ true → (f : HashState) → f ≡ hash_of (text_of t) → Some f ≡ hash_answer t p
+pub from_all : (t : List ℕ) (p n : ℕ) → n ≡ at.text_length t → paths_hold t p (n - p) ≡ true
+    → (f : HashState) → f ≡ hash_of (text_of t) → Some f ≡ hash_answer t p
 unfolding hash_answer
 from_all t p n n-is e f f-is = let z : paths_hold t p (at.text_length t - p) ≡ true = rw n-is at e in rw (z, f-is)

@@ -1,1 +1,1 @@
-pub mod RowScanLaws
+pub mod ScanStepLaws

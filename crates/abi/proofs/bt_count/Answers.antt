@@ -1,3 +1,4 @@
+use mathlib.Core.Path.{◌∙◌}
 use Rattle.query_rank.specs.Counts.{count_reply}
 use Rattle.abi.proofs.ExportsLaws.{reply-is}
 use Rattle.abi.proofs.CountExportsLaws as laws
@@ -5,10 +6,10 @@ use Rattle.abi.proofs.bt_count.Goals as goal
 
 pub returns-then-byte-gt255 : goal.returns-then-byte-gt255
 returns-then-byte-gt255 c = rw (c.put_u64.ensures.0, c.put_u64.ensures.1, c.put_u32.ensures.0, c.put_u32.ensures.1) (laws.count-above c.args.tree.now (λ k. (c.shared_slice_known-1.given k).fits)
-    _ c.if-byte-gt255.true _ _ c.uncounted-number.ensures)
+    _ c.if-byte-gt255.true _ _ (c.number-number.ensures ∙ c.uncounted.ensures))
 
-pub returns-in-Times : goal.returns-in-Times
-returns-in-Times c = rw (c.put_u64-in-Times.ensures.0, c.put_u64-in-Times.ensures.1, c.put_u32-in-Times.ensures.0, c.put_u32-in-Times.ensures.1) (reply-is count_reply _ _ _ c.count-counted.ensures.answers c.in-Times.is)
+pub returns-in-Ok : goal.returns-in-Ok
+returns-in-Ok c = rw (c.put_u64-in-Ok.ensures.0, c.put_u64-in-Ok.ensures.1, c.put_u32-in-Ok.ensures.0, c.put_u32-in-Ok.ensures.1) (reply-is count_reply _ _ _ c.count-counted.ensures.answers c.in-Ok.is)
 
-pub returns-in-Refused : goal.returns-in-Refused
-returns-in-Refused c = rw (c.put_u64-in-Refused.ensures.0, c.put_u64-in-Refused.ensures.1, c.put_u32-in-Refused.ensures.0, c.put_u32-in-Refused.ensures.1) (reply-is count_reply _ _ _ c.count-counted.ensures.answers c.in-Refused.is)
+pub returns-in-Err : goal.returns-in-Err
+returns-in-Err c = rw (c.put_u64-in-Err.ensures.0, c.put_u64-in-Err.ensures.1, c.put_u32-in-Err.ensures.0, c.put_u32-in-Err.ensures.1, c.number.ensures) (reply-is count_reply _ _ _ c.count-counted.ensures.answers c.in-Err.is)

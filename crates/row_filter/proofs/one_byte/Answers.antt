@@ -1,4 +1,4 @@
-use Rattle.row_filter.proofs.RowScanLaws.{byte-ends, byte-leads}
+use Rattle.row_filter.proofs.ScanStepLaws.{byte-ends, byte-leads}
 use Rattle.row_filter.proofs.one_byte.Goals as goal
 
 pub returns-in-Found : goal.returns-in-Found

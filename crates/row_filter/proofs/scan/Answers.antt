@@ -1,6 +1,6 @@
 use Rattle.std.proofs.Common.{arith}
 use Rattle.row_filter.specs.RowAutomatonLaws.{scanning-none, scanning-end}
-use Rattle.row_filter.proofs.RowScanLaws.{step-found, step-on}
+use Rattle.row_filter.proofs.ScanStepLaws.{step-found, step-on}
 use Rattle.row_filter.proofs.scan.Goals as goal
 
 pub loop-i-init : goal.loop-i-init

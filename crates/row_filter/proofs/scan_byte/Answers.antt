@@ -9,4 +9,5 @@ pub returns-then-at_newline : goal.returns-then-at_newline
 returns-then-at_newline g c = byte-found _ _ _ _ c.if-byte-ne10.false (sym c.at_newline.ensures ∙ c.if-at_newline.true)
 
 pub returns : goal.returns
-returns g c = rw c.start.ensures (byte_next (g.A.RowAutomaton.automaton c.args.automaton) _ _ _ c.if-byte-ne10.false (sym c.at_newline.ensures ∙ c.if-at_newline.false))
+returns g c =
+    rw c.start.ensures (byte_next (g.A.RowAutomaton.automaton c.args.automaton) _ _ _ c.if-byte-ne10.false (sym c.at_newline.ensures ∙ c.if-at_newline.false))

@@ -1,15 +1,14 @@
-use Rattle.query_compare.specs.declared.CompareAnswer.TheVariants.{Before, Same, After, Refused}
+use Rattle.std.specs.Prelude.{Ok, Err}
+use mathlib.Core.Path.{◌∙◌}
 use Rattle.abi.proofs.OrderExportsLaws as laws
 use Rattle.abi.proofs.compare_exports.bt_compare.Goals as goal
 
-pub returns-in-Before : goal.returns-in-Before
-returns-in-Before c = let k = laws.order-answered _ _ _ c.compare-compared.ensures (Before _) c.in-Before.is in record { shared_after = rw (c.put_u32-in-Before.ensures.0, c.put_u32-in-Before.ensures.1, c.put_u32.ensures.0, c.put_u32.ensures.1) k.0; first_after = k.1 }
+pub returns-in-Ok : goal.returns-in-Ok
+returns-in-Ok c =
+    let k = laws.order-answered _ _ _ c.compare-compared.ensures (Ok _) c.in-Ok.is in record {
+      shared_after = rw (c.put_u32-in-Ok.ensures.0, c.put_u32-in-Ok.ensures.1, c.put_u32.ensures.0, c.put_u32.ensures.1, c.code.ensures) k.0;
+      first_after = c.first_of.ensures ∙ k.1;
+    }
 
-pub returns-in-Same : goal.returns-in-Same
-returns-in-Same c = let k = laws.order-answered _ _ _ c.compare-compared.ensures (Same _) c.in-Same.is in record { shared_after = rw (c.put_u32-in-Same-2.ensures.0, c.put_u32-in-Same-2.ensures.1, c.put_u32-in-Same.ensures.0, c.put_u32-in-Same.ensures.1) k.0; first_after = k.1 }
-
-pub returns-in-After : goal.returns-in-After
-returns-in-After c = let k = laws.order-answered _ _ _ c.compare-compared.ensures (After _) c.in-After.is in record { shared_after = rw (c.put_u32-in-After-2.ensures.0, c.put_u32-in-After-2.ensures.1, c.put_u32-in-After.ensures.0, c.put_u32-in-After.ensures.1) k.0; first_after = k.1 }
-
-pub returns-in-Refused : goal.returns-in-Refused
-returns-in-Refused c = let k = laws.order-answered _ _ _ c.compare-compared.ensures (Refused _) c.in-Refused.is in record { shared_after = rw (c.put_u32-in-Refused-2.ensures.0, c.put_u32-in-Refused-2.ensures.1, c.put_u32-in-Refused.ensures.0, c.put_u32-in-Refused.ensures.1) k.0; first_after = k.1 }
+pub returns-in-Err : goal.returns-in-Err
+returns-in-Err c = let k = laws.order-answered _ _ _ c.compare-compared.ensures (Err _) c.in-Err.is in record { shared_after = rw (c.put_u32-in-Err-2.ensures.0, c.put_u32-in-Err-2.ensures.1, c.put_u32-in-Err.ensures.0, c.put_u32-in-Err.ensures.1, c.number.ensures) k.0; first_after = k.1 }

@@ -1,8 +1,8 @@
 use Rattle.abi.proofs.FigureExportsLaws as laws
 use Rattle.abi.proofs.figure_exports.bt_row_length.Goals as goal
 
-pub returns-in-Bytes : goal.returns-in-Bytes
-returns-in-Bytes c = rw (c.put_u32.ensures.0, c.put_u32.ensures.1) (laws.length-answered _ _ _ c.row_length-length.ensures.answers _ c.in-Bytes.is)
+pub returns-in-Ok : goal.returns-in-Ok
+returns-in-Ok c = rw (c.put_u32.ensures.0, c.put_u32.ensures.1) (laws.length-answered _ _ _ c.row_length-length.ensures.answers _ c.in-Ok.is)
 
-pub returns-in-Refused : goal.returns-in-Refused
-returns-in-Refused c = rw (c.put_u32-in-Refused.ensures.0, c.put_u32-in-Refused.ensures.1) (laws.length-refused _ _ _ c.row_length-length.ensures.answers _ c.in-Refused.is)
+pub returns-in-Err : goal.returns-in-Err
+returns-in-Err c = rw (c.put_u32-in-Err.ensures.0, c.put_u32-in-Err.ensures.1, c.number.ensures) (laws.length-refused _ _ _ c.row_length-length.ensures.answers _ c.in-Err.is)

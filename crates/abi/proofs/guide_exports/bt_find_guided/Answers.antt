@@ -1,12 +1,13 @@
+use mathlib.Core.Path.{◌∙◌}
 use Rattle.abi.proofs.GuideExportsLaws as laws
 use Rattle.abi.proofs.guide_exports.bt_find_guided.Goals as goal
 
 pub returns-then-byte-gt255 : goal.returns-then-byte-gt255
 returns-then-byte-gt255 c = rw (c.put_u32-then-byte-gt255.ensures.0, c.put_u32-then-byte-gt255.ensures.1, c.put_u32.ensures.0, c.put_u32.ensures.1) (laws.guided-above c.args.tree.now (λ k. (c.shared_slice_known-1.given k).fits)
-    _ c.if-byte-gt255.true _ _ _ c.uncounted-number.ensures)
+    _ c.if-byte-gt255.true _ _ _ (c.number-number.ensures ∙ c.uncounted.ensures))
 
-pub returns-in-At : goal.returns-in-At
-returns-in-At c = rw (c.put_u32-in-At-2.ensures.0, c.put_u32-in-At-2.ensures.1, c.put_u32-in-At.ensures.0, c.put_u32-in-At.ensures.1) (laws.guided-answered _ _ _ _ _ c.find_guided-found.ensures.answers _ _ _ c.in-At.is)
+pub returns-in-Ok : goal.returns-in-Ok
+returns-in-Ok c = rw (c.put_u32-in-Ok-2.ensures.0, c.put_u32-in-Ok-2.ensures.1, c.put_u32-in-Ok.ensures.0, c.put_u32-in-Ok.ensures.1) (laws.guided-answered _ _ _ _ _ c.find_guided-found.ensures.answers _ _ _ c.in-Ok.is)
 
-pub returns-in-Refused : goal.returns-in-Refused
-returns-in-Refused c = rw (c.put_u32-in-Refused-2.ensures.0, c.put_u32-in-Refused-2.ensures.1, c.put_u32-in-Refused.ensures.0, c.put_u32-in-Refused.ensures.1) (laws.guided-refused _ _ _ _ _ c.find_guided-found.ensures.answers _ c.in-Refused.is)
+pub returns-in-Err : goal.returns-in-Err
+returns-in-Err c = rw (c.put_u32-in-Err-2.ensures.0, c.put_u32-in-Err-2.ensures.1, c.put_u32-in-Err.ensures.0, c.put_u32-in-Err.ensures.1, c.number.ensures) (laws.guided-refused _ _ _ _ _ c.find_guided-found.ensures.answers _ c.in-Err.is)

@@ -52,35 +52,45 @@ overflow_add-piece t c = record { fits = omega (arith, c.requires.1, c.loop-done
 pub copy_segment-requires : goal.copy_segment-requires
 copy_segment-requires t c =
     let next : NextAt c.args.t.now.now c.args.rules.pointers c.args.on.level c.args.from.block.0
-    (c.args.from.place.0 + c.loop-done.done) (c.args.part.size - c.loop-done.done) c.in-Some.next.segment c.in-Some.next.size = segments.next-at _ _ _ _ _ _ _ c.next_segment-found.ensures _ c.in-Some.is in
+    (c.args.from.place.0 + c.loop-done.done) (c.args.part.size - c.loop-done.done) c.in-Some.next.segment c.in-Some.next.size
+    = segments.next-at _ _ _ _ _ _ _ c.next_segment-found.ensures _ c.in-Some.is in
     let s = next in (
       omega (arith, c.decreases, s.falls),
-      (s.segment, omega (arith, c.requires.1, s.at_most, c.loop-done-test.true), omega (arith, c.requires.2, s.at_most, c.loop-done-test.true, c.loop-done.invariant.1)),
+      (
+        s.segment,
+        omega (arith, c.requires.1, s.at_most, c.loop-done-test.true),
+        omega (arith, c.requires.2, s.at_most, c.loop-done-test.true, c.loop-done.invariant.1),
+      ),
     )
 
 pub returns-in_err-copy_segment : goal.returns-in_err-copy_segment
 returns-in_err-copy_segment t c =
     let next : NextAt c.args.t.now.now c.args.rules.pointers c.args.on.level c.args.from.block.0
-    (c.args.from.place.0 + c.loop-done.done) (c.args.part.size - c.loop-done.done) c.in-Some.next.segment c.in-Some.next.size = segments.next-at _ _ _ _ _ _ _ c.next_segment-found.ensures _ c.in-Some.is in
-    rw (passed-on _ _ c.from_residual.ensures.1) (segments.go-broken _ _ _ _ _ _ _ _ _ c.loop-done.invariant.2 _ _ _ next _ _ (rw c.in_err-copy_segment.was at c.copy_segment.ensures)
+    (c.args.from.place.0 + c.loop-done.done) (c.args.part.size - c.loop-done.done) c.in-Some.next.segment c.in-Some.next.size
+    = segments.next-at _ _ _ _ _ _ _ c.next_segment-found.ensures _ c.in-Some.is in
+    rw (passed-on _ _ c.from_residual.ensures.1) (segments.go-broken _ _ _ _ _ _ _ _ _ c.loop-done.invariant.2 _ _ _ next _ _
+    (rw c.in_err-copy_segment.was at c.copy_segment.ensures)
     (segments.is-refusal _) _ (omega (arith, c.loop-done-test.true)))
 
 pub overflow_add-done : goal.overflow_add-done
 overflow_add-done t c =
     let next : NextAt c.args.t.now.now c.args.rules.pointers c.args.on.level c.args.from.block.0
-    (c.args.from.place.0 + c.loop-done.done) (c.args.part.size - c.loop-done.done) c.in-Some.next.segment c.in-Some.next.size = segments.next-at _ _ _ _ _ _ _ c.next_segment-found.ensures _ c.in-Some.is in
+    (c.args.from.place.0 + c.loop-done.done) (c.args.part.size - c.loop-done.done) c.in-Some.next.segment c.in-Some.next.size
+    = segments.next-at _ _ _ _ _ _ _ c.next_segment-found.ensures _ c.in-Some.is in
     record { fits = omega (arith, c.requires.1, next.at_most, c.loop-done-test.true) }
 
 pub loop-done-smaller : goal.loop-done-smaller
 loop-done-smaller t c =
     let next : NextAt c.args.t.now.now c.args.rules.pointers c.args.on.level c.args.from.block.0
-    (c.args.from.place.0 + c.loop-done.done) (c.args.part.size - c.loop-done.done) c.in-Some.next.segment c.in-Some.next.size = segments.next-at _ _ _ _ _ _ _ c.next_segment-found.ensures _ c.in-Some.is in
+    (c.args.from.place.0 + c.loop-done.done) (c.args.part.size - c.loop-done.done) c.in-Some.next.segment c.in-Some.next.size
+    = segments.next-at _ _ _ _ _ _ _ c.next_segment-found.ensures _ c.in-Some.is in
     omega (arith, next.some_byte, c.loop-done-test.true)
 
 pub loop-done-preserved : goal.loop-done-preserved
 loop-done-preserved t c =
     let next : NextAt c.args.t.now.now c.args.rules.pointers c.args.on.level c.args.from.block.0
-    (c.args.from.place.0 + c.loop-done.done) (c.args.part.size - c.loop-done.done) c.in-Some.next.segment c.in-Some.next.size = segments.next-at _ _ _ _ _ _ _ c.next_segment-found.ensures _ c.in-Some.is in (
+    (c.args.from.place.0 + c.loop-done.done) (c.args.part.size - c.loop-done.done) c.in-Some.next.segment c.in-Some.next.size
+    = segments.next-at _ _ _ _ _ _ _ c.next_segment-found.ensures _ c.in-Some.is in (
       omega (arith, next.at_most, c.loop-done-test.true),
       c.copy_segment.auto.buffer ∙ c.loop-done.invariant.1,
       segments.go-more _ _ _ _ _ _ _ _ _ c.loop-done.invariant.2 _ _ _ next _ _ (rw c.in_ok-copy_segment.was at c.copy_segment.ensures) refl,

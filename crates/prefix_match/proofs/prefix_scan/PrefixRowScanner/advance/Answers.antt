@@ -1,4 +1,4 @@
-use Rattle.row_filter.proofs.RowScanLaws.{step-passed}
+use Rattle.row_filter.proofs.ScanStepLaws.{step-passed}
 use Rattle.row_filter.specs.RowScans.{IsStep}
 use Rattle.row_filter.specs.declared.ScanStep.TheVariants.{On}
 use Rattle.prefix_match.specs.PrefixStates.{prefix_automaton}
