@@ -1,4 +1,4 @@
-// The bytes that lines give, written to the start of a buffer; each function returns their number, or why there are none.
+// The bytes that lines give, written to the start of a buffer; what is returned is their number, or why there are none.
 ghost use Rattle.std.specs.Prelude.{◌≡◌, ◌≤◌, ◌<◌, ◌%◌, length, get_or, take, replicate};
 ghost use Rattle.text.specs.Text.{tabulate};
 ghost use Rattle.cases_script.specs.GivenBytes.{Gives, times_over, repeat_given, plain_given, pad_to, pad_given, make_given, named_given};
