@@ -288,8 +288,8 @@ FACT_SAMPLES = [
     "`from-spec`: computed as far as they go, the two types first differ where one has `n / width`\n  (expected) and the other has `width` (found)",
     "`found-from`: as printed, the two types differ only where one has `text_of t` (expected), right after `q ≡ first (rows_of (`\n"
     "  and the other has `drop p (text_of t)` (found)",
-    "`span-at-spec`: expected type `Rattle.a.proofs.span_at.Reads.Post (c .κs) (..)`\n  but this has type `Rattle.a.specs.SpanAnswer (..) (Refused 13)`",
-    "`span-at-spec`: expected type `Rattle.a.proofs.span_at.Reads.Post (c .κs) (..)`\n  but this has type `Rattle.a.specs.SpanAnswer (..) (Refused 13)`\n"
+    "`span-at-spec`: expected type `Rattle.a.proofs.span_at.Reads.Post (c .κs) (..)`\n  but this has type `Rattle.a.specs.IsSpanAnswer (..) (Err AnswerDoesNotFit)`",
+    "`span-at-spec`: expected type `Rattle.a.proofs.span_at.Reads.Post (c .κs) (..)`\n  but this has type `Rattle.a.specs.IsSpanAnswer (..) (Err AnswerDoesNotFit)`\n"
     "  computed as far as it goes, the expected one begins `Rattle.b.specs.Answers.Allowed {A = ..} …`",
     "`stands-spec`: expected type `mathlib.Core.Path.◌≡◌ (c.same_at.result) (same_list ..)`\n"
     "  but this has type `Rattle.b.proofs.same_at.Reads.Learnt (c.lifetimes) (..)`\n  computed as far as it goes, the found one begins `Path Bool (c.same_at.result) …`",
@@ -358,7 +358,7 @@ PRINTED_SAMPLES = [
 
 def self_test():
     """Whether the samples of a false fact are accepted, and those of a misfit are not; and what is read of a log."""
-    contract = {"span_at": "SpanAnswer"}
+    contract = {"span_at": "IsSpanAnswer"}
     wrong = [s for s in FACT_SAMPLES if not false_fact(s, lambda name: contract.get(name.split(".")[-3], ""))]
     wrong += [s for s in FORM_SAMPLES if false_fact(s, lambda name: contract.get(name.split(".")[-3], ""))]
     wrong += [code for code in ("return f(x);", "if a { b }") if shape(code) == shape("return x;")]

@@ -4,7 +4,7 @@ ghost use Rattle.std.specs.Prelude.{◌≤◌};
 use crate::{beside, guide_cases, licence_cases, order_cases, output_cases, wrong};
 use cases_replies::Sizes;
 use cases_script::{InputKind, Question};
-use cases_tokens::hexadecimal::{Fault, Made};
+use cases_tokens::hexadecimal::Fault;
 
 // Room for the table of a scan.
 const TABLE: usize = 512;
@@ -103,8 +103,8 @@ fn of_tree(script: &[u8], line: &[u8], question: Question, bytes: &mut [u8], len
     }
     let made = cases_script::named(script, cases_tokens::token(line, 1), bytes);
     match made {
-        Made::Bytes(n) => put(question, &bytes[..n], line, &mut lent[..size]),
-        Made::Wrong(f) => wrong::fault(f),
+        Ok(n) => put(question, &bytes[..n], line, &mut lent[..size]),
+        Err(f) => wrong::fault(f),
     }
 }
 
@@ -164,8 +164,8 @@ fn build(script: &[u8], line: &[u8], question: Question, bytes: &mut [u8], lent:
     }
     let made = cases_script::named(script, cases_tokens::token(line, 1), bytes);
     match made {
-        Made::Bytes(n) => build_of(&bytes[..n], line, question, &mut lent[..size]),
-        Made::Wrong(f) => wrong::fault(f),
+        Ok(n) => build_of(&bytes[..n], line, question, &mut lent[..size]),
+        Err(f) => wrong::fault(f),
     }
 }
 
@@ -174,8 +174,8 @@ fn build_of(text: &[u8], line: &[u8], question: Question, lent: &mut [u8]) {
     let mut counted = [0u8; 256];
     let made = cases_tokens::hex(cases_tokens::token(line, 5), &mut counted);
     match made {
-        Made::Bytes(n) => build_counting(text, line, question, &counted[..n], lent),
-        Made::Wrong(f) => wrong::fault(f),
+        Ok(n) => build_counting(text, line, question, &counted[..n], lent),
+        Err(f) => wrong::fault(f),
     }
 }
 

@@ -1,7 +1,7 @@
 // Questions with bytes in addition to the tree: a tree, the bytes in hexadecimal, and a number.
 use crate::{ask, wrong};
 use cases_script::Question;
-use cases_tokens::hexadecimal::{Fault, Made};
+use cases_tokens::hexadecimal::Fault;
 
 // Room for the table.
 const ROOM: usize = 512;
@@ -13,8 +13,8 @@ pub fn ask(script: &[u8], line: &[u8], question: Question, bytes: &mut [u8]) {
     }
     let made = cases_script::named(script, cases_tokens::token(line, 1), bytes);
     match made {
-        Made::Bytes(n) => of_tree(question, &bytes[..n], line),
-        Made::Wrong(f) => wrong::fault(f),
+        Ok(n) => of_tree(question, &bytes[..n], line),
+        Err(f) => wrong::fault(f),
     }
 }
 
@@ -23,8 +23,8 @@ fn of_tree(question: Question, tree: &[u8], line: &[u8]) {
     let mut beside = [0u8; 300];
     let made = cases_tokens::hex(cases_tokens::token(line, 2), &mut beside);
     match made {
-        Made::Bytes(n) => put(question, tree, &beside[..n], cases_tokens::figure(line, 3)),
-        Made::Wrong(f) => wrong::fault(f),
+        Ok(n) => put(question, tree, &beside[..n], cases_tokens::figure(line, 3)),
+        Err(f) => wrong::fault(f),
     }
 }
 

@@ -1,10 +1,9 @@
 // Questions on a guide: a tree, the words of a guide in decimal, separated by commas, and numbers.
-ghost use Rattle.std.specs.Prelude.{◌≡◌, ℕ, ◌≤◌, length};
-ghost use Rattle.cases_tokens.specs.declared.hexadecimal.Made.TheVariants.{Bytes};
+ghost use Rattle.std.specs.Prelude.{◌≡◌, ℕ, ◌≤◌, length, Ok};
 
 use crate::{ask, wrong};
 use cases_tokens::decimal;
-use cases_tokens::hexadecimal::{Fault, Made};
+use cases_tokens::hexadecimal::Fault;
 use layout::word;
 
 // Room for a guide's bytes.
@@ -36,8 +35,8 @@ fn make(script: &[u8], line: &[u8], bytes: &mut [u8]) {
     }
     let made = cases_script::named(script, cases_tokens::token(line, 1), bytes);
     match made {
-        Made::Bytes(n) => make_of(&bytes[..n], cases_tokens::figure(line, 2) as usize),
-        Made::Wrong(f) => wrong::fault(f),
+        Ok(n) => make_of(&bytes[..n], cases_tokens::figure(line, 2) as usize),
+        Err(f) => wrong::fault(f),
     }
 }
 
@@ -60,8 +59,8 @@ fn beside(script: &[u8], line: &[u8], last: u32, bytes: &mut [u8]) {
     }
     let made = cases_script::named(script, cases_tokens::token(line, 1), bytes);
     match made {
-        Made::Bytes(n) => of_tree(&bytes[..n], line),
-        Made::Wrong(f) => wrong::fault(f),
+        Ok(n) => of_tree(&bytes[..n], line),
+        Err(f) => wrong::fault(f),
     }
 }
 
@@ -70,8 +69,8 @@ fn of_tree(tree: &[u8], line: &[u8]) {
     let mut guide = [0u8; ROOM];
     let made = guide_of(cases_tokens::token(line, 2), &mut guide);
     match made {
-        Made::Bytes(n) => put(tree, &guide[..n], line),
-        Made::Wrong(f) => wrong::fault(f),
+        Ok(n) => put(tree, &guide[..n], line),
+        Err(f) => wrong::fault(f),
     }
 }
 
@@ -90,26 +89,26 @@ fn put(tree: &[u8], guide: &[u8], line: &[u8]) {
 }
 
 // The bytes of a guide's words; `-` is none.
-fn guide_of(listed: &[u8], out: &mut [u8]) -> Made
-    ensures { (n : ℕ) → result ≡ Bytes n → n ≤ length out.old }
+fn guide_of(listed: &[u8], out: &mut [u8]) -> Result<usize, Fault>
+    ensures { (n : ℕ) → result ≡ Ok n → n ≤ length out.old }
 {
     if check::same(listed, b"-") {
-        return Made::Bytes(0);
+        return Ok(0);
     }
     let mut n: usize = 0;
     let mut at: usize = 0;
     // A `while`: an entry starts where the one before it ends, and `past` finds that place in the body.
     while at < listed.len() {
         if out.len() - n < 4 {
-            return Made::Wrong(Fault::Room);
+            return Err(Fault::Room);
         }
         let number = decimal::read_number(cases_tokens::until(listed, at, 44));
         let Some(value) = number else {
-            return Made::Wrong(Fault::Number);
+            return Err(Fault::Number);
         };
         word::write(out, n, value);
         n += 4;
         at = cases_tokens::past(listed, at, 44);
     }
-    Made::Bytes(n)
+    Ok(n)
 }

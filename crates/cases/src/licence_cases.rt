@@ -2,7 +2,7 @@
 ghost use Rattle.std.specs.Prelude.{◌≤◌};
 
 use crate::wrong;
-use cases_tokens::hexadecimal::{Fault, Made};
+use cases_tokens::hexadecimal::Fault;
 
 // Room for a day, and for more bytes than a day has.
 const ROOM: usize = 64;
@@ -42,8 +42,8 @@ fn with_first(line: &[u8], days: u32) {
     let mut first = [0u8; ROOM];
     let made = cases_tokens::hex(cases_tokens::token(line, 1), &mut first);
     match made {
-        Made::Bytes(n) => of_one(&mut first[..n], line, days),
-        Made::Wrong(f) => wrong::fault(f),
+        Ok(n) => of_one(&mut first[..n], line, days),
+        Err(f) => wrong::fault(f),
     }
 }
 
@@ -60,8 +60,8 @@ fn with_second(first: &[u8], line: &[u8], days: u32) {
     let mut second = [0u8; ROOM];
     let made = cases_tokens::hex(cases_tokens::token(line, 2), &mut second);
     match made {
-        Made::Bytes(n) => of_two(first, &second[..n], line, days),
-        Made::Wrong(f) => wrong::fault(f),
+        Ok(n) => of_two(first, &second[..n], line, days),
+        Err(f) => wrong::fault(f),
     }
 }
 
@@ -78,7 +78,7 @@ fn with_third(first: &[u8], second: &[u8], line: &[u8]) {
     let mut third = [0u8; ROOM];
     let made = cases_tokens::hex(cases_tokens::token(line, 3), &mut third);
     match made {
-        Made::Bytes(n) => cases_replies::licence_replies::open_on(first, second, &third[..n]),
-        Made::Wrong(f) => wrong::fault(f),
+        Ok(n) => cases_replies::licence_replies::open_on(first, second, &third[..n]),
+        Err(f) => wrong::fault(f),
     }
 }

@@ -1,6 +1,6 @@
 // The order of two trees: a line names both.
 use crate::wrong;
-use cases_tokens::hexadecimal::{Fault, Made};
+use cases_tokens::hexadecimal::Fault;
 
 // Room for the second tree.
 const ROOM: usize = 16384;
@@ -21,8 +21,8 @@ pub fn line(script: &[u8], line: &[u8], bytes: &mut [u8]) -> bool {
 fn ask(script: &[u8], line: &[u8], bytes: &mut [u8]) {
     let made = cases_script::named(script, cases_tokens::token(line, 1), bytes);
     match made {
-        Made::Bytes(n) => beside(script, line, &bytes[..n]),
-        Made::Wrong(f) => wrong::fault(f),
+        Ok(n) => beside(script, line, &bytes[..n]),
+        Err(f) => wrong::fault(f),
     }
 }
 
@@ -31,7 +31,7 @@ fn beside(script: &[u8], line: &[u8], one: &[u8]) {
     let mut room = [0u8; ROOM];
     let made = cases_script::named(script, cases_tokens::token(line, 2), &mut room);
     match made {
-        Made::Bytes(n) => cases_replies::order_replies::order(one, &room[..n]),
-        Made::Wrong(f) => wrong::fault(f),
+        Ok(n) => cases_replies::order_replies::order(one, &room[..n]),
+        Err(f) => wrong::fault(f),
     }
 }

@@ -3,7 +3,7 @@
 ghost use Rattle.std.specs.Prelude.{◌≤◌};
 
 use crate::{ask, wrong};
-use cases_tokens::hexadecimal::{Fault, Made};
+use cases_tokens::hexadecimal::Fault;
 
 // Answers a line that starts with one of these words. Returns whether it does.
 pub fn line(script: &[u8], line: &[u8], bytes: &mut [u8], lent: &mut [u8]) -> bool {
@@ -49,8 +49,8 @@ fn ask(script: &[u8], line: &[u8], last: u32, bytes: &mut [u8], lent: &mut [u8])
     }
     let made = cases_script::named(script, cases_tokens::token(line, 1), bytes);
     match made {
-        Made::Bytes(n) => put(&bytes[..n], line, &mut lent[..size]),
-        Made::Wrong(f) => wrong::fault(f),
+        Ok(n) => put(&bytes[..n], line, &mut lent[..size]),
+        Err(f) => wrong::fault(f),
     }
 }
 

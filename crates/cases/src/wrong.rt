@@ -1,5 +1,5 @@
 // The output for a wrong line.
-use cases_tokens::hexadecimal::{Fault, Made};
+use cases_tokens::hexadecimal::Fault;
 
 // Prints what is wrong with a line.
 pub fn say(words: &[u8]) {
@@ -18,9 +18,8 @@ pub fn fault(fault: Fault) {
 }
 
 // Prints nothing if a line gives bytes.
-pub fn made(made: Made) {
-    match made {
-        Made::Bytes(_) => {}
-        Made::Wrong(f) => fault(f),
+pub fn made(made: Result<usize, Fault>) {
+    if let Err(f) = made {
+        fault(f);
     }
 }

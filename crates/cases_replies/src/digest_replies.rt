@@ -2,7 +2,7 @@
 use crate::say;
 
 pub fn digest(tree: &[u8], out: &mut [u8]) {
-    say::number(query::digest(tree, out));
+    say::result(query::digest(tree, out));
     say::held(out);
 }
 

@@ -1,4 +1,5 @@
 // Prints the parts of an answer.
+use refusals::Refusal;
 
 // A refusal.
 pub fn number(number: u32) {
@@ -12,24 +13,26 @@ pub fn figure(figure: u64) {
     io::print_decimal(1, figure);
 }
 
-// A refusal and two figures.
-pub fn three(n: u32, a: u64, b: u64) {
-    number(n);
-    figure(a);
-    figure(b);
+// The refusal of a call that returns no figure, 0 for none.
+pub fn result(answer: Result<(), Refusal>) {
+    number(refusals::result_refusal(answer));
 }
 
-// A refusal, a figure, and the bytes of a buffer.
-pub fn buffer(n: u32, a: u64, bytes: &[u8]) {
-    number(n);
-    figure(a);
-    held(bytes);
-}
-
-// A refusal, two figures, and the bytes of a buffer.
-pub fn two_and_buffer(n: u32, a: u64, b: u64, bytes: &[u8]) {
-    three(n, a, b);
-    held(bytes);
+// The refusal of a call, 0 for none, and its figures, each 0 if it is refused.
+pub fn figures<const N: usize>(answer: Result<[u64; N], Refusal>) {
+    let shown = match answer {
+        Ok(found) => {
+            number(0);
+            found
+        }
+        Err(refusal) => {
+            number(refusal.number());
+            [0; N]
+        }
+    };
+    for value in shown {
+        figure(value);
+    }
 }
 
 // The bytes of a buffer, `-` if it has none.
@@ -41,10 +44,8 @@ pub fn held(bytes: &[u8]) {
     hex(bytes);
 }
 
-// A refusal, a figure, and the words of a table.
-pub fn table(n: u32, a: u64, table: &[u32]) {
-    number(n);
-    figure(a);
+// The words of a table, `-` if it has none.
+pub fn table(table: &[u32]) {
     io::write_all(1, b" ");
     if table.len() == 0 {
         io::write_all(1, b"-");

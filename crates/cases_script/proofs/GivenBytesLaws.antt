@@ -10,6 +10,7 @@ use native.Mathlib.Omega.{arith}
 use lib.ListN.{length, get_or, set, take, drop, replicate, length-take, length-drop, length-append, length-replicate}
 use lib.Seq.{paste, take-paste, length-take-le, get_or-set_same, get_or-set_other, get_or-take, take_at, ext_get_or}
 use borrow.Author.Tests.{lt-ltb, le-ltb}
+use Rattle.std.specs.Prelude.{Result, Ok, Err, IsErrAnd}
 use Rattle.text.specs.Text.{tabulate}
 use Rattle.text.specs.ListLaws.{below_suc, length-tabulate, get_or-tabulate, tabulate-ext}
 use Rattle.cases_tokens.specs.Parts.{token_of}
@@ -18,8 +19,6 @@ use Rattle.cases_tokens.specs.Hexadecimals.{hex_bytes, hex_of, made_size}
 use Rattle.cases_tokens.proofs.HexadecimalLaws.{hex-all}
 use Rattle.cases_tokens.specs.declared.hexadecimal.Fault.{Fault}
 use Rattle.cases_tokens.specs.declared.hexadecimal.Fault.TheVariants as fault
-use Rattle.cases_tokens.specs.declared.hexadecimal.Made.{Made}
-use Rattle.cases_tokens.specs.declared.hexadecimal.Made.TheVariants.{Bytes, Wrong}
 use Rattle.cases_script.specs.GivenBytes.{Given, Gives, script_first_of, hex_given, figure_of, repeated, times_over, repeat_given, plain_by, plain_given}
 use Rattle.cases_script.specs.GivenBytes.{pad_to, pad_given, make_by, make_given, named_given}
 use Rattle.cases_script.specs.LineWords.{input_kind}
@@ -58,47 +57,52 @@ script-empty (x ∷ l) e = absurd (let z : suc (length l) ≡ 0 = e in omega ari
 -- The bytes of a word in hexadecimal.
 
 -- A buffer that starts with the first n bytes of b.
-first_gives : (x : Made) (b buffer : List ℕ) → made_size x ≤ length b → take (made_size x) buffer ≡ take (made_size x) b → Gives buffer x (script_first_of x b)
-first_gives (Bytes n) b buffer h e = record { answer = ap (λ (k : ℕ). Bytes k) (sym (length-take-le n b h)); put = e }
-first_gives (Wrong f) b buffer h e = record { answer = refl; put = e }
+first_gives : (x : Result ℕ Fault) (b buffer : List ℕ) → made_size x ≤ length b → take (made_size x) buffer ≡ take (made_size x) b → Gives buffer x (script_first_of x b)
+first_gives (Ok n) b buffer h e = record { answer = ap (λ (k : ℕ). Ok k) (sym (length-take-le n b h)); put = e }
+first_gives (Err f) b buffer h e = record { answer = refl; put = e }
 
 take-start : (d s : List ℕ) (n : ℕ) → n ≤ length s → take n (paste d 0 s n) ≡ take n s
 take-start d s n h = ap (λ (k : ℕ). take k (paste d 0 s n)) (sym (zero-add n)) ∙ take-paste d 0 s n (omega arith) h
 
-pub hex-gives : (w entry exit : List ℕ) (r : Made)
+pub hex-gives : (w entry exit : List ℕ) (r : Result ℕ Fault)
     → r ≡ hex_of w (length entry) → exit ≡ paste entry 0 (hex_bytes w) (made_size r) → Gives exit r (hex_given w (length entry))
 unfolding hex_given
 hex-gives w entry exit r a e =
     let fits : made_size r ≤ length (hex_bytes w) = rw a (hex-all w (length entry)) in
     rw (← a) (first_gives r (hex_bytes w) exit fits (ap (λ (l : List ℕ). take (made_size r) l) e ∙ take-start entry (hex_bytes w) (made_size r) fits))
 
+-- The fault that `?` passes on.
+pub fault-passed-on : (r : Result ℕ Fault) (f : Fault) → IsErrAnd r (λ d. d ≡ f) → r ≡ Err f
+fault-passed-on (Ok n) f k = absurd k
+fault-passed-on (Err d) f k = ap Err k
+
 -- What is given, read off the buffer.
 
-not-both : (f : Fault) (n : ℕ) → Wrong f ≡ Bytes n → ⊥
+not-both : (f : Fault) (n : ℕ) → Err f ≡ Ok n → ⊥
 not-both f n z = let o : ◌≡◌ {A = ℕ} 0 1 = cc in omega arith
 
-module _ (mid : List ℕ) (r : Made) where
-  pub is-bytes : (g : Given) (k : ℕ) → Gives mid r g → r ≡ Bytes k → g ≡ bytes (take k mid)
+module _ (mid : List ℕ) (r : Result ℕ Fault) where
+  pub is-bytes : (g : Given) (k : ℕ) → Gives mid r g → r ≡ Ok k → g ≡ bytes (take k mid)
   is-bytes (bytes b) k h e = ap bytes (sym (rw e at h.put))
   is-bytes (none f) k h e = absurd (not-both f k (sym h.answer ∙ e))
 
-  pub is-fault : (g : Given) (f : Fault) → Gives mid r g → r ≡ Wrong f → g ≡ none f
+  pub is-fault : (g : Given) (f : Fault) → Gives mid r g → r ≡ Err f → g ≡ none f
   is-fault (bytes b) f h e = absurd (not-both f (length b) (sym e ∙ h.answer))
-  is-fault (none k) f h e = let z : Wrong k ≡ Wrong f = sym h.answer ∙ e in cc
+  is-fault (none k) f h e = let z : Err k ≡ Err f = sym h.answer ∙ e in cc
 
-  pub gives-inside : (g : Given) (k : ℕ) → Gives mid r g → r ≡ Bytes k → k ≤ length mid
+  pub gives-inside : (g : Given) (k : ℕ) → Gives mid r g → r ≡ Ok k → k ≤ length mid
   gives-inside (bytes b) k h e =
-      let z : Bytes (length b) ≡ Bytes k = sym h.answer ∙ e in
+      let z : Ok (length b) ≡ Ok k = sym h.answer ∙ e in
       let same : length b ≡ k = cc in
       omega (arith, same, simp length-take at (ap length h.put), rw e at (ap length h.put))
   gives-inside (none f) k h e = absurd (not-both f k (sym h.answer ∙ e))
 
-pub fault-gives : (buffer : List ℕ) (f : Fault) (g : Given) → none f ≡ g → Gives buffer (Wrong f) g
-fault-gives buffer f g e = let h : Gives buffer (Wrong f) (none f) = record { answer = refl; put = refl } in rw e at h
+pub fault-gives : (buffer : List ℕ) (f : Fault) (g : Given) → none f ≡ g → Gives buffer (Err f) g
+fault-gives buffer f g e = let h : Gives buffer (Err f) (none f) = record { answer = refl; put = refl } in rw e at h
 
-bytes-give : (buffer b : List ℕ) (n : ℕ) (g : Given) → bytes b ≡ g → length b ≡ n → take n buffer ≡ b → Gives buffer (Bytes n) g
+bytes-give : (buffer b : List ℕ) (n : ℕ) (g : Given) → bytes b ≡ g → length b ≡ n → take n buffer ≡ b → Gives buffer (Ok n) g
 bytes-give buffer b n g e l t =
-    let h : Gives buffer (Bytes n) (bytes b) = record { answer = ap (λ (k : ℕ). Bytes k) (sym l); put = t } in
+    let h : Gives buffer (Ok n) (bytes b) = record { answer = ap (λ (k : ℕ). Ok k) (sym l); put = t } in
     rw e at h
 
 -- The first k bytes of a buffer, repeated.
@@ -113,13 +117,13 @@ module _ (entry : List ℕ) (k times : ℕ) (inside : k ≤ length entry) where
   unfolding repeated
   over-length = length-tabulate (length (take k entry) * times) _ ∙ ap (λ (n : ℕ). n * times) long
 
-  pub over_none : k ≡ 0 → Gives entry (Bytes 0) (times_over (bytes (take k entry)) times (length entry))
+  pub over_none : k ≡ 0 → Gives entry (Ok 0) (times_over (bytes (take k entry)) times (length entry))
   over_none z =
       let none : k * times ≡ 0 = rw z (zero-mul times) in
       bytes-give entry (repeated (take k entry) times)
       0 _ (over-fits (omega (arith, none))) (over-length ∙ none) (sym (script-empty (repeated (take k entry) times) (over-length ∙ none)))
 
-  pub over-long : 0 < k → length entry / k < times → Gives entry (Wrong fault.Room) (times_over (bytes (take k entry)) times (length entry))
+  pub over-long : 0 < k → length entry / k < times → Gives entry (Err fault.Room) (times_over (bytes (take k entry)) times (length entry))
   over-long p h =
       let past : length entry < k * times = rw (mul_comm times k) at ((div-lt_iff_lt-mul p).0 h) in
       fault-gives entry fault.Room _ (simp (lt-ltb (length entry) (length (take k entry) * times) (rw long past)))
@@ -129,7 +133,7 @@ module _ (entry : List ℕ) (k times : ℕ) (inside : k ≤ length entry) where
 
   pub over-all : (last rest : List ℕ) → 0 < k → k * times ≤ length entry
       → last ≡ tabulate (length (take (k * times) entry)) (λ i. get_or (take (k * times) entry) (i % k) 0)
-      → Gives (last ++ rest) (Bytes (k * times)) (times_over (bytes (take k entry)) times (length entry))
+      → Gives (last ++ rest) (Ok (k * times)) (times_over (bytes (take k entry)) times (length entry))
   unfolding repeated
   over-all last rest p h e =
       bytes-give (last ++ rest)
@@ -149,14 +153,14 @@ module _ (entry : List ℕ) (n to : ℕ) (inside : n ≤ length entry) where
   head : length (take n entry) ≡ n
   head = length-take-le n entry inside
 
-  pub pad-short : to < n → Gives entry (Wrong fault.Number) (pad_to (bytes (take n entry)) to (length entry))
+  pub pad-short : to < n → Gives entry (Err fault.Number) (pad_to (bytes (take n entry)) to (length entry))
   pad-short h = fault-gives entry fault.Number _ (simp (lt-ltb to (length (take n entry)) (rw head h)))
 
-  pub pad-long : n ≤ to → length entry < to → Gives entry (Wrong fault.Room) (pad_to (bytes (take n entry)) to (length entry))
+  pub pad-long : n ≤ to → length entry < to → Gives entry (Err fault.Room) (pad_to (bytes (take n entry)) to (length entry))
   pad-long h l = fault-gives entry fault.Room _ (simp (le-ltb to (length (take n entry)) (rw head h), lt-ltb (length entry) to l))
 
   pub pad-all : (zeros rest : List ℕ) → n ≤ to → to ≤ length entry → zeros ≡ replicate (length (take (to - n) (drop n entry))) 0
-      → Gives (take n entry ++ (zeros ++ rest)) (Bytes to) (pad_to (bytes (take n entry)) to (length entry))
+      → Gives (take n entry ++ (zeros ++ rest)) (Ok to) (pad_to (bytes (take n entry)) to (length entry))
   pad-all zeros rest h l e =
       bytes-give (take n entry ++ (zeros ++ rest)) padded to _
       (simp (le-ltb to (length (take n entry)) (rw head h), le-ltb (length entry) to l)) whole
@@ -177,16 +181,16 @@ module _ (entry : List ℕ) (n to : ℕ) (inside : n ≤ length entry) where
 
 -- A line whose fourth token is a number n, and which makes f of what its third token gives.
 module _ (f : Given → ℕ → ℕ → Given) (keeps : (k : Fault) (n m : ℕ) → f (none k) n m ≡ none k) (right b : Bool) (q : b ≡ right) (g : Given) (n room : ℕ) where
-  module _ (mid : List ℕ) (x : Made) (got : Gives mid x g) (z : b ≡ true) where
+  module _ (mid : List ℕ) (x : Result ℕ Fault) (got : Gives mid x g) (z : b ≡ true) where
     opened : f g n room ≡ cond right (f g n room) (none fault.Number)
     opened = simp (sym q ∙ z)
 
-    pub then-bytes : (exit : List ℕ) (r : Made) (k : ℕ) → x ≡ Bytes k
+    pub then-bytes : (exit : List ℕ) (r : Result ℕ Fault) (k : ℕ) → x ≡ Ok k
         → length mid ≡ room → Gives exit r (f (bytes (take k mid)) n (length mid)) → Gives exit r (cond right (f g n room) (none fault.Number))
     then-bytes exit r k e l h =
         subst (λ (y : Given). Gives exit r y) (ap (λ (y : Given). f y n (length mid)) (sym (is-bytes mid x g k got e)) ∙ ap (λ (m : ℕ). f g n m) l ∙ opened) h
 
-    pub then-fault : (k : Fault) → x ≡ Wrong k → Gives mid (Wrong k) (cond right (f g n room) (none fault.Number))
+    pub then-fault : (k : Fault) → x ≡ Err k → Gives mid (Err k) (cond right (f g n room) (none fault.Number))
     then-fault k e = fault-gives mid k _ (sym (keeps k n room) ∙ ap (λ (y : Given). f y n room) (sym (is-fault mid x g k got e)) ∙ opened)
 
 abbrev Repeated : List ℕ → List ℕ → ℕ → ℕ → Given
@@ -197,7 +201,7 @@ pub repeat-is : (line w : List ℕ) (times room : ℕ)
 unfolding repeat_given figure_of
 repeat-is line w times room e t = rw (e, t)
 
-pub repeat-bad : (line entry : List ℕ) (b : Bool) → b ≡ figures_right line 3 4 → b ≡ false → Gives entry (Wrong fault.Number) (repeat_given line (length entry))
+pub repeat-bad : (line entry : List ℕ) (b : Bool) → b ≡ figures_right line 3 4 → b ≡ false → Gives entry (Err fault.Number) (repeat_given line (length entry))
 unfolding repeat_given
 repeat-bad line entry b q z = fault-gives entry fault.Number _ (simp (sym q ∙ z))
 
@@ -213,14 +217,14 @@ unfolding pad_given figure_of
 pad-is script line w base to room e b t = rw (b, e, t)
 
 pub pad-bad : (script line entry : List ℕ) (b : Bool)
-    → b ≡ figures_right line 3 4 → b ≡ false → Gives entry (Wrong fault.Number) (pad_given script line (length entry))
+    → b ≡ figures_right line 3 4 → b ≡ false → Gives entry (Err fault.Number) (pad_given script line (length entry))
 unfolding pad_given
 pad-bad script line entry b q z = fault-gives entry fault.Number _ (simp (sym q ∙ z))
 
 pub pad-keeps : (k : Fault) (n m : ℕ) → pad_to (none k) n m ≡ none k
 pad-keeps k n m = refl
 
-pub as-given : {buffer : List ℕ} {r : Made} {g h : Given} → g ≡ h → Gives buffer r g → Gives buffer r h
+pub as-given : {buffer : List ℕ} {r : Result ℕ Fault} {g h : Given} → g ≡ h → Gives buffer r g → Gives buffer r h
 as-given {buffer} {r} e a = subst (λ (y : Given). Gives buffer r y) e a
 
 -- A line by its word.

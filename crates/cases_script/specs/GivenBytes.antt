@@ -1,13 +1,11 @@
 -- The bytes that lines give.
-use Rattle.std.specs.Prelude.{List, [], ◌++◌, cond, ◌≡◌, ℕ, ◌-◌, ◌*◌, ◌%◌, length, get_or, take, replicate, ltb}
+use Rattle.std.specs.Prelude.{List, [], ◌++◌, cond, ◌≡◌, ℕ, ◌-◌, ◌*◌, ◌%◌, length, get_or, take, replicate, ltb, Result, Ok, Err}
 use Rattle.text.specs.Text.{tabulate}
 use Rattle.cases_tokens.specs.Parts.{token_of}
 use Rattle.cases_tokens.specs.Decimals.{number_of, value_of, figures_right}
 use Rattle.cases_tokens.specs.Hexadecimals.{hex_bytes, hex_of, made_size}
 use Rattle.cases_tokens.specs.declared.hexadecimal.Fault.{Fault}
 use Rattle.cases_tokens.specs.declared.hexadecimal.Fault.TheVariants as fault
-use Rattle.cases_tokens.specs.declared.hexadecimal.Made.{Made}
-use Rattle.cases_tokens.specs.declared.hexadecimal.Made.TheVariants.{Bytes, Wrong}
 use Rattle.cases_script.specs.LineWords.{input_kind}
 use Rattle.cases_script.specs.NameLine.{giving_line}
 use Rattle.cases_script.specs.declared.line_words.InputKind.{InputKind}
@@ -18,22 +16,22 @@ pub data Given : Type 0 where
   bytes : List ℕ → Given
   none : Fault → Given
 
-abbrev pub made_of : Given → Made
-made_of (bytes b) = Bytes (length b)
-made_of (none f) = Wrong f
+abbrev pub made_of : Given → Result ℕ Fault
+made_of (bytes b) = Ok (length b)
+made_of (none f) = Err f
 
 abbrev pub bytes_of : Given → List ℕ
 bytes_of (bytes b) = b
 bytes_of (none f) = []
 
 -- r is the number of bytes given, or the fault; the buffer starts with these bytes.
-pub record Gives (buffer : List ℕ) (r : Made) (g : Given) : Type 0 where
+pub record Gives (buffer : List ℕ) (r : Result ℕ Fault) (g : Given) : Type 0 where
   pub answer : r ≡ made_of g
   pub put : take (made_size r) buffer ≡ bytes_of g
 
-abbrev pub script_first_of : Made → List ℕ → Given
-script_first_of (Bytes n) b = bytes (take n b)
-script_first_of (Wrong f) b = none f
+abbrev pub script_first_of : Result ℕ Fault → List ℕ → Given
+script_first_of (Ok n) b = bytes (take n b)
+script_first_of (Err f) b = none f
 
 -- Bytes in hexadecimal, for a buffer of `room` bytes.
 unfoldable pub hex_given : List ℕ → ℕ → Given

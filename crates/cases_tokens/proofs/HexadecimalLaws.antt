@@ -7,6 +7,7 @@ use native.Mathlib.Numerals.{add-one}
 use native.Mathlib.Omega.{arith}
 use lib.ListN.{length, get_or, set, take, drop}
 use lib.Seq.{paste, get_or-set_other, get_or-set_same, ext_get_or}
+use Rattle.std.specs.Prelude.{Result, Ok, Err}
 use Rattle.std.proofs.Common.{take_all}
 use borrow.Author.Count.{below_more}
 use lib.Dec.{ltb, leb, eqb}
@@ -14,9 +15,8 @@ use borrow.Author.Tests.{lt-ltb, le-ltb, le-leb, lt-leb, leb-true, ltb-false, eq
 use Rattle.text.specs.Text.{all_below, same_list}
 use Rattle.text.specs.ListLaws.{bool_clash, all_below-at, all_below-not, and_both, eq-same_list, ne-same_list, length-tabulate, get_or-tabulate}
 use Rattle.cases_tokens.specs.Hexadecimals.{digit_of, byte_of, token_byte_at, all_hex, hex_bytes, hex_of, made_size}
-use Rattle.cases_tokens.specs.declared.hexadecimal.Fault.TheVariants as Fault
-use Rattle.cases_tokens.specs.declared.hexadecimal.Made.TheVariants as Made
-use Rattle.cases_tokens.specs.declared.hexadecimal.Made as made
+use Rattle.cases_tokens.specs.declared.hexadecimal.Fault.TheVariants as fault
+use Rattle.cases_tokens.specs.declared.hexadecimal.Fault.{Fault}
 
 module _ (word : List ℕ) (i high low : ℕ) (h : high ≡ digit_of (get_or word (2 * i) 0)) (l : low ≡ digit_of (get_or word (2 * i + 1) 0)) where
   pub byte-none : 15 < low → 256 ≡ token_byte_at word i
@@ -81,39 +81,39 @@ dash = 45 ∷ []
 not-dash : (word : List ℕ) (b : Bool) → b ≡ false → (word ≡ dash → b ≡ true) → same_list word dash ≡ false
 not-dash word b f h = ne-same_list word dash (λ e. bool_clash b (h e) f)
 
-pub hex-dash : (word : List ℕ) (room : ℕ) → word ≡ dash → Made.Bytes 0 ≡ hex_of word room
+pub hex-dash : (word : List ℕ) (room : ℕ) → word ≡ dash → Ok 0 ≡ hex_of word room
 unfolding hex_of
 hex-dash word room e = simp (eq-same_list word dash e)
 
 -- b is the answer whether the word is `-`
 module _ (word : List ℕ) (room : ℕ) (b : Bool) (f : b ≡ false) (h : word ≡ dash → b ≡ true) where
-  pub hex-odd : (length word % 2 ≡ 0 → ⊥) → Made.Wrong Fault.Hex ≡ hex_of word room
+  pub hex-odd : (length word % 2 ≡ 0 → ⊥) → Err fault.Hex ≡ hex_of word room
   unfolding hex_of
   hex-odd o = simp (not-dash word b f h, ne_eqb (length word % 2) 0 o)
 
   module _ (even : length word % 2 ≡ 0) where
-    pub hex-empty : length word ≡ 0 → Made.Wrong Fault.Hex ≡ hex_of word room
+    pub hex-empty : length word ≡ 0 → Err fault.Hex ≡ hex_of word room
     unfolding hex_of
     hex-empty z = simp (not-dash word b f h, eq-eqb (length word % 2) 0 even, eq-eqb (length word) 0 z)
 
     module _ (some : length word ≡ 0 → ⊥) (a : Bool) (all : a ≡ all_hex word) where
-      pub hex-other : a ≡ false → Made.Wrong Fault.Hex ≡ hex_of word room
+      pub hex-other : a ≡ false → Err fault.Hex ≡ hex_of word room
       unfolding hex_of
       hex-other n = simp (not-dash word b f h, eq-eqb (length word % 2) 0 even, ne_eqb (length word) 0 some, sym all ∙ n)
 
-      pub hex-long : a ≡ true → room < length word / 2 → Made.Wrong Fault.Room ≡ hex_of word room
+      pub hex-long : a ≡ true → room < length word / 2 → Err fault.Room ≡ hex_of word room
       unfolding hex_of
       hex-long y l = simp (not-dash word b f h, eq-eqb (length word % 2) 0 even, ne_eqb (length word) 0 some, sym all ∙ y, lt-ltb room (length word / 2) l)
 
-      pub hex-fits : a ≡ true → length word / 2 ≤ room → Made.Bytes (length word / 2) ≡ hex_of word room
+      pub hex-fits : a ≡ true → length word / 2 ≤ room → Ok (length word / 2) ≡ hex_of word room
       unfolding hex_of
       hex-fits y l = simp (not-dash word b f h, eq-eqb (length word % 2) 0 even, ne_eqb (length word) 0 some, sym all ∙ y, le-ltb room (length word / 2) l)
 
 -- A word gives no more bytes than the buffer has, and no more than it represents.
 
 token-sizes : (a b c d e : Bool) (n m : ℕ) → (e ≡ false → n ≤ m)
-    → made_size (cond a (Made.Bytes 0) (cond b
-    (cond c (Made.Wrong Fault.Hex) (cond d (cond e (Made.Wrong Fault.Room) (Made.Bytes n)) (Made.Wrong Fault.Hex))) (Made.Wrong Fault.Hex))) ≤ m
+    → made_size (cond a (Ok 0) (cond b
+    (cond c (Err fault.Hex) (cond d (cond e (Err fault.Room) (Ok n)) (Err fault.Hex))) (Err fault.Hex))) ≤ m
 token-sizes true b c d e n m h = omega arith
 token-sizes false false c d e n m h = omega arith
 token-sizes false true true d e n m h = omega arith
@@ -134,5 +134,5 @@ module _ (word : List ℕ) (room : ℕ) where
       (token-sizes (same_list word dash) (eqb (length word % 2) 0)
       (eqb (length word) 0) (all_hex word) (ltb room (length word / 2)) (length word / 2) (length word / 2) (λ _. omega arith))
 
-  pub hex-inside : (r : made.Made) (n : ℕ) → r ≡ hex_of word room → r ≡ Made.Bytes n → n ≤ room
+  pub hex-inside : (r : Result ℕ Fault) (n : ℕ) → r ≡ hex_of word room → r ≡ Ok n → n ≤ room
   hex-inside r n a e = rw (sym a ∙ e) at hex-within

@@ -1,9 +1,8 @@
 -- The bytes that a token represents in hexadecimal.
-use Rattle.std.specs.Prelude.{List, [], ◌∷◌, Bool, cond, ℕ, ◌+◌, ◌-◌, ◌*◌, ◌/◌, ◌%◌, length, get_or, eqb, ltb, leb}
+use Rattle.std.specs.Prelude.{List, [], ◌∷◌, Bool, cond, ℕ, ◌+◌, ◌-◌, ◌*◌, ◌/◌, ◌%◌, length, get_or, eqb, ltb, leb, Result, Ok, Err}
 use Rattle.text.specs.Text.{all_below, tabulate, same_list}
+use Rattle.cases_tokens.specs.declared.hexadecimal.Fault.{Fault}
 use Rattle.cases_tokens.specs.declared.hexadecimal.Fault.TheVariants as fault
-use Rattle.cases_tokens.specs.declared.hexadecimal.Made.{Made}
-use Rattle.cases_tokens.specs.declared.hexadecimal.Made.TheVariants.{Bytes, Wrong}
 
 -- The value of a digit, 0 to 9 or a to f; 16 for any other byte.
 unfoldable pub digit_of : ℕ → ℕ
@@ -26,16 +25,16 @@ unfoldable pub hex_bytes : List ℕ → List ℕ
 hex_bytes word = tabulate (length word / 2) (token_byte_at word)
 
 -- The number of bytes that a word gives to a buffer of some size: none for `-`, else one for each two digits.
-unfoldable pub hex_of : List ℕ → ℕ → Made
+unfoldable pub hex_of : List ℕ → ℕ → Result ℕ Fault
 hex_of word room =
-    cond (same_list word (45 ∷ [])) (Bytes 0)
+    cond (same_list word (45 ∷ [])) (Ok 0)
     (cond (eqb (length word % 2) 0)
-    (cond (eqb (length word) 0) (Wrong fault.Hex)
+    (cond (eqb (length word) 0) (Err fault.Hex)
     (cond (all_hex word)
-    (cond (ltb room (length word / 2)) (Wrong fault.Room) (Bytes (length word / 2)))
-    (Wrong fault.Hex)))
-    (Wrong fault.Hex))
+    (cond (ltb room (length word / 2)) (Err fault.Room) (Ok (length word / 2)))
+    (Err fault.Hex)))
+    (Err fault.Hex))
 
-abbrev pub made_size : Made → ℕ
-made_size (Bytes n) = n
-made_size (Wrong f) = 0
+abbrev pub made_size : Result ℕ Fault → ℕ
+made_size (Ok n) = n
+made_size (Err f) = 0

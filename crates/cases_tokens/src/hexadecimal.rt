@@ -12,13 +12,6 @@ pub enum Fault {
     Room,
 }
 
-// The number of bytes written to the start of the buffer, or why there are none.
-#[derive(Clone, Copy)]
-pub enum Made {
-    Bytes(usize),
-    Wrong(Fault),
-}
-
 // The value of a hexadecimal digit, 16 for any other byte.
 fn digit(b: u8) -> u32
     ensures { (result ≡ digit_of b) × (result ≤ 16) }
@@ -74,26 +67,26 @@ fn put(word: &[u8], out: &mut [u8])
     }
 }
 
-// Writes the bytes that a token represents to the start of the buffer.
-pub fn hex(word: &[u8], out: &mut [u8]) -> Made
+// Writes the bytes that a token represents to the start of the buffer, and returns their number.
+pub fn hex(word: &[u8], out: &mut [u8]) -> Result<usize, Fault>
     ensures value { result ≡ hex_of word.now (length out.old) }
     ensures out_after { out.new ≡ paste out.old 0 (hex_bytes word.now) (made_size result) }
 {
     if check::same(word, b"-") {
-        return Made::Bytes(0);
+        return Ok(0);
     }
     if word.len() % 2 != 0 {
-        return Made::Wrong(Fault::Hex);
+        return Err(Fault::Hex);
     }
     if word.len() == 0 {
-        return Made::Wrong(Fault::Hex);
+        return Err(Fault::Hex);
     }
     if !all_bytes(word) {
-        return Made::Wrong(Fault::Hex);
+        return Err(Fault::Hex);
     }
     if out.len() < word.len() / 2 {
-        return Made::Wrong(Fault::Room);
+        return Err(Fault::Room);
     }
     put(word, out);
-    Made::Bytes(word.len() / 2)
+    Ok(word.len() / 2)
 }

@@ -1,15 +1,15 @@
-use Prim.Native.Nat.{ℕ, ◌-◌}
+use Prim.Native.Nat.{ℕ}
 use mathlib.Core.Path.{◌≡◌, refl, ◌∙◌}
+use Rattle.std.specs.Prelude.{Result, Ok, Err}
 use native.Mathlib.Omega.{arith}
 use Rattle.cases_tokens.specs.declared.hexadecimal.Fault.{Fault}
-use Rattle.cases_tokens.specs.declared.hexadecimal.Made.TheVariants.{Bytes, Wrong}
 use Rattle.cases.proofs.guide_cases.guide_of.Goals as goal
 
-same_bytes : (m n : ℕ) → Bytes m ≡ Bytes n → m ≡ n
+same_bytes : (m n : ℕ) → ◌≡◌ {A = Result ℕ Fault} (Ok m) (Ok n) → m ≡ n
 same_bytes m n e = cc
 
-not-bytes : (f : Fault) (n : ℕ) → Wrong f ≡ Bytes n → ⊥
-not-bytes f n e = let z : ◌≡◌ {A = ℕ} 0 1 = cc in omega arith
+not-both : (f : Fault) (n : ℕ) → Err f ≡ Ok n → ⊥
+not-both f n e = let z : ◌≡◌ {A = ℕ} 0 1 = cc in omega arith
 
 pub returns-then-same : goal.returns-then-same
 returns-then-same c n e = omega (arith, same_bytes 0 n e)
@@ -24,7 +24,7 @@ pub shape_of-out-then-out-n-lt4 : goal.shape_of-out-then-out-n-lt4
 shape_of-out-then-out-n-lt4 c = c.loop-at.invariant.2
 
 pub returns-then-out-n-lt4 : goal.returns-then-out-n-lt4
-returns-then-out-n-lt4 c n e = absurd (not-bytes _ n e)
+returns-then-out-n-lt4 c n e = absurd (not-both _ n e)
 
 pub until-requires : goal.until-requires
 until-requires c = c.loop-at.invariant.0
@@ -33,7 +33,7 @@ pub shape_of-out-in_default : goal.shape_of-out-in_default
 shape_of-out-in_default c = c.loop-at.invariant.2
 
 pub returns-in_default : goal.returns-in_default
-returns-in_default c n e = absurd (not-bytes _ n e)
+returns-in_default c n e = absurd (not-both _ n e)
 
 pub write-requires : goal.write-requires
 write-requires c = omega (arith, c.if-out-n-lt4.false, c.loop-at.invariant.1)

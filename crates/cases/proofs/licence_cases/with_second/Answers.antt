@@ -5,7 +5,7 @@ use Rattle.cases_tokens.proofs.HexadecimalLaws.{hex-inside}
 use Rattle.cases.proofs.licence_cases.with_second.Goals as goal
 
 pub slice_bounds-second-end : goal.slice_bounds-second-end
-slice_bounds-second-end c = omega (arith, hex-inside _ 64 _ _ c.hex-made.ensures.value c.in-Bytes.is, c.hex-made.auto.out)
+slice_bounds-second-end c = omega (arith, hex-inside _ 64 _ _ c.hex-made.ensures.value c.in-Ok.is, c.hex-made.auto.out)
 
 pub slice_bounds-of_two-end : goal.slice_bounds-of_two-end
-slice_bounds-of_two-end c = sym (length-take-le c.in-Bytes.n c.hex-made.new.out (omega (arith, hex-inside _ 64 _ _ c.hex-made.ensures.value c.in-Bytes.is, c.hex-made.auto.out)))
+slice_bounds-of_two-end c = sym (length-take-le c.in-Ok.n c.hex-made.new.out (omega (arith, hex-inside _ 64 _ _ c.hex-made.ensures.value c.in-Ok.is, c.hex-made.auto.out)))

@@ -5,10 +5,10 @@ use Rattle.cases_script.proofs.GivenBytesLaws.{gives-inside}
 use Rattle.cases.proofs.output_cases.ask.Goals as goal
 
 pub slice_bounds-put-end : goal.slice_bounds-put-end
-slice_bounds-put-end c = gives-inside _ _ _ _ c.named-made.ensures c.in-Bytes.is
+slice_bounds-put-end c = gives-inside _ _ _ _ c.named-made.ensures c.in-Ok.is
 
-pub slice_bounds-put-end-in-Bytes : goal.slice_bounds-put-end-in-Bytes
-slice_bounds-put-end-in-Bytes c = sym (length-take-le c.in-Bytes.n c.named-made.new.out (gives-inside _ _ _ _ c.named-made.ensures c.in-Bytes.is))
+pub slice_bounds-put-end-in-Ok : goal.slice_bounds-put-end-in-Ok
+slice_bounds-put-end-in-Ok c = sym (length-take-le c.in-Ok.n c.named-made.new.out (gives-inside _ _ _ _ c.named-made.ensures c.in-Ok.is))
 
-pub slice_bounds-put-end-in-Bytes-3 : goal.slice_bounds-put-end-in-Bytes-3
-slice_bounds-put-end-in-Bytes-3 c = sym (length-take-le _ c.args.lent.now (omega arith))
+pub slice_bounds-put-end-in-Ok-3 : goal.slice_bounds-put-end-in-Ok-3
+slice_bounds-put-end-in-Ok-3 c = sym (length-take-le _ c.args.lent.now (omega arith))
