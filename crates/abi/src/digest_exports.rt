@@ -16,5 +16,5 @@ pub fn bt_digest_text(text: &[u8], out: &mut [u8]) -> u32
     ensures value { result ≡ digest_text_refusal (length out.old) }
     ensures out_after { out.new ≡ digest_text_buffer text.now out.old }
 {
-    sha256::digest_text(text, out)
+    refusals::result_refusal(sha256::digest_text(text, out))
 }

@@ -7,6 +7,6 @@ pub fn digest(tree: &[u8], out: &mut [u8]) {
 }
 
 pub fn digest_text(text: &[u8], out: &mut [u8]) {
-    say::number(sha256::digest_text(text, out));
+    say::result(sha256::digest_text(text, out));
     say::held(out);
 }

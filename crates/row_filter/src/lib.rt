@@ -106,6 +106,7 @@ pub fn scan<A: RowScanner>(
     let mut so_far = state;
     let mut q = row;
     let mut i = 0;
+    // A `while`: where the scan goes on is found in the step, so there is no range to go over.
     while i < part.len() {
         match automaton.advance(part, so_far, q, i) {
             ScanStep::Found(number) => {

@@ -74,8 +74,8 @@ module _ (κs : Lfts 2) (t : Borrowed) (out after : BorrowedMut) where
     ne_eqb (refusal_number q) 14 (λ z. other (one-number q PathBroken z)),
   )
 
-  -- digest_text returns 0 or 13.
-  pub digest-text-numbers : (r : ℕ) → DigestText κs t out after r → OneOf (13 ∷ 0 ∷ []) r
+  -- digest_text returns Ok, or is refused with 13.
+  pub digest-text-numbers : (r : Result ⊤ Refusal) → DigestText κs t out after r → OneOf (13 ∷ 0 ∷ []) (result_refusal r)
   digest-text-numbers r a = rw a.0 (text-one (length out.now))
 
 -- Every tree that the check accepts, with the one text that fits it.
