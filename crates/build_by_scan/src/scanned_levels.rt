@@ -10,7 +10,6 @@ ghost use Rattle.build_by_scan.specs.ScanAnswers.{windows_of};
 
 use crate::{scanned_fill, table};
 use build_levels::level_step;
-use build_levels::level_step::Step;
 use build_records::level_written::Level;
 use layout::settings::Settings;
 
@@ -43,7 +42,7 @@ fn put_levels(
         let put = scanned_fill::put_level(out, words, text, counted, level, seed);
         windows += put.windows;
         let step = level_step::go_down(out, text, counted, level, put.below);
-        let Step::To(next) = step else {
+        let Some(next) = step else {
             return LevelsPut {
                 size: 0,
                 windows: 0,
@@ -73,7 +72,7 @@ pub fn write_tree(
 {
     let seed = table::seed_of(words);
     let step = level_step::begin(out, text, counted, s);
-    let Step::To(first) = step else {
+    let Some(first) = step else {
         return LevelsPut {
             size: 0,
             windows: 0,

@@ -9,8 +9,8 @@ use Rattle.build_records.specs.declared.level_written.Level.{Level}
 use Rattle.build_records.specs.WritesOnlyTree.{WritesOnlyTree}
 use Rattle.build_records.specs.State.{record_settings_of}
 use Rattle.build_records.proofs.WritesOnlyTreeLaws.{only-tree-trans}
-use Rattle.build_levels.specs.declared.level_step.Step.{Step}
-use Rattle.build_levels.specs.declared.level_step.Step.TheVariants.{To, Full}
+use Rattle.std.specs.Prelude as prelude
+use Rattle.std.proofs.Common.{Some, None}
 use Rattle.build_levels.specs.Trees.{LevelReady, StepIs, TreeComplete}
 
 -- Before a level: it has the settings of the first, and the tree is written up to it.
@@ -20,12 +20,12 @@ pub record LevelReached (first : code.Settings) (cs T out₀ out : List ℕ) (le
   pub only_tree : WritesOnlyTree (tree_of (record_settings_of first cs) T) out₀ out
 
 -- A step came to a level, or found no room for it.
-module _ (first : code.Settings) (cs T out₀ new : List ℕ) (g : WritesOnlyTree (tree_of (record_settings_of first cs) T) out₀ new) (number : ℕ) (x : Step)
-    (is : StepIs (record_settings_of first cs) T new first number x) where
-  pub step-full : x ≡ Full → TreeComplete (tree_of (record_settings_of first cs) T) new 0
+module _ (first : code.Settings) (cs T out₀ new : List ℕ) (g : WritesOnlyTree (tree_of (record_settings_of first cs) T) out₀ new)
+    (number : ℕ) (x : prelude.Option Level) (is : StepIs (record_settings_of first cs) T new first number x) where
+  pub step-full : x ≡ None → TreeComplete (tree_of (record_settings_of first cs) T) new 0
   step-full e = inl (refl, is.full e)
 
-  module _ (next : Level) (e : x ≡ To next) where
+  module _ (next : Level) (e : x ≡ Some next) where
     pub step-number : next.number ≡ number
     step-number = (is.to next e).1
 
@@ -48,6 +48,6 @@ module _ (first : code.Settings) (cs T out₀ out : List ℕ) (level : Level) (r
         → TreeComplete (tree_of (record_settings_of first cs) T) new n
     finished-here n f = subst (λ (s : code.Settings). TreeComplete (tree_of (record_settings_of s cs) T) new n) r.same f
 
-    pub step-here : (number : ℕ) (x : Step)
+    pub step-here : (number : ℕ) (x : prelude.Option Level)
         → StepIs (record_settings_of level.settings cs) T new level.settings number x → StepIs (record_settings_of first cs) T new first number x
     step-here number x is = subst (λ (s : code.Settings). StepIs (record_settings_of s cs) T new s number x) r.same is

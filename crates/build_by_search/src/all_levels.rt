@@ -8,7 +8,6 @@ ghost use Rattle.build_levels.specs.Trees.{LevelReady, TreeComplete};
 
 use crate::level_fill;
 use build_levels::level_step;
-use build_levels::level_step::Step;
 use build_records::level_written::Level;
 use layout::settings::Settings;
 
@@ -23,7 +22,7 @@ fn put_levels(out: &mut [u8], text: &[u8], counted: &[u8], first: Level) -> u32
     for _ in first.number + 1..first.settings.levels {
         let count = level_fill::fill_level(out, text, counted, level);
         let step = level_step::go_down(out, text, counted, level, count);
-        let Step::To(next) = step else {
+        let Some(next) = step else {
             return 0;
         };
         level = next;
@@ -39,7 +38,7 @@ pub fn write_tree(out: &mut [u8], text: &[u8], counted: &[u8], s: Settings) -> u
     ensures tree_complete { TreeComplete (tree_of (record_settings_of s counted.now) text.now) out.new result }
 {
     let step = level_step::begin(out, text, counted, s);
-    let Step::To(first) = step else {
+    let Some(first) = step else {
         return 0;
     };
     put_levels(out, text, counted, first)

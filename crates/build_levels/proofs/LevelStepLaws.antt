@@ -17,7 +17,7 @@ use Rattle.theory_built.specs.SizeBounds.{offset-le}
 use Rattle.theory_built.specs.Shape.{tree-length}
 use Rattle.theory_built.specs.Built.{tree-small}
 use Rattle.build_records.specs.declared.level_written.Level.{Level}
-use Rattle.build_levels.specs.declared.level_step.Step.TheVariants.{To, Full}
+use Rattle.std.proofs.Common.{Some, None}
 use Rattle.build_records.specs.WritesOnlyTree.{WritesOnlyTree, AgreesOn}
 use Rattle.build_levels.specs.Head.{pair_written, unused_written}
 use Rattle.build_records.specs.RecordPlaces.{record_place}
@@ -145,13 +145,13 @@ module _ (T cs : List ℕ) (level : Level) (out two : List ℕ) (total : ℕ) (r
       next-few = record-few S T n n-level
 
       pub step-full : (p : ℕ) → p ≡ record_place n.table n.count (record_settings_of n.settings cs)
-          → length two < p → StepIs S T two level.settings (l + 1) Full
+          → length two < p → StepIs S T two level.settings (l + 1) None
       step-full p e k = step-none S T two level.settings (l + 1) (no_room p (rw n-is at e) k)
 
       pub step-below : (p : ℕ) → p ≡ record_place n.table n.count (record_settings_of n.settings cs) → p ≤ length two → Below S T two level n 0
       step-below p e k = rw n-is (below-first p (rw n-is at e) k)
 
-      pub step-to : (new : List ℕ) → WritesOnlyTree D two new → RecordsUpTo S T new (suc l) 0 → StepIs S T new level.settings (l + 1) (To n)
+      pub step-to : (new : List ℕ) → WritesOnlyTree D two new → RecordsUpTo S T new (suc l) 0 → StepIs S T new level.settings (l + 1) (Some n)
       step-to new more filled = rw n-is (step-ready S T new level.settings (l + 1) next (refl, refl, ready-next new more filled))
 
   -- On the last level.

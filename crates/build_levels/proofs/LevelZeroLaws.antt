@@ -20,7 +20,7 @@ use Rattle.build_records.specs.WritesOnlyTree.{WritesOnlyTree, AgreesOn}
 use Rattle.build_records.specs.RecordPlaces.{record_place}
 use Rattle.build_records.specs.WrittenStarts.{starts_written, StartsAsk}
 use Rattle.build_records.specs.State.{record_settings_of, LevelIs, RecordsUpTo, place_at}
-use Rattle.build_levels.specs.declared.level_step.Step.TheVariants.{To, Full}
+use Rattle.std.proofs.Common.{Some, None}
 use Rattle.build_levels.specs.Trees.{level_first_of, LevelReady, StepIs}
 use Rattle.build_records.proofs.WritesOnlyTreeLaws.{only-tree-trans, agrees-only-tree, within_none}
 use Rattle.build_records.proofs.BelowLaws.{pieces-most}
@@ -30,22 +30,22 @@ use Rattle.build_records.proofs.StateLaws.{offset-low, size-high, start-bytes, R
 
 -- A step that came to a level, and one that found no room for it.
 module _ (S : Settings) (T out : List ℕ) (s : code.Settings) (number : ℕ) where
-  pub step-ready : (n : Level) → (n.settings ≡ s) × (n.number ≡ number) × LevelReady S T out n → StepIs S T out s number (To n)
+  pub step-ready : (n : Level) → (n.settings ≡ s) × (n.number ≡ number) × LevelReady S T out n → StepIs S T out s number (Some n)
   step-ready n p = record {
     to = λ next e. subst (λ (m : Level). (m.settings ≡ s) × (m.number ≡ number) × LevelReady S T out m) (same next e) p;
     full = λ e. absurd (differ e);
   }
     where
-      same : (next : Level) → To n ≡ To next → n ≡ next
+      same : (next : Level) → Some n ≡ Some next → n ≡ next
       same next e = cc
 
-      differ : To n ≡ Full → ⊥
+      differ : Some n ≡ None → ⊥
       differ e = let z : ◌≡◌ {A = ℕ} 0 1 = cc in omega arith
 
-  pub step-none : length out < length (tree_of S T) → StepIs S T out s number Full
+  pub step-none : length out < length (tree_of S T) → StepIs S T out s number None
   step-none k = record { to = λ next e. absurd (differ next e); full = λ e. k }
     where
-      differ : (next : Level) → Full ≡ To next → ⊥
+      differ : (next : Level) → None ≡ Some next → ⊥
       differ next e = let z : ◌≡◌ {A = ℕ} 0 1 = cc in omega arith
 
 pub divided : (r a b : ℕ) → 0 < r → a ≡ r * b → a / r ≡ b
@@ -131,7 +131,7 @@ module _ (s : code.Settings) (cs T : List ℕ) (h : Taken (record_settings_of s 
       place_is S T first level-first first.count ∙ rw (number-first, count-first) (place_end S T 0)
 
   module _ (out : List ℕ) (p : ℕ) (p-is : p ≡ record_place first.table first.count (record_settings_of first.settings cs)) where
-    pub no-first : length out < p → StepIs S T out s 0 Full
+    pub no-first : length out < p → StepIs S T out s 0 None
     no-first k = step-none S T out s 0 (omega (arith, p-is, end-first, table-inside S T h 0 limits.levels_low))
 
     module _ (room : p ≤ length out) where
@@ -194,7 +194,7 @@ module _ (s : code.Settings) (cs T : List ℕ) (h : Taken (record_settings_of s 
             starts = started;
           }
 
-          pub first_step : StepIs S T two s 0 (To first)
+          pub first_step : StepIs S T two s 0 (Some first)
           first_step = step-ready S T two s 0 first (
             settings-first,
             number-first,

@@ -1,5 +1,5 @@
 -- A tree while it is written, level by level.
-use Rattle.std.specs.Prelude.{List, ◌≡◌, ◌⊎◌, ℕ, suc, ◌+◌, ◌-◌, ◌*◌, ◌/◌, ◌^◌, ◌≤◌, ◌<◌, length}
+use Rattle.std.specs.Prelude.{List, Option, Some, None, ◌≡◌, ◌⊎◌, ℕ, suc, ◌+◌, ◌-◌, ◌*◌, ◌/◌, ◌^◌, ◌≤◌, ◌<◌, length}
 use Rattle.text.specs.Text.{sum_below}
 use Rattle.format.specs.Layout.{Settings, pieces, count_at, header_length}
 use Rattle.format.specs.Blocks.{tree_of}
@@ -7,8 +7,6 @@ use Rattle.theory_built.specs.Structure.{width_of}
 use Rattle.theory_built.specs.Pairs.{offset}
 use Rattle.layout.specs.declared.settings.Settings as code
 use Rattle.build_records.specs.declared.level_written.Level.{Level}
-use Rattle.build_levels.specs.declared.level_step.Step.{Step}
-use Rattle.build_levels.specs.declared.level_step.Step.TheVariants.{To, Full}
 use Rattle.build_records.specs.WritesOnlyTree.{WritesOnlyTree, AgreesOn}
 use Rattle.build_records.specs.RecordPlaces.{record_place}
 use Rattle.build_records.specs.State.{record_settings_of, LevelIs, RecordsUpTo}
@@ -61,9 +59,9 @@ module _ (S : Settings) (T : List ℕ) where
   LevelDone before after level total = WritesOnlyTree (tree_of S T) before after × LevelWritten after level total
 
   -- A step to the level with this number: it is ready, or the tree does not fit.
-  pub record StepIs (out : List ℕ) (s : code.Settings) (number : ℕ) (step : Step) : Type 0 where
-    pub to : (next : Level) → step ≡ To next → (next.settings ≡ s) × (next.number ≡ number) × LevelReady out next
-    pub full : step ≡ Full → length out < length (tree_of S T)
+  pub record StepIs (out : List ℕ) (s : code.Settings) (number : ℕ) (step : Option Level) : Type 0 where
+    pub to : (next : Level) → step ≡ Some next → (next.settings ≡ s) × (next.number ≡ number) × LevelReady out next
+    pub full : step ≡ None → length out < length (tree_of S T)
 
 -- The buffer contains the whole tree, of r bytes; or the tree does not fit, and r is 0.
 abbrev pub TreeComplete : List ℕ → List ℕ → ℕ → Type 0

@@ -19,13 +19,6 @@ use layout::{header, settings};
 // Where the records of level 0 begin.
 const FIRST_TABLE: u32 = header::HEADER_LENGTH as u32;
 
-// The level to be written next, or that the buffer has no room for its records.
-#[derive(Clone, Copy)]
-pub enum Step {
-    To(Level),
-    Full,
-}
-
 // Level 0.
 fn first_level(text: &[u8], s: Settings) -> Level
     requires { Sized s 0 × (1 ≤ s.leaf) × (length text.now ≤ max_text) }
@@ -62,15 +55,15 @@ fn next_level(counted: &[u8], level: Level, count: u32) -> Level
     }
 }
 
-// Writes the first words of the header and the starts of level 0.
-pub fn begin(out: &mut [u8], text: &[u8], counted: &[u8], s: Settings) -> Step
+// Writes the first words of the header and the starts of level 0. Returns this level, none if the buffer has no room for its records.
+pub fn begin(out: &mut [u8], text: &[u8], counted: &[u8], s: Settings) -> Option<Level>
     requires { Taken (record_settings_of s counted.now) text.now }
     ensures writes_only_tree { WritesOnlyTree (tree_of (record_settings_of s counted.now) text.now) out.old out.new }
     ensures step_is { StepIs (record_settings_of s counted.now) text.now out.new s 0 result }
 {
     let first = first_level(text, s);
     if out.len() < level_written::place(counted, first, BlockNumber(first.count)) {
-        return Step::Full;
+        return None;
     }
     header_written::put_head(out, text, counted, s);
     below::put_starts(
@@ -81,11 +74,18 @@ pub fn begin(out: &mut [u8], text: &[u8], counted: &[u8], s: Settings) -> Step
         first.size,
         first.count,
     );
-    Step::To(first)
+    Some(first)
 }
 
-// After the records of a level above the last: writes its words in the header and the starts of the next level.
-pub fn go_down(out: &mut [u8], text: &[u8], counted: &[u8], level: Level, count: u32) -> Step
+// After the records of a level above the last: writes its words in the header and the starts of the next level. Returns that level, none if the buffer
+// has no room for its records.
+pub fn go_down(
+    out: &mut [u8],
+    text: &[u8],
+    counted: &[u8],
+    level: Level,
+    count: u32,
+) -> Option<Level>
     requires level_written { LevelWritten (record_settings_of level.settings counted.now) text.now out.old level count }
     requires number_bound { level.number + 1 < level.settings.levels }
     ensures writes_only_tree { WritesOnlyTree (tree_of (record_settings_of level.settings counted.now) text.now) out.old
@@ -96,10 +96,10 @@ pub fn go_down(out: &mut [u8], text: &[u8], counted: &[u8], level: Level, count:
     header_written::put_pair(out, level.number, level.count, level.table);
     let next = next_level(counted, level, count);
     if out.len() < level_written::place(counted, next, BlockNumber(next.count)) {
-        return Step::Full;
+        return None;
     }
     below::put_children(out, text, counted, level, next);
-    Step::To(next)
+    Some(next)
 }
 
 // After the records of the last level: writes the rest of the header and the leaf bytes. Returns the size of the tree, 0 if it does not fit.

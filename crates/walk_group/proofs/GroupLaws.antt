@@ -10,6 +10,8 @@ use lib.ListN.{get_or, set, length, drop, length-set}
 use lib.Seq.{drop-set-lt}
 use borrow.Author.Count.{below_more}
 use borrow.Author.Tests.{lt-ltb}
+use Rattle.std.specs.Prelude as prelude
+use Rattle.std.proofs.Common.{Some, None}
 use Rattle.format.specs.Layout as at
 use Rattle.format.specs.TreeReading.{visit, is_kept_block, pointing_block, target_block, target_place, path_from, path_of}
 use Rattle.theory_paths.specs.PlacesResolved.{from_last, from-kept, from-pointing}
@@ -29,8 +31,6 @@ use Rattle.walk_ranges.specs.Segments.{leaf_number, has_leaf, leaves_written, Co
 use Rattle.walk_ranges.specs.LeafEnds.{last_level}
 use Rattle.walk_ranges.proofs.NextSegmentLaws.{leaf-enter}
 use Rattle.walk_ranges.proofs.LeafEndLaws.{last-kept, last-unkept, last-link}
-use Rattle.walk_group.specs.declared.LeafByte.{LeafByte}
-use Rattle.walk_group.specs.declared.LeafByte.TheVariants as leaf-byte
 use Rattle.walk_group.specs.Groups.{InBlock, GroupAt, GoesTo, leaf_at, group_leaf, place_leaf, AtTop, PlacesBelow, StepAnswer, WalkedTo, LeafByteAnswer}
 
 -- The leaf byte of a place of a block above the last level.
@@ -179,7 +179,7 @@ module _ (t : List ℕ) (h : Header) (k : HeaderOf t h) (i o : ℕ) (here : InBl
       byte_past past =
           rw none_left (ap leaf_number (from-no-leaf t (last_level t) i o (omega (arith, k.count_is, last-link t h k i link link_is)) kept))
 
-      pub byte-there : link + o < h.leaf_count → (v : ℕ) → v ≡ get_or t (h.leaf_offset + (link + o)) 0 → LeafByteAnswer t i o (leaf-byte.At v)
+      pub byte-there : link + o < h.leaf_count → (v : ℕ) → v ≡ get_or t (h.leaf_offset + (link + o)) 0 → LeafByteAnswer t i o (Some v)
       unfolding leaf_at at.leaf_byte
       byte-there low v v-is =
           let e : at.link t (last_level t) i + o ≡ link + o = omega (arith, last-link t h k i link link_is) in (
@@ -201,12 +201,12 @@ module _ (t is os : List ℕ) (to : ℕ) (d : List ℕ) where
     pub past : (j : ℕ) → to + k ≤ j → drop j e ≡ drop j d
 
   module _ (e : List ℕ) (k : ℕ) (c : BytesUpTo e k) where
-    module _ (x : LeafByte) (x-is : LeafByteAnswer t (get_or is k 0) (get_or os k 0) x) where
-      pub bytes-off : x ≡ leaf-byte.Broken → (n : ℕ) → k < n → Copied t leaf n to d e 14
+    module _ (x : prelude.Option ℕ) (x-is : LeafByteAnswer t (get_or is k 0) (get_or os k 0) x) where
+      pub bytes-off : x ≡ None → (n : ℕ) → k < n → Copied t leaf n to d e 14
       unfolding group_leaf
       bytes-off f n less = (refl, (k, less, rw f at x-is), λ j far. c.past j (omega arith))
 
-      pub bytes-more : (v : ℕ) → x ≡ leaf-byte.At v → BytesUpTo (set e (to + k) v) (k + 1)
+      pub bytes-more : (v : ℕ) → x ≡ Some v → BytesUpTo (set e (to + k) v) (k + 1)
       unfolding group_leaf
       bytes-more v f =
           let z = rw f at x-is in record {

@@ -1,13 +1,11 @@
 -- Some paths that are walked together, and the leaf bytes that they lead to. On a level the k-th path is in block k of a list `is`, at place k of a list `os`.
-use Rattle.std.specs.Prelude.{List, Bool, true, false, ◌≡◌, ℕ, ◌+◌, ◌-◌, ◌*◌, ◌/◌, ◌%◌, ◌<◌, get_or}
+use Rattle.std.specs.Prelude.{List, Bool, true, false, Option as OptionOf, Some, None, ◌≡◌, ℕ, ◌+◌, ◌-◌, ◌*◌, ◌/◌, ◌%◌, ◌<◌, get_or}
 use Rattle.std.proofs.Math.Option.{Option, none, some}
 use Rattle.format.specs.Layout as at
 use Rattle.format.specs.TreeReading.{path_from, path_of}
 use Rattle.walk_steps.specs.declared.BlockAt.{BlockAt}
 use Rattle.walk_steps.specs.declared.BlockAt.TheVariants as block_at
 use Rattle.walk_ranges.specs.Segments.{leaf_number}
-use Rattle.walk_group.specs.declared.LeafByte.{LeafByte}
-use Rattle.walk_group.specs.declared.LeafByte.TheVariants as leaf-byte
 
 -- The first n of the places p, p + s and so on are below m.
 abbrev pub PlacesBelow : ℕ → ℕ → ℕ → ℕ → Type 0
@@ -55,6 +53,6 @@ module _ (t : List ℕ) where
   WalkedTo l m n is os js qs false = (k : ℕ) × (k < n) × (group_leaf l is os k ≡ none)
 
   -- The answer of `leaf_byte` on the last level.
-  abbrev pub LeafByteAnswer : ℕ → ℕ → LeafByte → Type 0
-  LeafByteAnswer i o (leaf-byte.At v) = (x : ℕ) × (leaf_at ((at.settings t).levels - 1) i o ≡ some x) × (v ≡ at.leaf_byte t x)
-  LeafByteAnswer i o leaf-byte.Broken = leaf_at ((at.settings t).levels - 1) i o ≡ none
+  abbrev pub LeafByteAnswer : ℕ → ℕ → OptionOf ℕ → Type 0
+  LeafByteAnswer i o (Some v) = (x : ℕ) × (leaf_at ((at.settings t).levels - 1) i o ≡ some x) × (v ≡ at.leaf_byte t x)
+  LeafByteAnswer i o None = leaf_at ((at.settings t).levels - 1) i o ≡ none

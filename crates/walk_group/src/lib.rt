@@ -36,12 +36,6 @@ struct UpperLevel {
     below: u32,
 }
 
-#[derive(Clone, Copy)]
-enum LeafByte {
-    At(u8),
-    Broken,
-}
-
 // A part of the buffer.
 #[derive(Clone, Copy)]
 struct GroupPart {
@@ -125,22 +119,22 @@ fn walk_all(t: &[u8], h: Header, n: u32, blocks: &mut [u32], places: &mut [u32])
     true
 }
 
-// The leaf byte of a place of a block of the last level.
-fn leaf_byte(t: &[u8], h: Header, block: BlockNumber, place: BlockPlace) -> LeafByte
+// The leaf byte of a place of a block of the last level; none if the path breaks there.
+fn leaf_byte(t: &[u8], h: Header, block: BlockNumber, place: BlockPlace) -> Option<u8>
     requires { (HeaderOf t.now h) × (InBlock t.now ((at.settings t.now).levels - 1) block.0 place.0) }
     ensures { LeafByteAnswer t.now block.0 place.0 result }
 {
     let last = h.settings.levels - 1;
     let kind = record::kind(t, h.record_size, last, block);
     if kind != 0 {
-        return LeafByte::Broken;
+        return None;
     }
     let link = record::link(t, h.record_size, last, block);
     let leaf = link.0 as u64 + place.0 as u64;
     if h.leaf_count as u64 <= leaf {
-        return LeafByte::Broken;
+        return None;
     }
-    LeafByte::At(t[h.leaf_offset as usize + leaf as usize])
+    Some(t[h.leaf_offset as usize + leaf as usize])
 }
 
 // Copies the leaf bytes of the first paths, which have reached the last level: 0, or the refusal.
@@ -161,7 +155,7 @@ fn copy_bytes(
         let block = BlockNumber(blocks[k]);
         let place = BlockPlace(places[k]);
         let found = leaf_byte(t, h, block, place);
-        let LeafByte::At(value) = found else {
+        let Some(value) = found else {
             return 14;
         };
         buffer[part.to + k] = value;

@@ -25,9 +25,9 @@ loop-preserved c =
     let r = c.loop.invariant.scanned.reached in
     let g = laws.only-tree-here _ _ _ _ _ _ r _ (only-tree-trans _ _ _ _ c.put_level-put.ensures.level_done.0 c.go_down-step.ensures.writes_only_tree) in
     let s = laws.step-here _ _ _ _ _ _ r _ _ _ c.go_down-step.ensures.step_is in
-    let n = laws.step-number _ _ _ _ _ g _ _ s _ c.in-To.is in record {
+    let n = laws.step-number _ _ _ _ _ g _ _ s _ c.in-Some.is in record {
       scanned = levels.along-next _ _ _ _ _ _ _ c.loop.invariant.scanned
-          _ c.put_level-put.ensures.windows_value.0 c.put_level-put.ensures.windows_value.1 _ _ (laws.step-reached _ _ _ _ _ g _ _ s _ c.in-To.is) n;
+          _ c.put_level-put.ensures.windows_value.0 c.put_level-put.ensures.windows_value.1 _ _ (laws.step-reached _ _ _ _ _ g _ _ s _ c.in-Some.is) n;
       number_is = omega (arith, n);
     }
 

@@ -8,6 +8,6 @@ loop-preserved c =
     let r = c.loop.invariant.reached in
     let g = laws.only-tree-here _ _ _ _ _ _ r _ (only-tree-trans _ _ _ _ c.fill_level-count.ensures.0 c.go_down-step.ensures.writes_only_tree) in
     let s = laws.step-here _ _ _ _ _ _ r _ _ _ c.go_down-step.ensures.step_is in record {
-      reached = laws.step-reached _ _ _ _ _ g _ _ s _ c.in-To.is;
-      number_is = omega (arith, laws.step-number _ _ _ _ _ g _ _ s _ c.in-To.is);
+      reached = laws.step-reached _ _ _ _ _ g _ _ s _ c.in-Some.is;
+      number_is = omega (arith, laws.step-number _ _ _ _ _ g _ _ s _ c.in-Some.is);
     }

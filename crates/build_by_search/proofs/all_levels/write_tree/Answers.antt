@@ -12,17 +12,17 @@ returns-in_default c = record { writes_only_tree = c.begin-step.ensures.writes_o
 
 pub put_levels-requires : goal.put_levels-requires
 put_levels-requires c = laws.ready-here
-    _ _ _ _ _ _ (laws.step-reached _ _ _ _ _ c.begin-step.ensures.writes_only_tree _ _ c.begin-step.ensures.step_is _ c.in-To.is)
+    _ _ _ _ _ _ (laws.step-reached _ _ _ _ _ c.begin-step.ensures.writes_only_tree _ _ c.begin-step.ensures.step_is _ c.in-Some.is)
 
 pub shape_of-out : goal.shape_of-out
-shape_of-out c = (laws.only-tree-here _ _ _ _ _ _ (laws.step-reached _ _ _ _ _ c.begin-step.ensures.writes_only_tree _ _ c.begin-step.ensures.step_is _ c.in-To.is)
+shape_of-out c = (laws.only-tree-here _ _ _ _ _ _ (laws.step-reached _ _ _ _ _ c.begin-step.ensures.writes_only_tree _ _ c.begin-step.ensures.step_is _ c.in-Some.is)
     _ c.put_levels.ensures.writes_only_tree).same_length
 
 pub returns : goal.returns
 returns c = record {
   writes_only_tree = laws.only-tree-here _ _ _ _ _ _
-      (laws.step-reached _ _ _ _ _ c.begin-step.ensures.writes_only_tree _ _ c.begin-step.ensures.step_is _ c.in-To.is)
+      (laws.step-reached _ _ _ _ _ c.begin-step.ensures.writes_only_tree _ _ c.begin-step.ensures.step_is _ c.in-Some.is)
       _ c.put_levels.ensures.writes_only_tree;
   tree_complete = laws.finished-here _ _ _ _ _ _ (laws.step-reached _ _ _ _ _ c.begin-step.ensures.writes_only_tree
-      _ _ c.begin-step.ensures.step_is _ c.in-To.is) _ _ c.put_levels.ensures.tree_complete;
+      _ _ c.begin-step.ensures.step_is _ c.in-Some.is) _ _ c.put_levels.ensures.tree_complete;
 }
