@@ -102,7 +102,8 @@ module _ (κs : Lfts 2) (t : Bor (List ℕ)) (out after : MutBor (List ℕ)) (r 
         built-fits-text : text_of t.now ≡ text.now
         built-fits-text = rw is (built-text S text.now h)
 
-    pub digest-built : (κs₂ : Lfts 2) (out₂ after₂ : MutBor (List ℕ)) (r₂ : Result (Unit {0}) Refusal) → DigestText κs₂ text out₂ after₂ r₂ → 32 ≤ length out₂.now
+    pub digest-built : (κs₂ : Lfts 2) (out₂ after₂ : MutBor (List ℕ)) (r₂ : Result (Unit {0}) Refusal)
+        → DigestText κs₂ text out₂ after₂ r₂ → 32 ≤ length out₂.now
         → (r ≡ Ok tt) × (take 32 after.now ≡ take 32 after₂.now)
     digest-built κs₂ out₂ after₂ r₂ b room₂ = (
       (digest-accepted accepted room text.now fitting).0,
