@@ -36,8 +36,8 @@ use Rattle.theory_counts.specs.Ranks.{goes-head, added-target, taken-target}
 use Rattle.query_rank.specs.declared.sums.Landing.{Landing}
 use Rattle.query_rank.specs.declared.sums.Landing.TheVariants as landing
 use Rattle.query_rank.specs.declared.sums.Sum.{Sum}
-use Rattle.query_rank.specs.declared.sums.Summed.TheVariants.{At}
-use Rattle.query_rank.specs.Sums.{settled, answer_in, rank_onward, added_rest, summed, start_sum, whole_sum, Carried, Across, settled_from, LandedSum}
+use Rattle.std.proofs.Common.{Some}
+use Rattle.query_rank.specs.Sums.{sum_of, settled, answer_in, rank_onward, added_rest, summed, start_sum, whole_sum, Carried, Across, settled_from, LandedSum}
 
 -- A field of a block of a level can be read.
 pub field-on : (t : List ℕ) (size level b i c f : ℕ)
@@ -71,7 +71,7 @@ carried-word t c s r plus k few e small = rw e (omega arith, omega (arith, k.plu
 -- A block entered first is carried on.
 
 same : (e₁ e₂ p₁ p₂ m₁ m₂ : ℕ)
-    → e₁ ≡ e₂ → p₁ ≡ p₂ → m₁ ≡ m₂ → At (record { entered = e₁; plus = p₁; minus = m₁ }) ≡ At (record { entered = e₂; plus = p₂; minus = m₂ })
+    → e₁ ≡ e₂ → p₁ ≡ p₂ → m₁ ≡ m₂ → Some (sum_of e₁ p₁ m₁) ≡ Some (sum_of e₂ p₂ m₂)
 same e₁ e₂ p₁ p₂ m₁ m₂ e p m = rw (e, p, m)
 
 module _ (t : List ℕ) (byte c : ℕ) (s : Sum) where
@@ -117,7 +117,7 @@ module _ (t : List ℕ) (byte c : ℕ) (s : Sum) where
   -- On the last level.
   pub sum-leaf : (l i o n : ℕ) (r : Sum)
       → is_kept_block t l i ≡ true → at.link t l i + o < at.leaf_count t → n ≡ count_in byte (substring t (at.leaf_offset t + at.link t l i) (o + 1))
-      → r ≡ rank_onward s n 0 → At r ≡ summed t byte c s (path_from t 0 l i o)
+      → r ≡ rank_onward s n 0 → Some r ≡ summed t byte c s (path_from t 0 l i o)
   unfolding summed rank_onward added_rest added_after taken taken_after leaves_reached last_place
   sum-leaf l i o n r kept h e f =
       let z : at.link t l i + o - o ≡ at.link t l i = omega arith in
@@ -140,12 +140,12 @@ pub rank-broken-word : refused 14 ≡ answer_in 18446744073709551615
 unfolding answer_in
 rank-broken-word = refl
 
-pub below_word : (s : Sum) → s.plus < s.minus → answer_in 18446744073709551615 ≡ settled (At s)
+pub below_word : (s : Sum) → s.plus < s.minus → answer_in 18446744073709551615 ≡ settled (Some s)
 unfolding settled
 below_word s h = sym rank-broken-word ∙ rw (lt-leb s.minus s.plus h)
 
 pub rank-packed-word : (s : Sum) → s.entered ≤ 2 * max_levels + 1 → s.plus ≤ 1099511627776 → s.minus ≤ s.plus
-    → answer_in (s.plus - s.minus + 281474976710656 * s.entered) ≡ settled (At s)
+    → answer_in (s.plus - s.minus + 281474976710656 * s.entered) ≡ settled (Some s)
 unfolding answer_in settled
 rank-packed-word s few small low =
     let x = s.plus - s.minus in
@@ -175,7 +175,7 @@ leaf-fits t size level b i link o offset count k e a c s = omega (arith, k.facts
 module _ (t : List ℕ) (size byte c level b i o e : ℕ) (s : Sum) (k : KeptAt t size level b i o e) (link : ℕ) (link_is : link ≡ at.link t level i) where
   pub leaf-sum : (offset : ℕ) (r : Sum)
       → offset ≡ at.leaf_offset t → link + o < at.leaf_count t → {n : ℕ} → n ≡ count_in byte (substring t (offset + link) (o + 1)) → r ≡ rank_onward s n 0
-      → settled (At r) ≡ settled (summed t byte c s (path_from t 0 level i o))
+      → settled (Some r) ≡ settled (summed t byte c s (path_from t 0 level i o))
   leaf-sum offset r a small {n} e f = ap settled (sum-leaf t byte c s level i o n r k.kept (omega arith) (rw (a, link_is) at e) f)
 
   pub leaf-none : at.leaf_count t ≤ link + o → answer_in 18446744073709551615 ≡ settled (summed t byte c s (path_from t 0 level i o))

@@ -1,6 +1,6 @@
 // The sums along the path of a place, with the added and the subtracted parts apart. The steps of kept and pointing blocks are mutually
 // recursive. Their measure is 2 × (levels left), plus 1 while a pointer can be followed. A step carries no header and returns one word.
-ghost use Rattle.std.specs.Prelude.{◌≡◌, cond, ◌+◌, ◌-◌, ◌*◌, ◌≤◌, ◌<◌, eqb};
+ghost use Rattle.std.specs.Prelude.{Some, ◌≡◌, cond, ◌+◌, ◌-◌, ◌*◌, ◌≤◌, ◌<◌, eqb};
 ghost use Rattle.format.specs.Layout as at;
 ghost use Rattle.format.specs.Layout.{max_levels};
 ghost use Rattle.format.specs.TreeReading.{path_from, path_of};
@@ -24,12 +24,6 @@ pub struct Sum {
     pub minus: u64,
 }
 
-#[derive(Clone, Copy)]
-pub enum Summed {
-    At(Sum),
-    Broken,
-}
-
 impl Sum {
     // After one more block, with more added and subtracted.
     fn enter(self, plus: u32, minus: u32) -> Sum
@@ -46,7 +40,7 @@ impl Sum {
     // The result in one word: the count + 2^48 × the blocks entered. A count is never negative.
     fn packed(self) -> u64
         requires { (self.entered ≤ 2 * max_levels + 1) × (self.plus ≤ 1099511627776) }
-        ensures { answer_in result ≡ settled (Summed.At self) }
+        ensures { answer_in result ≡ settled (Some self) }
     {
         if self.plus < self.minus {
             return BROKEN;

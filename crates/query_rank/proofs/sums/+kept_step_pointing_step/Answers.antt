@@ -1,9 +1,7 @@
 use mathlib.Core.List.{List}
 use mathlib.Core.Path.{◌≡◌, sym, ap, ◌∙◌}
-use Prim.Native.Nat.{ℕ, ◌+◌, ◌-◌, ◌/◌}
+use Prim.Native.Nat.{ℕ, ◌+◌, ◌/◌}
 use native.Mathlib.Omega.{arith}
-use Rattle.query_rank.proofs.sums.kept_step.Reads as kept_step
-use Rattle.query_rank.proofs.sums.leaf.Reads as leaf
 use Rattle.format.specs.Layout as at
 use Rattle.layout.proofs.ShapeLaws.{Shapes, shapes}
 use Rattle.walk_path.proofs.WalkLaws as walk
