@@ -34,9 +34,8 @@ use Rattle.walk_path.proofs.WalkLaws as walk
 use Rattle.walk_path.proofs.WalkLaws.{from-off, from_past, from-no-leaf}
 use Rattle.theory_counts.specs.Ranks.{goes-head, added-target, taken-target}
 use Rattle.query_rank.specs.declared.sums.Landing.{Landing}
-use Rattle.query_rank.specs.declared.sums.Landing.TheVariants as landing
+use Rattle.std.proofs.Common.{Option as OptionOf, Some, None}
 use Rattle.query_rank.specs.declared.sums.Sum.{Sum}
-use Rattle.std.proofs.Common.{Some}
 use Rattle.query_rank.specs.Sums.{sum_of, settled, answer_in, rank_onward, added_rest, summed, start_sum, whole_sum, Carried, Across, settled_from, LandedSum}
 
 -- A field of a block of a level can be read.
@@ -250,14 +249,14 @@ link_low t level i o = go (lt-or-ge (at.gap t level i + o) (at.full_length t lev
 
 -- From a block at which a pointer may be followed.
 module _ (t : List ℕ) (size level b i o : ℕ) (s : Sum) (k : MayPoint t size level b i o s.entered) (x : BlockKind) (x-is : x ≡ block_kind_at t level i o) where
-  pub by-none : (byte c : ℕ) → x ≡ Off → LandedSum t size level b byte c i o s landing.Off
+  pub by-none : (byte c : ℕ) → x ≡ Off → LandedSum t size level b byte c i o s None
   unfolding LandedSum
   by-none byte c e =
       let z = next-off t level i o x x-is e in
       refused_none t byte c s _ (from-off t ((at.settings t).levels - 1 - level) level i o z.0 z.1)
 
   pub by_itself : (byte c : ℕ) (j : BlockNumber) (p : BlockPlace)
-      → x ≡ Kept j p → Carried t c s → LandedSum t size level b byte c i o s (landing.At (record { 0 = i }) (record { 0 = o }) s)
+      → x ≡ Kept j p → Carried t c s → LandedSum t size level b byte c i o s (Some (record { block = record { 0 = i }; place = record { 0 = o }; sum = s }))
   unfolding LandedSum
   by_itself byte c j p e w = (walk.may-keep t size level b i o s.entered k x x-is j p e, w, refl)
 
@@ -271,7 +270,7 @@ module _ (t : List ℕ) (size level b i o : ℕ) (s : Sum) (k : MayPoint t size 
     abbrev state : WalkState
     state = record { entered = s.entered; left = 0 }
 
-    pub by-no-target : (byte c : ℕ) → y ≡ block_at.Off → LandedSum t size level b byte c i o s landing.Off
+    pub by-no-target : (byte c : ℕ) → y ≡ block_at.Off → LandedSum t size level b byte c i o s None
     unfolding LandedSum
     by-no-target byte c f = refused_none t byte c s _ (walk.land-breaks t size level b i o state k x x-is j p e y y-is f)
 
@@ -300,7 +299,7 @@ module _ (t : List ℕ) (size level b i o : ℕ) (s : Sum) (k : MayPoint t size 
             rw (a, z.2, z.3) (from-pointing t n level i o apart points z.1) in
             rw (way, on-is) (ap settled (sum-target t byte c s ((at.settings t).levels - 1 - level) level i o m.0 q.0))
 
-        pub by-target : Carried t c on → LandedSum t size level b byte c i o s (landing.At m q on)
+        pub by-target : Carried t c on → LandedSum t size level b byte c i o s (Some (record { block = m; place = q; sum = on }))
         unfolding LandedSum
         by-target w = (
           rw (entered_on s on (cond (eqb m.0 (at.link t level i)) 0 (at.inside t level (at.link t level i) c)) (at.skip t level i c) on-is) target_kept,
@@ -309,15 +308,15 @@ module _ (t : List ℕ) (size level b i o : ℕ) (s : Sum) (k : MayPoint t size 
         )
 
 -- From where the count goes on.
-module _ (t : List ℕ) (size level b byte c i o : ℕ) (s : Sum) (y : Landing) (y-is : LandedSum t size level b byte c i o s y) where
-  pub landed_none : y ≡ landing.Off → answer_in 18446744073709551615 ≡ settled_from t level byte c i o s
+module _ (t : List ℕ) (size level b byte c i o : ℕ) (s : Sum) (y : OptionOf Landing) (y-is : LandedSum t size level b byte c i o s y) where
+  pub landed_none : y ≡ None → answer_in 18446744073709551615 ≡ settled_from t level byte c i o s
   unfolding LandedSum
   landed_none e = sym rank-broken-word ∙ rw e at y-is
 
-  pub landed-on : (j : BlockNumber) (p : BlockPlace) (on : Sum) → y ≡ landing.At j p on → (KeptAt t size level b j.0 p.0 on.entered)
-      × (Carried t c on) × (settled_from t level byte c j.0 p.0 on ≡ settled_from t level byte c i o s)
+  pub landed-on : (l : Landing) → y ≡ Some l → (KeptAt t size level b l.block.0 l.place.0 l.sum.entered)
+      × (Carried t c l.sum) × (settled_from t level byte c l.block.0 l.place.0 l.sum ≡ settled_from t level byte c i o s)
   unfolding LandedSum
-  landed-on j p on e = rw e at y-is
+  landed-on l e = rw e at y-is
 
 -- The whole path.
 

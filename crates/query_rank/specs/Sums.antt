@@ -8,7 +8,6 @@ use Rattle.format.specs.Answers.{added_after, added, taken, leaves_reached, Answ
 use Rattle.walk_steps.specs.Steps.{OnLevel}
 use Rattle.walk_path.specs.Walk.{KeptAt}
 use Rattle.query_rank.specs.declared.sums.Landing.{Landing}
-use Rattle.query_rank.specs.declared.sums.Landing.TheVariants as landed
 use Rattle.query_rank.specs.declared.sums.Sum.{Sum}
 
 -- The state with its three words.
@@ -72,8 +71,8 @@ module _ (t : List ℕ) where
   settled_from level byte c i o s = settled (summed t byte c s (path_from t ((at.settings t).levels - 1 - level) level i o))
 
   -- A kept block of the level from which the finished count is that from block i; or the path from block i breaks.
-  unfoldable pub LandedSum : ℕ → ℕ → ℕ → ℕ → ℕ → ℕ → ℕ → Sum → Landing → Type 0
-  LandedSum size level b byte c i o s (landed.At j p further) =
-      (KeptAt t size level b j.0 p.0 further.entered) × (Carried t c further)
-      × (settled_from level byte c j.0 p.0 further ≡ settled_from level byte c i o s)
-  LandedSum size level b byte c i o s landed.Off = refused 14 ≡ settled_from level byte c i o s
+  unfoldable pub LandedSum : ℕ → ℕ → ℕ → ℕ → ℕ → ℕ → ℕ → Sum → OptionOf Landing → Type 0
+  LandedSum size level b byte c i o s (Some l) =
+      (KeptAt t size level b l.block.0 l.place.0 l.sum.entered) × (Carried t c l.sum)
+      × (settled_from level byte c l.block.0 l.place.0 l.sum ≡ settled_from level byte c i o s)
+  LandedSum size level b byte c i o s None = refused 14 ≡ settled_from level byte c i o s
