@@ -34,10 +34,9 @@ use Rattle.walk_path.proofs.WalkLaws as walk
 use Rattle.walk_path.proofs.WalkLaws.{from-off, from_past, from-no-leaf}
 use Rattle.theory_counts.specs.Ranks.{goes-head, added-target, taken-target}
 use Rattle.query_rank.specs.declared.sums.Landing.{Landing}
-use Rattle.query_rank.specs.declared.sums.Landing.TheVariants as landing
+use Rattle.std.proofs.Common.{Option as OptionOf, Some, None}
 use Rattle.query_rank.specs.declared.sums.Sum.{Sum}
-use Rattle.query_rank.specs.declared.sums.Summed.TheVariants.{At}
-use Rattle.query_rank.specs.Sums.{settled, answer_in, rank_onward, added_rest, summed, start_sum, whole_sum, Carried, Across, settled_from, LandedSum}
+use Rattle.query_rank.specs.Sums.{sum_of, settled, answer_in, rank_onward, added_rest, summed, start_sum, whole_sum, Carried, Across, settled_from, LandedSum}
 
 -- A field of a block of a level can be read.
 pub field-on : (t : List ℕ) (size level b i c f : ℕ)
@@ -71,7 +70,7 @@ carried-word t c s r plus k few e small = rw e (omega arith, omega (arith, k.plu
 -- A block entered first is carried on.
 
 same : (e₁ e₂ p₁ p₂ m₁ m₂ : ℕ)
-    → e₁ ≡ e₂ → p₁ ≡ p₂ → m₁ ≡ m₂ → At (record { entered = e₁; plus = p₁; minus = m₁ }) ≡ At (record { entered = e₂; plus = p₂; minus = m₂ })
+    → e₁ ≡ e₂ → p₁ ≡ p₂ → m₁ ≡ m₂ → Some (sum_of e₁ p₁ m₁) ≡ Some (sum_of e₂ p₂ m₂)
 same e₁ e₂ p₁ p₂ m₁ m₂ e p m = rw (e, p, m)
 
 module _ (t : List ℕ) (byte c : ℕ) (s : Sum) where
@@ -117,7 +116,7 @@ module _ (t : List ℕ) (byte c : ℕ) (s : Sum) where
   -- On the last level.
   pub sum-leaf : (l i o n : ℕ) (r : Sum)
       → is_kept_block t l i ≡ true → at.link t l i + o < at.leaf_count t → n ≡ count_in byte (substring t (at.leaf_offset t + at.link t l i) (o + 1))
-      → r ≡ rank_onward s n 0 → At r ≡ summed t byte c s (path_from t 0 l i o)
+      → r ≡ rank_onward s n 0 → Some r ≡ summed t byte c s (path_from t 0 l i o)
   unfolding summed rank_onward added_rest added_after taken taken_after leaves_reached last_place
   sum-leaf l i o n r kept h e f =
       let z : at.link t l i + o - o ≡ at.link t l i = omega arith in
@@ -140,12 +139,12 @@ pub rank-broken-word : refused 14 ≡ answer_in 18446744073709551615
 unfolding answer_in
 rank-broken-word = refl
 
-pub below_word : (s : Sum) → s.plus < s.minus → answer_in 18446744073709551615 ≡ settled (At s)
+pub below_word : (s : Sum) → s.plus < s.minus → answer_in 18446744073709551615 ≡ settled (Some s)
 unfolding settled
 below_word s h = sym rank-broken-word ∙ rw (lt-leb s.minus s.plus h)
 
 pub rank-packed-word : (s : Sum) → s.entered ≤ 2 * max_levels + 1 → s.plus ≤ 1099511627776 → s.minus ≤ s.plus
-    → answer_in (s.plus - s.minus + 281474976710656 * s.entered) ≡ settled (At s)
+    → answer_in (s.plus - s.minus + 281474976710656 * s.entered) ≡ settled (Some s)
 unfolding answer_in settled
 rank-packed-word s few small low =
     let x = s.plus - s.minus in
@@ -175,7 +174,7 @@ leaf-fits t size level b i link o offset count k e a c s = omega (arith, k.facts
 module _ (t : List ℕ) (size byte c level b i o e : ℕ) (s : Sum) (k : KeptAt t size level b i o e) (link : ℕ) (link_is : link ≡ at.link t level i) where
   pub leaf-sum : (offset : ℕ) (r : Sum)
       → offset ≡ at.leaf_offset t → link + o < at.leaf_count t → {n : ℕ} → n ≡ count_in byte (substring t (offset + link) (o + 1)) → r ≡ rank_onward s n 0
-      → settled (At r) ≡ settled (summed t byte c s (path_from t 0 level i o))
+      → settled (Some r) ≡ settled (summed t byte c s (path_from t 0 level i o))
   leaf-sum offset r a small {n} e f = ap settled (sum-leaf t byte c s level i o n r k.kept (omega arith) (rw (a, link_is) at e) f)
 
   pub leaf-none : at.leaf_count t ≤ link + o → answer_in 18446744073709551615 ≡ settled (summed t byte c s (path_from t 0 level i o))
@@ -250,14 +249,14 @@ link_low t level i o = go (lt-or-ge (at.gap t level i + o) (at.full_length t lev
 
 -- From a block at which a pointer may be followed.
 module _ (t : List ℕ) (size level b i o : ℕ) (s : Sum) (k : MayPoint t size level b i o s.entered) (x : BlockKind) (x-is : x ≡ block_kind_at t level i o) where
-  pub by-none : (byte c : ℕ) → x ≡ Off → LandedSum t size level b byte c i o s landing.Off
+  pub by-none : (byte c : ℕ) → x ≡ Off → LandedSum t size level b byte c i o s None
   unfolding LandedSum
   by-none byte c e =
       let z = next-off t level i o x x-is e in
       refused_none t byte c s _ (from-off t ((at.settings t).levels - 1 - level) level i o z.0 z.1)
 
   pub by_itself : (byte c : ℕ) (j : BlockNumber) (p : BlockPlace)
-      → x ≡ Kept j p → Carried t c s → LandedSum t size level b byte c i o s (landing.At (record { 0 = i }) (record { 0 = o }) s)
+      → x ≡ Kept j p → Carried t c s → LandedSum t size level b byte c i o s (Some (record { block = record { 0 = i }; place = record { 0 = o }; sum = s }))
   unfolding LandedSum
   by_itself byte c j p e w = (walk.may-keep t size level b i o s.entered k x x-is j p e, w, refl)
 
@@ -271,7 +270,7 @@ module _ (t : List ℕ) (size level b i o : ℕ) (s : Sum) (k : MayPoint t size 
     abbrev state : WalkState
     state = record { entered = s.entered; left = 0 }
 
-    pub by-no-target : (byte c : ℕ) → y ≡ block_at.Off → LandedSum t size level b byte c i o s landing.Off
+    pub by-no-target : (byte c : ℕ) → y ≡ block_at.Off → LandedSum t size level b byte c i o s None
     unfolding LandedSum
     by-no-target byte c f = refused_none t byte c s _ (walk.land-breaks t size level b i o state k x x-is j p e y y-is f)
 
@@ -300,7 +299,7 @@ module _ (t : List ℕ) (size level b i o : ℕ) (s : Sum) (k : MayPoint t size 
             rw (a, z.2, z.3) (from-pointing t n level i o apart points z.1) in
             rw (way, on-is) (ap settled (sum-target t byte c s ((at.settings t).levels - 1 - level) level i o m.0 q.0))
 
-        pub by-target : Carried t c on → LandedSum t size level b byte c i o s (landing.At m q on)
+        pub by-target : Carried t c on → LandedSum t size level b byte c i o s (Some (record { block = m; place = q; sum = on }))
         unfolding LandedSum
         by-target w = (
           rw (entered_on s on (cond (eqb m.0 (at.link t level i)) 0 (at.inside t level (at.link t level i) c)) (at.skip t level i c) on-is) target_kept,
@@ -309,15 +308,15 @@ module _ (t : List ℕ) (size level b i o : ℕ) (s : Sum) (k : MayPoint t size 
         )
 
 -- From where the count goes on.
-module _ (t : List ℕ) (size level b byte c i o : ℕ) (s : Sum) (y : Landing) (y-is : LandedSum t size level b byte c i o s y) where
-  pub landed_none : y ≡ landing.Off → answer_in 18446744073709551615 ≡ settled_from t level byte c i o s
+module _ (t : List ℕ) (size level b byte c i o : ℕ) (s : Sum) (y : OptionOf Landing) (y-is : LandedSum t size level b byte c i o s y) where
+  pub landed_none : y ≡ None → answer_in 18446744073709551615 ≡ settled_from t level byte c i o s
   unfolding LandedSum
   landed_none e = sym rank-broken-word ∙ rw e at y-is
 
-  pub landed-on : (j : BlockNumber) (p : BlockPlace) (on : Sum) → y ≡ landing.At j p on → (KeptAt t size level b j.0 p.0 on.entered)
-      × (Carried t c on) × (settled_from t level byte c j.0 p.0 on ≡ settled_from t level byte c i o s)
+  pub landed-on : (l : Landing) → y ≡ Some l → (KeptAt t size level b l.block.0 l.place.0 l.sum.entered)
+      × (Carried t c l.sum) × (settled_from t level byte c l.block.0 l.place.0 l.sum ≡ settled_from t level byte c i o s)
   unfolding LandedSum
-  landed-on j p on e = rw e at y-is
+  landed-on l e = rw e at y-is
 
 -- The whole path.
 

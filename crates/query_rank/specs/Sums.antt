@@ -1,5 +1,5 @@
 -- The state of a count on its path, and the preconditions of its steps.
-use Rattle.std.specs.Prelude.{List, [], ◌∷◌, ◌≡◌, ℕ, ◌+◌, ◌*◌, ◌≤◌, ◌<◌, ◌-◌, ◌/◌, ◌%◌, length, cond, eqb, leb}
+use Rattle.std.specs.Prelude.{List, [], ◌∷◌, Option as OptionOf, Some, None, ◌≡◌, ℕ, ◌+◌, ◌*◌, ◌≤◌, ◌<◌, ◌-◌, ◌/◌, ◌%◌, length, cond, eqb, leb}
 use Rattle.std.proofs.Math.Option.{Option, none, some}
 use Rattle.text.specs.Text.{count_in}
 use Rattle.format.specs.Layout as at
@@ -8,10 +8,7 @@ use Rattle.format.specs.Answers.{added_after, added, taken, leaves_reached, Answ
 use Rattle.walk_steps.specs.Steps.{OnLevel}
 use Rattle.walk_path.specs.Walk.{KeptAt}
 use Rattle.query_rank.specs.declared.sums.Landing.{Landing}
-use Rattle.query_rank.specs.declared.sums.Landing.TheVariants as landed
 use Rattle.query_rank.specs.declared.sums.Sum.{Sum}
-use Rattle.query_rank.specs.declared.sums.Summed.{Summed}
-use Rattle.query_rank.specs.declared.sums.Summed.TheVariants.{At, Broken}
 
 -- The state with its three words.
 abbrev pub sum_of : ℕ → ℕ → ℕ → Sum
@@ -28,9 +25,9 @@ module _ (t : List ℕ) where
   added_rest c (v ∷ vs) = added_after t c v vs
 
   -- The result of a walk to the end of a path: the number of its blocks, what is added with the leaf bytes reached, and what is subtracted.
-  unfoldable pub summed : ℕ → ℕ → Sum → Option Path → Summed
-  summed byte c s none = Broken
-  summed byte c s (some q) = At (record {
+  unfoldable pub summed : ℕ → ℕ → Sum → Option Path → OptionOf Sum
+  summed byte c s none = None
+  summed byte c s (some q) = Some (record {
     entered = s.entered + length q.visits;
     plus = s.plus + (added_rest c q.visits + count_in byte (leaves_reached t q));
     minus = s.minus + taken t c q.visits;
@@ -41,10 +38,10 @@ module _ (t : List ℕ) where
   start_sum c i = record { entered = 0; plus = at.before t 0 i c; minus = 0 }
 
   -- The sums of a whole path.
-  unfoldable pub whole_sum : ℕ → ℕ → Option Path → Summed
-  whole_sum byte c none = Broken
+  unfoldable pub whole_sum : ℕ → ℕ → Option Path → OptionOf Sum
+  whole_sum byte c none = None
   whole_sum byte c (some q) =
-      At (record { entered = length q.visits; plus = added t c q.visits + count_in byte (leaves_reached t q); minus = taken t c q.visits })
+      Some (record { entered = length q.visits; plus = added t c q.visits + count_in byte (leaves_reached t q); minus = taken t c q.visits })
 
   -- The number of a counted byte, and sums of at most one word for each block.
   pub record Carried (c : ℕ) (s : Sum) : Type 0 where
@@ -60,9 +57,9 @@ module _ (t : List ℕ) where
     pub link_low : at.link t level i ≤ j
 
 -- The finished count, which is not negative.
-unfoldable pub settled : Summed → Answer
-settled Broken = refused 14
-settled (At s) = cond (leb s.minus s.plus) (record { number = 0; value = s.plus - s.minus; entered = s.entered }) (refused 14)
+unfoldable pub settled : OptionOf Sum → Answer
+settled None = refused 14
+settled (Some s) = cond (leb s.minus s.plus) (record { number = 0; value = s.plus - s.minus; entered = s.entered }) (refused 14)
 
 -- The answer that the word of a count represents: the count + 2^48 × the blocks entered; all ones if the path breaks or the count is negative.
 unfoldable pub answer_in : ℕ → Answer
@@ -74,8 +71,8 @@ module _ (t : List ℕ) where
   settled_from level byte c i o s = settled (summed t byte c s (path_from t ((at.settings t).levels - 1 - level) level i o))
 
   -- A kept block of the level from which the finished count is that from block i; or the path from block i breaks.
-  unfoldable pub LandedSum : ℕ → ℕ → ℕ → ℕ → ℕ → ℕ → ℕ → Sum → Landing → Type 0
-  LandedSum size level b byte c i o s (landed.At j p further) =
-      (KeptAt t size level b j.0 p.0 further.entered) × (Carried t c further)
-      × (settled_from level byte c j.0 p.0 further ≡ settled_from level byte c i o s)
-  LandedSum size level b byte c i o s landed.Off = refused 14 ≡ settled_from level byte c i o s
+  unfoldable pub LandedSum : ℕ → ℕ → ℕ → ℕ → ℕ → ℕ → ℕ → Sum → OptionOf Landing → Type 0
+  LandedSum size level b byte c i o s (Some l) =
+      (KeptAt t size level b l.block.0 l.place.0 l.sum.entered) × (Carried t c l.sum)
+      × (settled_from level byte c l.block.0 l.place.0 l.sum ≡ settled_from level byte c i o s)
+  LandedSum size level b byte c i o s None = refused 14 ≡ settled_from level byte c i o s

@@ -1,6 +1,6 @@
 // The sums along the path of a place, with the added and the subtracted parts apart. The steps of kept and pointing blocks are mutually
 // recursive. Their measure is 2 × (levels left), plus 1 while a pointer can be followed. A step carries no header and returns one word.
-ghost use Rattle.std.specs.Prelude.{◌≡◌, cond, ◌+◌, ◌-◌, ◌*◌, ◌≤◌, ◌<◌, eqb};
+ghost use Rattle.std.specs.Prelude.{Some, ◌≡◌, cond, ◌+◌, ◌-◌, ◌*◌, ◌≤◌, ◌<◌, eqb};
 ghost use Rattle.format.specs.Layout as at;
 ghost use Rattle.format.specs.Layout.{max_levels};
 ghost use Rattle.format.specs.TreeReading.{path_from, path_of};
@@ -24,12 +24,6 @@ pub struct Sum {
     pub minus: u64,
 }
 
-#[derive(Clone, Copy)]
-pub enum Summed {
-    At(Sum),
-    Broken,
-}
-
 impl Sum {
     // After one more block, with more added and subtracted.
     fn enter(self, plus: u32, minus: u32) -> Sum
@@ -46,7 +40,7 @@ impl Sum {
     // The result in one word: the count + 2^48 × the blocks entered. A count is never negative.
     fn packed(self) -> u64
         requires { (self.entered ≤ 2 * max_levels + 1) × (self.plus ≤ 1099511627776) }
-        ensures { answer_in result ≡ settled (Summed.At self) }
+        ensures { answer_in result ≡ settled (Some self) }
     {
         if self.plus < self.minus {
             return BROKEN;
@@ -122,9 +116,10 @@ fn down(t: &[u8], size: u32, wanted: CountedByte, level: u32, block: BlockNumber
 
 // The kept block that contains a place, the place in it, and what is carried there.
 #[derive(Clone, Copy)]
-pub enum Landing {
-    At(BlockNumber, BlockPlace, Sum),
-    Off,
+pub struct Landing {
+    pub block: BlockNumber,
+    pub place: BlockPlace,
+    pub sum: Sum,
 }
 
 // The kept block for a place of a block: the block itself if it is kept, else the one that it points to. On the last level no block points.
@@ -135,7 +130,7 @@ fn to_kept(
     on: LevelAt,
     position: BlockPosition,
     sum: Sum,
-) -> Landing
+) -> Option<Landing>
     requires { (MayPoint t.now size on.level on.b position.block.0 position.place.0 sum.entered)
         × (Carried t.now wanted.number sum) }
     ensures { LandedSum t.now size on.level on.b wanted.byte wanted.number position.block.0 position.place.0 sum result }
@@ -144,16 +139,20 @@ fn to_kept(
     let place = position.place;
     let here = walk_steps::classify_block(t, size, on.level, on.b, block, place);
     match here {
-        BlockKind::Kept(_, _) => Landing::At(block, place, sum),
+        BlockKind::Kept(_, _) => Some(Landing { block, place, sum }),
         BlockKind::Points(_, _) => {
             let there = walk_steps::resolve_target(t, size, on.level, on.b, block, place);
             let BlockAt::At(i, p) = there else {
-                return Landing::Off;
+                return None;
             };
             let pointer = Pointer { block, target: i };
-            Landing::At(i, p, across(t, size, wanted, on.level, pointer, sum))
+            Some(Landing {
+                block: i,
+                place: p,
+                sum: across(t, size, wanted, on.level, pointer, sum),
+            })
         }
-        BlockKind::Off => Landing::Off,
+        BlockKind::Off => None,
     }
 }
 
@@ -233,8 +232,8 @@ fn pointing_step(
     };
     let on = LevelAt { level, b };
     let position = BlockPosition { block, place };
-    let there = to_kept(tree, size, wanted, on, position, sum);
-    let Landing::At(i, p, further) = there else {
+    let landing = to_kept(tree, size, wanted, on, position, sum);
+    let Some(there) = landing else {
         return BROKEN;
     };
     kept_step(
@@ -243,11 +242,11 @@ fn pointing_step(
         wanted,
         level,
         b,
-        i,
-        p,
-        further.entered,
-        further.plus,
-        further.minus,
+        there.block,
+        there.place,
+        there.sum.entered,
+        there.sum.plus,
+        there.sum.minus,
     )
 }
 

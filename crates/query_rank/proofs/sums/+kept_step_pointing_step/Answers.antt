@@ -1,9 +1,7 @@
 use mathlib.Core.List.{List}
 use mathlib.Core.Path.{◌≡◌, sym, ap, ◌∙◌}
-use Prim.Native.Nat.{ℕ, ◌+◌, ◌-◌, ◌/◌}
+use Prim.Native.Nat.{ℕ, ◌+◌, ◌/◌}
 use native.Mathlib.Omega.{arith}
-use Rattle.query_rank.proofs.sums.kept_step.Reads as kept_step
-use Rattle.query_rank.proofs.sums.leaf.Reads as leaf
 use Rattle.format.specs.Layout as at
 use Rattle.layout.proofs.ShapeLaws.{Shapes, shapes}
 use Rattle.walk_path.proofs.WalkLaws as walk
@@ -73,17 +71,17 @@ kept_step-returns t c =
     _ (below _ c.quotient-below.ensures) _ c.child-child.ensures
     _ _ _ c.in-At.is _ c.down-further.ensures.value _ _ c.pointing_step.ensures
 
-pub pointing_step-to_kept-there-requires : goal.pointing_step-to_kept-there-requires
-pointing_step-to_kept-there-requires t c = c.requires
+pub pointing_step-to_kept-landing-requires : goal.pointing_step-to_kept-landing-requires
+pointing_step-to_kept-landing-requires t c = c.requires
 
 pub pointing_step-returns-in_default : goal.pointing_step-returns-in_default
-pointing_step-returns-in_default t c = laws.landed_none _ _ _ _ _ _ _ _ _ _ c.to_kept-there.ensures c.in_default.is
+pointing_step-returns-in_default t c = laws.landed_none _ _ _ _ _ _ _ _ _ _ c.to_kept-landing.ensures c.in_default.is
 
 pub pointing_step-kept_step-requires : goal.pointing_step-kept_step-requires
-pointing_step-kept_step-requires t c = let z = laws.landed-on _ _ _ _ _ _ _ _ _ _ c.to_kept-there.ensures _ _ _ c.in-At.is in (
+pointing_step-kept_step-requires t c = let z = laws.landed-on _ _ _ _ _ _ _ _ _ _ c.to_kept-landing.ensures _ c.in-Some.is in (
   omega (arith, c.decreases),
   (z.0, z.1),
 )
 
 pub pointing_step-returns : goal.pointing_step-returns
-pointing_step-returns t c = c.kept_step.ensures ∙ (laws.landed-on _ _ _ _ _ _ _ _ _ _ c.to_kept-there.ensures _ _ _ c.in-At.is).2
+pointing_step-returns t c = c.kept_step.ensures ∙ (laws.landed-on _ _ _ _ _ _ _ _ _ _ c.to_kept-landing.ensures _ c.in-Some.is).2
