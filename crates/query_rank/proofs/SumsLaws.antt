@@ -23,8 +23,6 @@ use Rattle.layout.specs.Record.{FieldIn, field_in}
 use Rattle.walk_steps.specs.declared.BlockKind.{BlockKind}
 use Rattle.walk_steps.specs.declared.BlockKind.TheVariants.{Kept, Points, Off}
 use Rattle.walk_steps.specs.declared.position.BlockPosition.{BlockPosition}
-use Rattle.walk_steps.specs.declared.BlockAt.{BlockAt}
-use Rattle.walk_steps.specs.declared.BlockAt.TheVariants as block_at
 use Rattle.walk_steps.specs.Steps.{OnLevel, block_kind_at, child_at, resolved_target}
 use Rattle.walk_path.specs.Walk.{KeptAt, MayPoint, onward as trailed}
 use Rattle.walk_path.specs.declared.WalkState.{WalkState}
@@ -194,7 +192,8 @@ by_last t size byte c level b i o s r k last e =
 
 -- From a kept block to a child.
 module _ (t : List ℕ) (size level b i o : ℕ) (s : Sum) (k : KeptAt t size level b i o s.entered) (more : level + 1 ≡ (at.settings t).levels → ⊥)
-    (below : ℕ) (b_is : below ≡ b / (at.settings t).arity) (x : BlockAt) (x-is : x ≡ child_at t (level + 1) (at.link t level i + o / below) (o % below)) where
+    (below : ℕ) (b_is : below ≡ b / (at.settings t).arity) (x : OptionOf BlockPosition)
+    (x-is : x ≡ child_at t (level + 1) (at.link t level i + o / below) (o % below)) where
   lower : OnLevel t size (level + 1) below
   lower = (walk.asks-child t size level b i o s.entered k more below b_is).0
 
@@ -208,36 +207,38 @@ module _ (t : List ℕ) (size level b i o : ℕ) (s : Sum) (k : KeptAt t size le
       rw (z, lower.b_is) (from-kept t n level i o k.kept)
 
   pub by-off : (byte c : ℕ)
-      → x ≡ block_at.Off → answer_in 18446744073709551615 ≡ settled_from t level byte c i o s
+      → x ≡ None → answer_in 18446744073709551615 ≡ settled_from t level byte c i o s
   by-off byte c e =
       let j = at.link t level i + o / below in
       settled-none t byte c s _ (way-child ∙ rw (from_past t n (level + 1) j (o % below) (child-off t (level + 1) j (o % below) x x-is e)))
 
-  module _ (c : ℕ) (j : BlockNumber) (p : BlockPlace) (e : x ≡ block_at.At j p) where
+  module _ (c : ℕ) (j : BlockPosition) (e : x ≡ Some j) where
     -- The precondition of reading its count before.
     pub down-asks : Carried t c s
-        → (OnLevel t size (level + 1) (at.full_length t (level + 1))) × (j.0 < at.level_count t (level + 1)) × (s.entered ≤ 2 * max_levels) × (Carried t c s)
+        → (OnLevel t size (level + 1) (at.full_length t (level + 1))) × (j.block.0 < at.level_count t (level + 1)) × (s.entered ≤ 2 * max_levels)
+        × (Carried t c s)
     down-asks w =
-        let z = child-at t (level + 1) (at.link t level i + o / below) (o % below) x x-is j p e in
+        let z = child-at t (level + 1) (at.link t level i + o / below) (o % below) x x-is j e in
         (rw (← lower.b_is) lower, rw z.1 z.0, entered-small t size level b i o s.entered k, w)
 
-    module _ (on : Sum) (on-is : on ≡ rank_onward s (at.before t (level + 1) j.0 c) 0) where
-      pub to-child : Carried t c on → (MayPoint t size (level + 1) below j.0 p.0 on.entered) × (Carried t c on)
+    module _ (on : Sum) (on-is : on ≡ rank_onward s (at.before t (level + 1) j.block.0 c) 0) where
+      pub to-child : Carried t c on → (MayPoint t size (level + 1) below j.block.0 j.place.0 on.entered) × (Carried t c on)
       unfolding trailed
       to-child w =
           let state : WalkState = record { entered = s.entered; left = 0 } in (
-            rw (entered_on s on (at.before t (level + 1) j.0 c) 0 on-is)
-                (walk.child-may t size level b i o state k more below b_is (trailed state (b - o)) refl x x-is j p e),
+            rw (entered_on s on (at.before t (level + 1) j.block.0 c) 0 on-is)
+                (walk.child-may t size level b i o state k more below b_is (trailed state (b - o)) refl x x-is j e),
             w,
           )
 
-      pub by-child : (byte : ℕ) (r : Answer) → r ≡ settled (summed t byte c on (path_from t n (level + 1) j.0 p.0))
+      pub by-child : (byte : ℕ) (r : Answer) → r ≡ settled (summed t byte c on (path_from t n (level + 1) j.block.0 j.place.0))
           → r ≡ settled_from t level byte c i o s
       by-child byte r f =
-          let z = child-at t (level + 1) (at.link t level i + o / below) (o % below) x x-is j p e in
-          let way : path_from t ((at.settings t).levels - 1 - level) level i o ≡ entered (visit level i o ∷ []) (path_from t n (level + 1) j.0 p.0) =
+          let z = child-at t (level + 1) (at.link t level i + o / below) (o % below) x x-is j e in
+          let way : path_from t ((at.settings t).levels - 1 - level) level i o
+          ≡ entered (visit level i o ∷ []) (path_from t n (level + 1) j.block.0 j.place.0) =
           rw (z.1, z.2) way-child in
-          rw way (rw on-is at f ∙ ap settled (sum-child t byte c s n level i o j.0 p.0))
+          rw way (rw on-is at f ∙ ap settled (sum-child t byte c s n level i o j.block.0 j.place.0))
 
 -- A target is the block linked to, or the next.
 link_low : (t : List ℕ) (level i o : ℕ) → at.link t level i ≤ target_block t level i o
@@ -260,7 +261,7 @@ module _ (t : List ℕ) (size level b i o : ℕ) (s : Sum) (k : MayPoint t size 
   unfolding LandedSum
   by_itself byte c j p e w = (walk.may-keep t size level b i o s.entered k x x-is j p e, w, refl)
 
-  module _ (j : BlockNumber) (p : BlockPlace) (e : x ≡ Points j p) (y : BlockAt) (y-is : y ≡ resolved_target t level i o) where
+  module _ (j : BlockNumber) (p : BlockPlace) (e : x ≡ Points j p) (y : OptionOf BlockPosition) (y-is : y ≡ resolved_target t level i o) where
     points : pointing_block t level i ≡ true
     points = (next-points t level i o x x-is j p e).1
 
@@ -270,39 +271,39 @@ module _ (t : List ℕ) (size level b i o : ℕ) (s : Sum) (k : MayPoint t size 
     abbrev state : WalkState
     state = record { entered = s.entered; left = 0 }
 
-    pub by-no-target : (byte c : ℕ) → y ≡ block_at.Off → LandedSum t size level b byte c i o s None
+    pub by-no-target : (byte c : ℕ) → y ≡ None → LandedSum t size level b byte c i o s None
     unfolding LandedSum
     by-no-target byte c f = refused_none t byte c s _ (walk.land-breaks t size level b i o state k x x-is j p e y y-is f)
 
-    module _ (m : BlockNumber) (q : BlockPlace) (f : y ≡ block_at.At m q) where
-      target_kept : KeptAt t size level b m.0 q.0 (s.entered + 1)
+    module _ (m : BlockPosition) (f : y ≡ Some m) where
+      target_kept : KeptAt t size level b m.block.0 m.place.0 (s.entered + 1)
       unfolding trailed
-      target_kept = walk.land-to t size level b i o state k x x-is j p e y y-is (trailed state (b - o)) refl m q f
+      target_kept = walk.land-to t size level b i o state k x x-is j p e y y-is (trailed state (b - o)) refl m f
 
-      pub target-across : Across t size level i m.0
+      pub target-across : Across t size level i m.block.0
       target-across = record {
         on = rw (← k.on.b_is) k.on;
         block_in = k.block_in;
-        target_in = kept_in t level m.0 target_kept.kept;
-        link_low = rw (resolved-at t level i o y y-is m q f).2 (link_low t level i o);
+        target_in = kept_in t level m.block.0 target_kept.kept;
+        link_low = rw (resolved-at t level i o y y-is m f).2 (link_low t level i o);
       }
 
       module _ (byte c : ℕ) (on : Sum)
-          (on-is : on ≡ rank_onward s (cond (eqb m.0 (at.link t level i)) 0 (at.inside t level (at.link t level i) c)) (at.skip t level i c)) where
-        same_count : settled_from t level byte c m.0 q.0 on ≡ settled_from t level byte c i o s
+          (on-is : on ≡ rank_onward s (cond (eqb m.block.0 (at.link t level i)) 0 (at.inside t level (at.link t level i) c)) (at.skip t level i c)) where
+        same_count : settled_from t level byte c m.block.0 m.place.0 on ≡ settled_from t level byte c i o s
         same_count =
-            let z = resolved-at t level i o y y-is m q f in
+            let z = resolved-at t level i o y y-is m f in
             let n = (at.settings t).levels - 1 - (level + 1) in
             let a : (at.settings t).levels - 1 - level ≡ suc n = omega (arith, z.0) in
             let way : path_from t ((at.settings t).levels - 1 - level)
-            level i o ≡ entered (visit level i o ∷ []) (path_from t ((at.settings t).levels - 1 - level) level m.0 q.0) =
+            level i o ≡ entered (visit level i o ∷ []) (path_from t ((at.settings t).levels - 1 - level) level m.block.0 m.place.0) =
             rw (a, z.2, z.3) (from-pointing t n level i o apart points z.1) in
-            rw (way, on-is) (ap settled (sum-target t byte c s ((at.settings t).levels - 1 - level) level i o m.0 q.0))
+            rw (way, on-is) (ap settled (sum-target t byte c s ((at.settings t).levels - 1 - level) level i o m.block.0 m.place.0))
 
-        pub by-target : Carried t c on → LandedSum t size level b byte c i o s (Some (record { block = m; place = q; sum = on }))
+        pub by-target : Carried t c on → LandedSum t size level b byte c i o s (Some (record { block = m.block; place = m.place; sum = on }))
         unfolding LandedSum
         by-target w = (
-          rw (entered_on s on (cond (eqb m.0 (at.link t level i)) 0 (at.inside t level (at.link t level i) c)) (at.skip t level i c) on-is) target_kept,
+          rw (entered_on s on (cond (eqb m.block.0 (at.link t level i)) 0 (at.inside t level (at.link t level i) c)) (at.skip t level i c) on-is) target_kept,
           w,
           same_count,
         )

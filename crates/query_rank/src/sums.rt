@@ -13,8 +13,8 @@ use layout::header::Header;
 use layout::place::{BlockNumber, BlockPlace, TextPlace};
 use layout::{fields, record};
 use query_counted::CountedByte;
+use walk_steps::BlockKind;
 use walk_steps::position::{BlockPosition, LevelAt};
-use walk_steps::{BlockAt, BlockKind};
 
 // What is carried down a path: the number of blocks entered, the sum of what is added, and the sum of what is subtracted.
 #[derive(Clone, Copy)]
@@ -142,13 +142,16 @@ fn to_kept(
         BlockKind::Kept(_, _) => Some(Landing { block, place, sum }),
         BlockKind::Points(_, _) => {
             let there = walk_steps::resolve_target(t, size, on.level, on.b, block, place);
-            let BlockAt::At(i, p) = there else {
+            let Some(target) = there else {
                 return None;
             };
-            let pointer = Pointer { block, target: i };
+            let pointer = Pointer {
+                block,
+                target: target.block,
+            };
             Some(Landing {
-                block: i,
-                place: p,
+                block: target.block,
+                place: target.place,
                 sum: across(t, size, wanted, on.level, pointer, sum),
             })
         }
@@ -189,18 +192,18 @@ fn kept_step(
     }
     let below = walk_steps::quotient(b, shape.arity);
     let child = walk_steps::child(tree, size, level, below, block, place);
-    let BlockAt::At(i, p) = child else {
+    let Some(next) = child else {
         return BROKEN;
     };
-    let further = down(tree, size, wanted, under, i, sum);
+    let further = down(tree, size, wanted, under, next.block, sum);
     pointing_step(
         t,
         size,
         wanted,
         under,
         below,
-        i,
-        p,
+        next.block,
+        next.place,
         further.entered,
         further.plus,
         further.minus,

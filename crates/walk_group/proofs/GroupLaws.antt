@@ -21,8 +21,7 @@ use Rattle.layout.specs.declared.place.BlockPlace.{BlockPlace}
 use Rattle.layout.specs.HeaderFields.{HeaderOf}
 use Rattle.walk_steps.specs.declared.BlockKind.{BlockKind}
 use Rattle.walk_steps.specs.declared.BlockKind.TheVariants.{Kept, Points, Off}
-use Rattle.walk_steps.specs.declared.BlockAt.{BlockAt}
-use Rattle.walk_steps.specs.declared.BlockAt.TheVariants as block_at
+use Rattle.walk_steps.specs.declared.position.BlockPosition.{BlockPosition}
 use Rattle.walk_steps.specs.Steps.{OnLevel, Pointing, block_kind_at, child_at, resolved_target}
 use Rattle.walk_steps.proofs.NextLaws.{on-top, next-kept, next-points, next-off, child-at, child-off, resolved-at, resolved-off}
 use Rattle.walk_steps.proofs.StepLaws.{b-pos, first-there, kept_in}
@@ -65,22 +64,22 @@ module _ (t : List ℕ) (size l b below i o : ℕ) (on : OnLevel t size l b) (lo
     child-leaf : leaf_at t (l + 1) (at.link t l j + q / below) (q % below) ≡ leaf_at t l i o
     child-leaf = rw lower.b_is (sym (leaf-kept t l more j q kept)) ∙ same
 
-    to-child : (x : BlockAt) → x ≡ child_at t (l + 1) (at.link t l j + q / below) (q % below) → StepAnswer t l i o x
+    to-child : (x : prelude.Option BlockPosition) → x ≡ child_at t (l + 1) (at.link t l j + q / below) (q % below) → StepAnswer t l i o x
     unfolding leaf_at
-    to-child (block_at.At k p) e =
-        let z = child-at t (l + 1) (at.link t l j + q / below) (q % below) _ e k p refl in
+    to-child (Some y) e =
+        let z = child-at t (l + 1) (at.link t l j + q / below) (q % below) _ e y refl in
         let m : q % below < below = mod-lt q (b-pos t size (l + 1) below lower) in record {
           there = record { block_in = rw z.1 z.0; place-in = rw (z.2, ← lower.b_is) m };
           same_leaf = rw (z.1, z.2) child-leaf;
         }
-    to-child block_at.Off e =
+    to-child None e =
         sym child-leaf
         ∙ ap leaf_number (from_past t _ (l + 1) (at.link t l j + q / below) (q % below)
         (child-off t (l + 1) (at.link t l j + q / below) (q % below) _ e refl))
 
   module _ (x : BlockKind) (x-is : x ≡ block_kind_at t l i o) where
-    pub step_kept : (j : BlockNumber) (p : BlockPlace) → x ≡ Kept j p → (y : BlockAt) → y ≡ child_at t (l + 1) (at.link t l i + o / below) (o % below)
-        → StepAnswer t l i o y
+    pub step_kept : (j : BlockNumber) (p : BlockPlace) → x ≡ Kept j p → (y : prelude.Option BlockPosition)
+        → y ≡ child_at t (l + 1) (at.link t l i + o / below) (o % below) → StepAnswer t l i o y
     step_kept j p e y y-is = to-child i o (next-kept t l i o x x-is j p e).0 refl y y-is
 
     pub step-off : x ≡ Off → leaf_at t l i o ≡ none
@@ -91,26 +90,27 @@ module _ (t : List ℕ) (size l b below i o : ℕ) (on : OnLevel t size l b) (lo
       pub step-pointing : Pointing t size l b i o
       step-pointing = record { on = on; place-in = rw on.b_is here.place-in; points = (next-points t l i o x x-is j p e).1 }
 
-      module _ (y : BlockAt) (y-is : y ≡ resolved_target t l i o) where
-        pub step-no-target : y ≡ block_at.Off → leaf_at t l i o ≡ none
+      module _ (y : prelude.Option BlockPosition) (y-is : y ≡ resolved_target t l i o) where
+        pub step-no-target : y ≡ None → leaf_at t l i o ≡ none
         unfolding leaf_at
         step-no-target f =
             let n = next-points t l i o x x-is j p e in
             let z : is_kept_block t l (target_block t l i o) ≡ false = rw (lt-ltb _ _ more) at (resolved-off t l i o y y-is f) in
             rw (left_is t l more) (ap leaf_number (from-no-target t _ l i o n.0 z n.1))
 
-        module _ (k : BlockNumber) (q : BlockPlace) (f : y ≡ block_at.At k q) where
-          target_kept : is_kept_block t l k.0 ≡ true
-          target_kept = let z = resolved-at t l i o y y-is k q f in rw z.2 z.1
+        module _ (k : BlockPosition) (f : y ≡ Some k) where
+          target_kept : is_kept_block t l k.block.0 ≡ true
+          target_kept = let z = resolved-at t l i o y y-is k f in rw z.2 z.1
 
-          pub step-child : (OnLevel t size (l + 1) below) × (k.0 < at.level_count t l)
-          step-child = (lower, kept_in t l k.0 target_kept)
+          pub step-child : (OnLevel t size (l + 1) below) × (k.block.0 < at.level_count t l)
+          step-child = (lower, kept_in t l k.block.0 target_kept)
 
-          pub step-target : (w : BlockAt) → w ≡ child_at t (l + 1) (at.link t l k.0 + q.0 / below) (q.0 % below) → StepAnswer t l i o w
+          pub step-target : (w : prelude.Option BlockPosition)
+              → w ≡ child_at t (l + 1) (at.link t l k.block.0 + k.place.0 / below) (k.place.0 % below) → StepAnswer t l i o w
           step-target w w-is =
               let n = next-points t l i o x x-is j p e in
-              let z = resolved-at t l i o y y-is k q f in
-              to-child k.0 q.0 target_kept (rw (z.2, z.3) (sym (leaf-target t l more i o n.0 n.1 z.1))) w w-is
+              let z = resolved-at t l i o y y-is k f in
+              to-child k.block.0 k.place.0 target_kept (rw (z.2, z.3) (sym (leaf-target t l more i o n.0 n.1 z.1))) w w-is
 
 -- Places of level 0.
 module _ (p s b : ℕ) where
@@ -130,8 +130,8 @@ module _ (t : List ℕ) (l : ℕ) (is₀ os₀ : List ℕ) where
     pub others : (j : ℕ) → k ≤ j → (get_or is j 0 ≡ get_or is₀ j 0) × (get_or os j 0 ≡ get_or os₀ j 0)
 
   module _ (is os : List ℕ) (k : ℕ) (c : StepsUpTo is os k) where
-    module _ (x : BlockAt) (x-is : StepAnswer t l (get_or is k 0) (get_or os k 0) x) where
-      pub steps-off : (n : ℕ) → k < n → x ≡ block_at.Off → WalkedTo t l (l + 1) n is₀ os₀ is os false
+    module _ (x : prelude.Option BlockPosition) (x-is : StepAnswer t l (get_or is k 0) (get_or os k 0) x) where
+      pub steps-off : (n : ℕ) → k < n → x ≡ None → WalkedTo t l (l + 1) n is₀ os₀ is os false
       unfolding group_leaf
       steps-off n less e = let z = c.others k (omega arith) in (k, less, rw (z.0, z.1) at (rw e at x-is))
 

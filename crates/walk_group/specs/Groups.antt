@@ -3,8 +3,7 @@ use Rattle.std.specs.Prelude.{List, Bool, true, false, Option as OptionOf, Some,
 use Rattle.std.proofs.Math.Option.{Option, none, some}
 use Rattle.format.specs.Layout as at
 use Rattle.format.specs.TreeReading.{path_from, path_of}
-use Rattle.walk_steps.specs.declared.BlockAt.{BlockAt}
-use Rattle.walk_steps.specs.declared.BlockAt.TheVariants as block_at
+use Rattle.walk_steps.specs.declared.position.BlockPosition.{BlockPosition}
 use Rattle.walk_ranges.specs.Segments.{leaf_number}
 
 -- The first n of the places p, p + s and so on are below m.
@@ -43,9 +42,9 @@ module _ (t : List ℕ) where
     pub same_leaf : leaf_at m j q ≡ leaf_at l i o
 
   -- The answer of `step`.
-  abbrev pub StepAnswer : ℕ → ℕ → ℕ → BlockAt → Type 0
-  StepAnswer l i o (block_at.At j q) = GoesTo l i o (l + 1) j.0 q.0
-  StepAnswer l i o block_at.Off = leaf_at l i o ≡ none
+  abbrev pub StepAnswer : ℕ → ℕ → ℕ → OptionOf BlockPosition → Type 0
+  StepAnswer l i o (Some x) = GoesTo l i o (l + 1) x.block.0 x.place.0
+  StepAnswer l i o None = leaf_at l i o ≡ none
 
   -- The first n paths came from level l to blocks js and places qs of level m; or one of them breaks.
   abbrev pub WalkedTo : (l m n : ℕ) (is os js qs : List ℕ) → Bool → Type 0

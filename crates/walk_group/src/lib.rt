@@ -12,7 +12,8 @@ ghost use Rattle.walk_group.specs.Groups.{InBlock, GroupAt, group_leaf, place_le
 use layout::header::Header;
 use layout::place::{BlockNumber, BlockPlace};
 use layout::record;
-use walk_steps::{BlockAt, BlockKind};
+use walk_steps::BlockKind;
+use walk_steps::position::BlockPosition;
 
 // The most paths that are walked together.
 pub const MOST: u32 = 16;
@@ -56,7 +57,7 @@ fn top_positions(p: Places, b: u32, blocks: &mut [u32], places: &mut [u32])
 }
 
 // One step of one path, from a block above the last level to a block of the next level.
-fn step(t: &[u8], on: UpperLevel, block: BlockNumber, place: BlockPlace) -> BlockAt
+fn step(t: &[u8], on: UpperLevel, block: BlockNumber, place: BlockPlace) -> Option<BlockPosition>
     requires { (OnLevel t.now on.size on.level on.b) × (OnLevel t.now on.size (on.level + 1) on.below)
         × (InBlock t.now on.level block.0 place.0) }
     ensures { StepAnswer t.now on.level block.0 place.0 result }
@@ -66,12 +67,12 @@ fn step(t: &[u8], on: UpperLevel, block: BlockNumber, place: BlockPlace) -> Bloc
         BlockKind::Kept(_, _) => walk_steps::child(t, on.size, on.level, on.below, block, place),
         BlockKind::Points(_, _) => {
             let there = walk_steps::resolve_target(t, on.size, on.level, on.b, block, place);
-            let BlockAt::At(i, p) = there else {
-                return BlockAt::Off;
+            let Some(target) = there else {
+                return None;
             };
-            walk_steps::child(t, on.size, on.level, on.below, i, p)
+            walk_steps::child(t, on.size, on.level, on.below, target.block, target.place)
         }
-        BlockKind::Off => BlockAt::Off,
+        BlockKind::Off => None,
     }
 }
 
@@ -86,11 +87,11 @@ fn step_all(t: &[u8], on: UpperLevel, n: u32, blocks: &mut [u32], places: &mut [
         let block = BlockNumber(blocks[k]);
         let place = BlockPlace(places[k]);
         let next = step(t, on, block, place);
-        let BlockAt::At(i, p) = next else {
+        let Some(below) = next else {
             return false;
         };
-        blocks[k] = i.0;
-        places[k] = p.0;
+        blocks[k] = below.block.0;
+        places[k] = below.place.0;
     }
     true
 }

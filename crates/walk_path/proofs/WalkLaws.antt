@@ -21,8 +21,6 @@ use Rattle.layout.specs.declared.place.BlockPlace.{BlockPlace}
 use Rattle.walk_steps.specs.declared.BlockKind.{BlockKind}
 use Rattle.walk_steps.specs.declared.BlockKind.TheVariants.{Kept, Points, Off}
 use Rattle.walk_steps.specs.declared.position.BlockPosition.{BlockPosition}
-use Rattle.walk_steps.specs.declared.BlockAt.{BlockAt}
-use Rattle.walk_steps.specs.declared.BlockAt.TheVariants as arrived
 use Rattle.walk_path.specs.declared.WalkState.{WalkState}
 use Rattle.std.specs.Prelude.{Some, None}
 use Rattle.std.specs.Prelude as prelude
@@ -136,7 +134,7 @@ module _ (t : List ℕ) (size level b i o : ℕ) (state : WalkState) (k : KeptAt
 
   module _ (down : level + 1 ≡ (at.settings t).levels → ⊥) (below : ℕ) (b_is : below ≡ b / (at.settings t).arity) (on : WalkState)
       (on-is : on ≡ onward state (b - o))
-      (x : BlockAt) (x-is : x ≡ child_at t (level + 1) (at.link t level i + o / below) (o % below)) where
+      (x : prelude.Option BlockPosition) (x-is : x ≡ child_at t (level + 1) (at.link t level i + o / below) (o % below)) where
     lower : OnLevel t size (level + 1) below
     lower = (asks-child t size level b i o state.entered k down below b_is).0
 
@@ -150,10 +148,10 @@ module _ (t : List ℕ) (size level b i o : ℕ) (state : WalkState) (k : KeptAt
         rw (s, above_kept t n level i o k.kept, ← lower.b_is)
         (rw (on-is, k.on.b_is) at e ∙ walked-enter t state level i o (above_from t n (level + 1) (at.link t level i + o / below) (o % below)))
 
-    pub child-may : (j : BlockNumber) (p : BlockPlace) → x ≡ arrived.At j p → MayPoint t size (level + 1) below j.0 p.0 on.entered
+    pub child-may : (y : BlockPosition) → x ≡ Some y → MayPoint t size (level + 1) below y.block.0 y.place.0 on.entered
     unfolding onward
-    child-may j p e =
-        let z = child-at t (level + 1) (at.link t level i + o / below) (o % below) x x-is j p e in
+    child-may y e =
+        let z = child-at t (level + 1) (at.link t level i + o / below) (o % below) x x-is y e in
         let m : o % below < below = mod-lt o (b-pos t size (level + 1) below lower) in
         let n : on.entered ≡ state.entered + 1 = ap (λ (y : WalkState). y.entered) on-is in record {
           on = lower;
@@ -162,14 +160,14 @@ module _ (t : List ℕ) (size level b i o : ℕ) (state : WalkState) (k : KeptAt
           few = omega (arith, k.few);
         }
 
-    pub child-by : (r : prelude.Option PathEnd) (j : BlockNumber) (p : BlockPlace) → x ≡ arrived.At j p
-        → r ≡ walked t on (above_from t ((at.settings t).levels - 1 - (level + 1)) (level + 1) j.0 p.0)
+    pub child-by : (r : prelude.Option PathEnd) (y : BlockPosition) → x ≡ Some y
+        → r ≡ walked t on (above_from t ((at.settings t).levels - 1 - (level + 1)) (level + 1) y.block.0 y.place.0)
         → r ≡ walked t state (above_from t ((at.settings t).levels - 1 - level) level i o)
-    child-by r j p e f =
-        let z = child-at t (level + 1) (at.link t level i + o / below) (o % below) x x-is j p e in
+    child-by r y e f =
+        let z = child-at t (level + 1) (at.link t level i + o / below) (o % below) x x-is y e in
         kept-down r (rw (z.1, z.2) at f)
 
-    pub child-none : x ≡ arrived.Off → None ≡ walked t state (above_from t ((at.settings t).levels - 1 - level) level i o)
+    pub child-none : x ≡ None → None ≡ walked t state (above_from t ((at.settings t).levels - 1 - level) level i o)
     unfolding walked
     child-none e =
         let n = (at.settings t).levels - 1 - (level + 1) in
@@ -223,9 +221,9 @@ module _ (t : List ℕ) (size level b i o : ℕ) (state : WalkState) (k : MayPoi
     apart : is_kept_block t level i ≡ false
     apart = (next-points t level i o x x-is j p e).0
 
-    module _ (y : BlockAt) (y-is : y ≡ resolved_target t level i o) where
+    module _ (y : prelude.Option BlockPosition) (y-is : y ≡ resolved_target t level i o) where
       -- On the last level no block points; nor does a target.
-      pub land-breaks : y ≡ arrived.Off → path_from t ((at.settings t).levels - 1 - level) level i o ≡ none
+      pub land-breaks : y ≡ None → path_from t ((at.settings t).levels - 1 - level) level i o ≡ none
       land-breaks f = go (lt-or-ge (level + 1) (at.settings t).levels)
         where
           go : (level + 1 < (at.settings t).levels) ⊎ ((at.settings t).levels ≤ level + 1) → path_from t ((at.settings t).levels - 1 - level) level i o ≡ none
@@ -237,17 +235,17 @@ module _ (t : List ℕ) (size level b i o : ℕ) (state : WalkState) (k : MayPoi
               let s : (at.settings t).levels - 1 - level ≡ 0 = omega (arith, k.on.level_in) in
               rw (s, from-last-points t level i o apart)
 
-      pub landing-none : level + 1 < (at.settings t).levels → y ≡ arrived.Off → None ≡ landing_at t state level i o
+      pub landing-none : level + 1 < (at.settings t).levels → y ≡ None → None ≡ landing_at t state level i o
       unfolding landing_at
       landing-none more f =
           let z : is_kept_block t level (target_block t level i o) ≡ false = rw (lt-ltb _ _ more) at (resolved-off t level i o y y-is f) in
           rw (apart, points, z)
 
-      module _ (on : WalkState) (on-is : on ≡ onward state (b - o)) (m : BlockNumber) (q : BlockPlace) (f : y ≡ arrived.At m q) where
-        pub land-to : KeptAt t size level b m.0 q.0 on.entered
+      module _ (on : WalkState) (on-is : on ≡ onward state (b - o)) (m : BlockPosition) (f : y ≡ Some m) where
+        pub land-to : KeptAt t size level b m.block.0 m.place.0 on.entered
         unfolding onward
         land-to =
-            let z = resolved-at t level i o y y-is m q f in
+            let z = resolved-at t level i o y y-is m f in
             let small = target_small t level i o points (rw k.on.b_is at k.place-in) in
             let n : on.entered ≡ state.entered + 1 = ap (λ (w : WalkState). w.entered) on-is in record {
               on = k.on;
@@ -256,11 +254,11 @@ module _ (t : List ℕ) (size level b i o : ℕ) (state : WalkState) (k : MayPoi
               few = omega (arith, k.few);
             }
 
-        pub landing-target : landed m q on ≡ landing_at t state level i o
+        pub landing-target : landed m.block m.place on ≡ landing_at t state level i o
         unfolding landing_at
         landing-target =
-            let z = resolved-at t level i o y y-is m q f in
-            rw (apart, points, z.1) (same-landing m q on _ _ _ z.2 z.3 (on-is ∙ ap (λ (y : ℕ). onward state (y - o)) k.on.b_is))
+            let z = resolved-at t level i o y y-is m f in
+            rw (apart, points, z.1) (same-landing m.block m.place on _ _ _ z.2 z.3 (on-is ∙ ap (λ (y : ℕ). onward state (y - o)) k.on.b_is))
 
 -- Where the walk goes on: in the block itself, or in its target.
 
@@ -360,7 +358,8 @@ module _ (t : List ℕ) (size level b i o : ℕ) (state : WalkState) (k : MayPoi
               let n = (at.settings t).levels - 1 - (level + 1) in
               let points = and_left (pointing_block t level i) (is_kept_block t level (target_block t level i o)) c.1 in
               let kept = and_right (pointing_block t level i) (is_kept_block t level (target_block t level i o)) c.1 in
-              let w : r ≡ walked t (onward state (at.full_length t level - o)) (above_from t (suc n) level (target_block t level i o) (target_place t level i o)) =
+              let w : r ≡ walked t (onward state (at.full_length t level - o))
+              (above_from t (suc n) level (target_block t level i o) (target_place t level i o)) =
               rw (steps, c.2, c.3, c.4) at f in
               rw (steps, above-pointing t n level i o c.0 points kept)
               (w ∙ walked-enter t state level i o (above_from t (suc n) level (target_block t level i o) (target_place t level i o)))

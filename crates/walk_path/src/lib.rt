@@ -11,7 +11,7 @@ ghost use Rattle.walk_path.specs.Walk.{KeptAt, MayPoint, walked, walked_in, onwa
 
 use layout::fields;
 use layout::place::{BlockNumber, BlockPlace, TextPlace};
-use walk_steps::{BlockAt, BlockKind};
+use walk_steps::BlockKind;
 
 // What is carried down a path: the number of blocks entered, and the bytes left after the place in each of them, at the least.
 #[derive(Clone, Copy)]
@@ -103,12 +103,12 @@ fn to_kept(
         BlockKind::Points(_, _) => {
             let further = state.enter(b, place);
             let there = walk_steps::resolve_target(t, size, level, b, block, place);
-            let BlockAt::At(i, p) = there else {
+            let Some(target) = there else {
                 return None;
             };
             Some(Landing {
-                block: i,
-                place: p,
+                block: target.block,
+                place: target.place,
                 state: further,
             })
         }
@@ -141,14 +141,23 @@ fn kept_step(
     let state = WalkState { entered, left };
     let further = state.enter(b, place);
     let child = walk_steps::child(tree, size, level, below, block, place);
-    let BlockAt::At(i, p) = child else {
+    let Some(next) = child else {
         return BROKEN;
     };
     let down = level + 1;
     if down + 1 == shape.levels {
-        return packed(i, p, further);
+        return packed(next.block, next.place, further);
     }
-    pointing_step(t, size, down, below, i, p, further.entered, further.left)
+    pointing_step(
+        t,
+        size,
+        down,
+        below,
+        next.block,
+        next.place,
+        further.entered,
+        further.left,
+    )
 }
 
 // From a block above the last level, at which a pointer may still be followed. The one call of the step for a kept block lets the compiler join

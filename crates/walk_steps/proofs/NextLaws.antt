@@ -17,8 +17,8 @@ use Rattle.layout.specs.declared.place.BlockPlace.{BlockPlace}
 use Rattle.layout.specs.HeaderFields.{HeaderOf}
 use Rattle.walk_steps.specs.declared.BlockKind.{BlockKind}
 use Rattle.walk_steps.specs.declared.BlockKind.TheVariants.{Kept, Points, Off}
-use Rattle.walk_steps.specs.declared.BlockAt.{BlockAt}
-use Rattle.walk_steps.specs.declared.BlockAt.TheVariants as block_at
+use Rattle.walk_steps.specs.declared.position.BlockPosition.{BlockPosition}
+use Rattle.std.specs.Prelude.{Option, Some, None}
 use Rattle.walk_steps.specs.Steps.{OnLevel, block_kind_at, child_at, resolved_target, arriving}
 
 abbrev next_cases : (kept points : Bool) (i o : ℕ) → BlockKind
@@ -93,40 +93,40 @@ on-top t h k = record {
 
 -- What was arrived at.
 
-case_at : (x : Bool) (i o : ℕ) (j : BlockNumber) (p : BlockPlace) → arriving x i o ≡ block_at.At j p → (x ≡ true) × (j.0 ≡ i) × (p.0 ≡ o)
-case_at true i o j p e =
-    let f : j ≡ record { 0 = i } = cc in
-    let g : p ≡ record { 0 = o } = cc in
-    (refl, ap (λ (n : BlockNumber). n.0) f, ap (λ (n : BlockPlace). n.0) g)
-case_at false i o j p e = absurd (let z : ◌≡◌ {A = ℕ} 0 1 = cc in omega arith)
+case_at : (x : Bool) (i o : ℕ) (y : BlockPosition) → arriving x i o ≡ Some y → (x ≡ true) × (y.block.0 ≡ i) × (y.place.0 ≡ o)
+case_at true i o y e =
+    let f : y ≡ record { block = record { 0 = i }; place = record { 0 = o } } = cc in
+    (refl, ap (λ (n : BlockPosition). n.block.0) f, ap (λ (n : BlockPosition). n.place.0) f)
+case_at false i o y e = absurd (let z : ◌≡◌ {A = ℕ} 0 1 = cc in omega arith)
 
-case-none : (x : Bool) (i o : ℕ) → arriving x i o ≡ block_at.Off → x ≡ false
+case-none : (x : Bool) (i o : ℕ) → arriving x i o ≡ None → x ≡ false
 case-none true i o e = absurd (let z : ◌≡◌ {A = ℕ} 0 1 = cc in omega arith)
 case-none false i o e = refl
 
-module _ (t : List ℕ) (l i o : ℕ) (x : BlockAt) where
+module _ (t : List ℕ) (l i o : ℕ) (x : Option BlockPosition) where
   module _ (is : x ≡ child_at t l i o) where
-    pub child-at : (j : BlockNumber) (p : BlockPlace) → x ≡ block_at.At j p → (i < at.level_count t l) × (j.0 ≡ i) × (p.0 ≡ o)
+    pub child-at : (y : BlockPosition) → x ≡ Some y → (i < at.level_count t l) × (y.block.0 ≡ i) × (y.place.0 ≡ o)
     unfolding child_at
-    child-at j p e =
-        let z = case_at (ltb i (at.level_count t l)) i o j p (sym is ∙ e) in
+    child-at y e =
+        let z = case_at (ltb i (at.level_count t l)) i o y (sym is ∙ e) in
         (ltb-true _ _ z.0, z.1, z.2)
 
-    pub child-off : x ≡ block_at.Off → at.level_count t l ≤ i
+    pub child-off : x ≡ None → at.level_count t l ≤ i
     unfolding child_at
     child-off e = ltb-false _ _ (case-none (ltb i (at.level_count t l)) i o (sym is ∙ e))
 
   module _ (is : x ≡ resolved_target t l i o) where
-    pub resolved-at : (j : BlockNumber) (p : BlockPlace) → x ≡ block_at.At j p
-        → (l + 1 < (at.settings t).levels) × (is_kept_block t l (target_block t l i o) ≡ true) × (j.0 ≡ target_block t l i o) × (p.0 ≡ target_place t l i o)
+    pub resolved-at : (y : BlockPosition) → x ≡ Some y
+        → (l + 1 < (at.settings t).levels) × (is_kept_block t l (target_block t l i o) ≡ true) × (y.block.0 ≡ target_block t l i o)
+        × (y.place.0 ≡ target_place t l i o)
     unfolding resolved_target
-    resolved-at j p e =
+    resolved-at y e =
         let more = ltb (l + 1) (at.settings t).levels in
         let kept = is_kept_block t l (target_block t l i o) in
-        let z = case_at (more && kept) (target_block t l i o) (target_place t l i o) j p (sym is ∙ e) in
+        let z = case_at (more && kept) (target_block t l i o) (target_place t l i o) y (sym is ∙ e) in
         (ltb-true _ _ (and_left more kept z.0), and_right more kept z.0, z.1, z.2)
 
-    pub resolved-off : x ≡ block_at.Off → (ltb (l + 1) (at.settings t).levels && is_kept_block t l (target_block t l i o)) ≡ false
+    pub resolved-off : x ≡ None → (ltb (l + 1) (at.settings t).levels && is_kept_block t l (target_block t l i o)) ≡ false
     unfolding resolved_target
     resolved-off e =
         case-none (ltb (l + 1) (at.settings t).levels && is_kept_block t l (target_block t l i o)) (target_block t l i o) (target_place t l i o) (sym is ∙ e)

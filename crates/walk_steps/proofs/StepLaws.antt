@@ -21,7 +21,8 @@ use Rattle.walk_steps.specs.declared.position.BlockPosition.{BlockPosition}
 use Rattle.walk_steps.specs.declared.DivRem.{DivRem}
 use Rattle.walk_steps.specs.declared.BlockKind.{BlockKind}
 use Rattle.walk_steps.specs.declared.BlockKind.TheVariants.{Kept, Points, Off}
-use Rattle.walk_steps.specs.declared.BlockAt.TheVariants as block_at
+use Rattle.std.specs.Prelude as prelude
+use Rattle.std.specs.Prelude.{Some, None}
 use Rattle.walk_steps.proofs.NextLaws.{next-kept, next-points, next-off}
 use Rattle.walk_steps.specs.Steps.{OnLevel, InTable, Pointing, block_kind_at, child_at, resolved_target}
 
@@ -125,6 +126,10 @@ module _ (t : List ℕ) (size level b i start n : ℕ) (k : InTable t size level
   unfolding at.block_length_at
   length_is r e = (e.0 ∙ rw (k.on.b_is, start_is, n-is), e.1)
 
+-- A position by its parts.
+abbrev pub located : BlockNumber → BlockPlace → prelude.Option BlockPosition
+located i o = Some (record { block = i; place = o })
+
 -- The part of a place.
 pub rest_is : (x b q : ℕ) → q ≡ x / b → (q * b ≤ x) × (x - q * b ≡ x % b)
 rest_is x b q e =
@@ -138,12 +143,12 @@ module _ (t : List ℕ) (l k link count o b : ℕ)
   blocks-are : x.blocks ≡ o / b
   blocks-are = ap (λ (y : DivRem). y.blocks) x-is
 
-  pub child-past : count ≤ link + x.blocks → block_at.Off ≡ child_at t l (k + o / b) (o % b)
+  pub child-past : count ≤ link + x.blocks → None ≡ child_at t l (k + o / b) (o % b)
   unfolding child_at
   child-past high = rw (le-ltb (k + o / b) (at.level_count t l) (omega (arith, link_is, blocks-are, count_is)))
 
   pub child-there : (q : BlockPlace)
-      → q ≡ x.place → link + x.blocks < count → block_at.At (record { 0 = link + x.blocks }) q ≡ child_at t l (k + o / b) (o % b)
+      → q ≡ x.place → link + x.blocks < count → located (record { 0 = link + x.blocks }) q ≡ child_at t l (k + o / b) (o % b)
   unfolding child_at
   child-there q q-is low =
       let f : q ≡ record { 0 = o % b } = q-is ∙ ap (λ (y : DivRem). y.place) x-is in
@@ -152,22 +157,22 @@ module _ (t : List ℕ) (l k link count o b : ℕ)
 
 -- The kept block that a place refers to.
 module _ (t : List ℕ) (l i o : ℕ) where
-  pub resolved-last : (at.settings t).levels ≤ l + 1 → block_at.Off ≡ resolved_target t l i o
+  pub resolved-last : (at.settings t).levels ≤ l + 1 → None ≡ resolved_target t l i o
   unfolding resolved_target
   resolved-last last = rw (le-ltb _ _ last)
 
   module _ (x : BlockKind) (x-is : x ≡ block_kind_at t l (target_block t l i o) (target_place t l i o)) where
-    pub resolved-kept : (j : BlockNumber) (p : BlockPlace) → l + 1 < (at.settings t).levels → x ≡ Kept j p → block_at.At j p ≡ resolved_target t l i o
+    pub resolved-kept : (j : BlockNumber) (p : BlockPlace) → l + 1 < (at.settings t).levels → x ≡ Kept j p → located j p ≡ resolved_target t l i o
     unfolding resolved_target
     resolved-kept j p more e =
         let z = next-kept t l (target_block t l i o) (target_place t l i o) x x-is j p e in
         rw (lt-ltb _ _ more, z.0) (rw (z.1, z.2))
 
-    pub resolved-points : (j : BlockNumber) (p : BlockPlace) → x ≡ Points j p → block_at.Off ≡ resolved_target t l i o
+    pub resolved-points : (j : BlockNumber) (p : BlockPlace) → x ≡ Points j p → None ≡ resolved_target t l i o
     unfolding resolved_target
     resolved-points j p e = rw ((next-points t l (target_block t l i o) (target_place t l i o) x x-is j p e).0, and-false (ltb (l + 1) (at.settings t).levels))
 
-    pub resolved-off : x ≡ Off → block_at.Off ≡ resolved_target t l i o
+    pub resolved-off : x ≡ Off → None ≡ resolved_target t l i o
     unfolding resolved_target
     resolved-off e = rw ((next-off t l (target_block t l i o) (target_place t l i o) x x-is e).0, and-false (ltb (l + 1) (at.settings t).levels))
 

@@ -1,16 +1,15 @@
 -- The result of a step of a path, and its preconditions.
-use Rattle.std.specs.Prelude.{List, Bool, true, cond, ◌&&◌, ◌≡◌, ℕ, ◌+◌, ◌<◌, ltb}
+use Rattle.std.specs.Prelude.{List, Option, Some, None, Bool, true, cond, ◌&&◌, ◌≡◌, ℕ, ◌+◌, ◌<◌, ltb}
 use Rattle.format.specs.Layout as at
 use Rattle.format.specs.LayoutLaws.{Readable}
 use Rattle.format.specs.TreeReading.{is_kept_block, pointing_block, target_block, target_place}
 use Rattle.walk_steps.specs.declared.BlockKind.{BlockKind}
 use Rattle.walk_steps.specs.declared.BlockKind.TheVariants.{Kept, Points, Off}
-use Rattle.walk_steps.specs.declared.BlockAt.{BlockAt}
-use Rattle.walk_steps.specs.declared.BlockAt.TheVariants as block_at
+use Rattle.walk_steps.specs.declared.position.BlockPosition.{BlockPosition}
 
 -- The block if a test holds, else none.
-abbrev pub arriving : Bool → ℕ → ℕ → BlockAt
-arriving x i o = cond x (block_at.At (record { 0 = i }) (record { 0 = o })) block_at.Off
+abbrev pub arriving : Bool → ℕ → ℕ → Option BlockPosition
+arriving x i o = cond x (Some (record { block = record { 0 = i }; place = record { 0 = o } })) None
 
 module _ (t : List ℕ) where
   -- The kind of block i of level l, reached at place o.
@@ -20,12 +19,13 @@ module _ (t : List ℕ) where
       (cond (pointing_block t l i) (Points (record { 0 = i }) (record { 0 = o })) Off)
 
   -- Child i of level l, which contains place o of a kept block.
-  unfoldable pub child_at : ℕ → ℕ → ℕ → BlockAt
+  unfoldable pub child_at : ℕ → ℕ → ℕ → Option BlockPosition
   child_at l i o = arriving (ltb i (at.level_count t l)) i o
 
   -- The kept block that place o of pointing block i of level l refers to.
-  unfoldable pub resolved_target : ℕ → ℕ → ℕ → BlockAt
-  resolved_target l i o = arriving (ltb (l + 1) (at.settings t).levels && is_kept_block t l (target_block t l i o)) (target_block t l i o) (target_place t l i o)
+  unfoldable pub resolved_target : ℕ → ℕ → ℕ → Option BlockPosition
+  resolved_target l i o =
+      arriving (ltb (l + 1) (at.settings t).levels && is_kept_block t l (target_block t l i o)) (target_block t l i o) (target_place t l i o)
 
   -- A level of a tree that passes questions 5 to 7, with the size of its records and its block length b.
   pub record OnLevel (size level b : ℕ) : Type 0 where

@@ -22,14 +22,6 @@ pub enum BlockKind {
     Off,
 }
 
-// The block that a place refers to, and the place in it.
-#[derive(Clone, Copy)]
-pub enum BlockAt {
-    At(BlockNumber, BlockPlace),
-    // Outside the table, or not a kept block where one is required.
-    Off,
-}
-
 // The number of children of a block that end before a place in it, and the place in the next child.
 #[derive(Clone, Copy)]
 pub struct DivRem {
@@ -119,7 +111,7 @@ pub fn classify_next(
     classify_block(t, size, on.level, on.b, BlockNumber(number as u32), place)
 }
 
-// The child of a kept block that contains a place; b is the block length of the children.
+// The child of a kept block that contains a place, none if it is outside the table; b is the block length of the children.
 pub fn child(
     t: &[u8],
     size: u32,
@@ -127,7 +119,7 @@ pub fn child(
     b: u32,
     block: BlockNumber,
     place: BlockPlace,
-) -> BlockAt
+) -> Option<BlockPosition>
     requires { (OnLevel t.now size (level + 1) b) × (block.0 < at.level_count t.now level) }
     ensures { result ≡ child_at t.now (level + 1) (at.link t.now level block.0 + place.0 / b) (place.0 % b) }
 {
@@ -136,10 +128,12 @@ pub fn child(
     let part = div_rem(place, b);
     let number = link.0 as u64 + part.blocks as u64;
     if count <= number {
-        return BlockAt::Off;
+        return None;
     }
-    let rest = part.place;
-    BlockAt::At(BlockNumber(number as u32), rest)
+    Some(BlockPosition {
+        block: BlockNumber(number as u32),
+        place: part.place,
+    })
 }
 
 // 1 if a place, from the start of a block, is past its b bytes, else 0.
@@ -181,7 +175,7 @@ pub fn target(
     )
 }
 
-// The kept block that a place of a pointing block above the last level refers to.
+// The kept block that a place of a pointing block above the last level refers to, none if that block is outside the table or not kept.
 pub fn resolve_target(
     t: &[u8],
     size: u32,
@@ -189,18 +183,18 @@ pub fn resolve_target(
     b: u32,
     block: BlockNumber,
     place: BlockPlace,
-) -> BlockAt
+) -> Option<BlockPosition>
     requires { Pointing t.now size level b block.0 place.0 }
     ensures { result ≡ resolved_target t.now level block.0 place.0 }
 {
     let shape = fields::shape_of(t);
     if level + 1 == shape.levels {
-        return BlockAt::Off;
+        return None;
     }
     match target(t, size, level, b, block, place) {
-        BlockKind::Kept(i, p) => BlockAt::At(i, p),
-        BlockKind::Points(_, _) => BlockAt::Off,
-        BlockKind::Off => BlockAt::Off,
+        BlockKind::Kept(i, p) => Some(BlockPosition { block: i, place: p }),
+        BlockKind::Points(_, _) => None,
+        BlockKind::Off => None,
     }
 }
 

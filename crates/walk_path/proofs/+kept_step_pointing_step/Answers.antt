@@ -40,7 +40,7 @@ kept_step-packed-requires t c =
     let below : c.args.below ≡ c.args.b / (at.settings c.args.t.now.now).arity = c.requires.2 in
     let may = laws.child-may _ _ _ _ _ _ _ c.requires.0 above
     _ below
-    _ c.enter-further.ensures _ c.child-child.ensures _ _ c.in-At.is in
+    _ c.enter-further.ensures _ c.child-child.ensures _ c.in-Some.is in
     let f = laws.last_fits _ _ _ _ _ _ c.enter-further.result may (c.if-down-shape.true ∙ x.levels_is)
     (rw x.offset_is at c.shape_of-shape.type_inv.1.1.1.1.1.0.1) in
     (f.0, f.1, f.2, laws.left-fits _ _ _ _ _ _ _ c.requires.0 _ c.enter-further.ensures)
@@ -52,9 +52,9 @@ kept_step-returns-then-down-shape t c =
     let below : c.args.below ≡ c.args.b / (at.settings c.args.t.now.now).arity = c.requires.2 in
     let may = laws.child-may _ _ _ _ _ _ _ c.requires.0 above
     _ below
-    _ c.enter-further.ensures _ c.child-child.ensures _ _ c.in-At.is in
+    _ c.enter-further.ensures _ c.child-child.ensures _ c.in-Some.is in
     laws.child-by _ _ _ _ _ _ _ c.requires.0 above _ below _ c.enter-further.ensures _ c.child-child.ensures
-    _ _ _ c.in-At.is
+    _ _ c.in-Some.is
     (laws.last-walked _ _ _ _ _ _ c.enter-further.result may (c.if-down-shape.true ∙ x.levels_is) _ c.packed.ensures)
 
 pub kept_step-pointing_step-requires : goal.kept_step-pointing_step-requires
@@ -64,7 +64,7 @@ kept_step-pointing_step-requires t c =
     let below : c.args.below ≡ c.args.b / (at.settings c.args.t.now.now).arity = c.requires.2 in
     let may = laws.child-may _ _ _ _ _ _ _ c.requires.0 above
     _ below
-    _ c.enter-further.ensures _ c.child-child.ensures _ _ c.in-At.is in (
+    _ c.enter-further.ensures _ c.child-child.ensures _ c.in-Some.is in (
       omega (arith, c.decreases, c.requires.1),
       (may, omega (arith, may.on.level_in, c.if-down-shape.false, x.levels_is)),
     )
@@ -74,7 +74,7 @@ kept_step-returns t c =
     let above : c.args.level + 1 ≡ levels c.args.t.now.now → ⊥ = λ last. omega (arith, c.requires.1) in
     let below : c.args.below ≡ c.args.b / (at.settings c.args.t.now.now).arity = c.requires.2 in
     laws.child-by _ _ _ _ _ _ _ c.requires.0 above _ below _ c.enter-further.ensures _ c.child-child.ensures
-    _ _ _ c.in-At.is c.pointing_step.ensures
+    _ _ c.in-Some.is c.pointing_step.ensures
 
 pub pointing_step-shape_of-shape-requires : goal.pointing_step-shape_of-shape-requires
 pointing_step-shape_of-shape-requires t c = c.requires.0.on.facts.long

@@ -14,9 +14,9 @@ returns-in_default c = laws.landing-none _ _ _ _ _ _ _ c.requires.0 _ c.classify
 pub returns-in-Kept : goal.returns-in-Kept
 returns-in-Kept c = laws.landing_kept _ _ _ _ _ _ _ c.requires.0 _ c.classify_block-here.ensures _ _ c.in-Kept.is
 
-pub returns-in-At : goal.returns-in-At
-returns-in-At c = laws.landing-target _ _ _ _ _ _ _ c.requires.0 _ c.classify_block-here.ensures _ _ c.in-Points.is
-    _ c.resolve_target-there.ensures _ c.enter-further.ensures _ _ c.in-At.is
+pub returns-in-Some : goal.returns-in-Some
+returns-in-Some c = laws.landing-target _ _ _ _ _ _ _ c.requires.0 _ c.classify_block-here.ensures _ _ c.in-Points.is
+    _ c.resolve_target-there.ensures _ c.enter-further.ensures _ c.in-Some.is
 
 pub returns-in-Off : goal.returns-in-Off
 returns-in-Off c = laws.landing-off _ _ _ _ _ _ _ c.requires.0 _ c.classify_block-here.ensures c.in-Off.is

@@ -31,14 +31,16 @@ pub kept_step-child-child-requires : goal.kept_step-child-child-requires
 kept_step-child-child-requires t c =
     let x : Shapes c.args.t.now.now c.shape_of-shape.result = shapes _ _ c.shape_of-shape.ensures in
     let above : c.args.level + 1 ≡ levels c.args.t.now.now → ⊥ = λ last. c.if-under-shape.false (last ∙ sym x.levels_is) in
-    let below : (q : ℕ) → q ≡ c.args.b / c.shape_of-shape.result.arity → q ≡ c.args.b / (at.settings c.args.t.now.now).arity = λ q q-is. q-is ∙ ap (λ (y : ℕ). c.args.b / y) x.arity_is in
+    let below : (q : ℕ) → q ≡ c.args.b / c.shape_of-shape.result.arity → q ≡ c.args.b / (at.settings c.args.t.now.now).arity =
+    λ q q-is. q-is ∙ ap (λ (y : ℕ). c.args.b / y) x.arity_is in
     walk.asks-child _ _ _ _ _ _ _ c.requires.0 above _ (below _ c.quotient-below.ensures)
 
 pub kept_step-returns-in_default : goal.kept_step-returns-in_default
 kept_step-returns-in_default t c =
     let x : Shapes c.args.t.now.now c.shape_of-shape.result = shapes _ _ c.shape_of-shape.ensures in
     let above : c.args.level + 1 ≡ levels c.args.t.now.now → ⊥ = λ last. c.if-under-shape.false (last ∙ sym x.levels_is) in
-    let below : (q : ℕ) → q ≡ c.args.b / c.shape_of-shape.result.arity → q ≡ c.args.b / (at.settings c.args.t.now.now).arity = λ q q-is. q-is ∙ ap (λ (y : ℕ). c.args.b / y) x.arity_is in
+    let below : (q : ℕ) → q ≡ c.args.b / c.shape_of-shape.result.arity → q ≡ c.args.b / (at.settings c.args.t.now.now).arity =
+    λ q q-is. q-is ∙ ap (λ (y : ℕ). c.args.b / y) x.arity_is in
     laws.by-off _ _ _ _ _ _ _ c.requires.0 above _ (below _ c.quotient-below.ensures) _
     c.child-child.ensures _ _ c.in_default.is
 
@@ -46,30 +48,33 @@ pub kept_step-down-further-requires : goal.kept_step-down-further-requires
 kept_step-down-further-requires t c =
     let x : Shapes c.args.t.now.now c.shape_of-shape.result = shapes _ _ c.shape_of-shape.ensures in
     let above : c.args.level + 1 ≡ levels c.args.t.now.now → ⊥ = λ last. c.if-under-shape.false (last ∙ sym x.levels_is) in
-    let below : (q : ℕ) → q ≡ c.args.b / c.shape_of-shape.result.arity → q ≡ c.args.b / (at.settings c.args.t.now.now).arity = λ q q-is. q-is ∙ ap (λ (y : ℕ). c.args.b / y) x.arity_is in
+    let below : (q : ℕ) → q ≡ c.args.b / c.shape_of-shape.result.arity → q ≡ c.args.b / (at.settings c.args.t.now.now).arity =
+    λ q q-is. q-is ∙ ap (λ (y : ℕ). c.args.b / y) x.arity_is in
     (laws.down-asks _ _ _ _ _ _ _ c.requires.0
     above _ (below _ c.quotient-below.ensures)
-    _ c.child-child.ensures _ _ _ c.in-At.is c.requires.1)
+    _ c.child-child.ensures _ _ c.in-Some.is c.requires.1)
 
 pub kept_step-pointing_step-requires : goal.kept_step-pointing_step-requires
 kept_step-pointing_step-requires t c =
     let x : Shapes c.args.t.now.now c.shape_of-shape.result = shapes _ _ c.shape_of-shape.ensures in
     let above : c.args.level + 1 ≡ levels c.args.t.now.now → ⊥ = λ last. c.if-under-shape.false (last ∙ sym x.levels_is) in
-    let below : (q : ℕ) → q ≡ c.args.b / c.shape_of-shape.result.arity → q ≡ c.args.b / (at.settings c.args.t.now.now).arity = λ q q-is. q-is ∙ ap (λ (y : ℕ). c.args.b / y) x.arity_is in (
+    let below : (q : ℕ) → q ≡ c.args.b / c.shape_of-shape.result.arity → q ≡ c.args.b / (at.settings c.args.t.now.now).arity =
+    λ q q-is. q-is ∙ ap (λ (y : ℕ). c.args.b / y) x.arity_is in (
       omega (arith, c.decreases, c.requires.0.on.level_in, x.levels_is, c.if-under-shape.false),
       (laws.to-child _ _ _ _ _ _ _ c.requires.0
           above _ (below _ c.quotient-below.ensures)
-          _ c.child-child.ensures _ _ _ c.in-At.is _ c.down-further.ensures.value c.down-further.ensures.carried),
+          _ c.child-child.ensures _ _ c.in-Some.is _ c.down-further.ensures.value c.down-further.ensures.carried),
     )
 
 pub kept_step-returns : goal.kept_step-returns
 kept_step-returns t c =
     let x : Shapes c.args.t.now.now c.shape_of-shape.result = shapes _ _ c.shape_of-shape.ensures in
     let above : c.args.level + 1 ≡ levels c.args.t.now.now → ⊥ = λ last. c.if-under-shape.false (last ∙ sym x.levels_is) in
-    let below : (q : ℕ) → q ≡ c.args.b / c.shape_of-shape.result.arity → q ≡ c.args.b / (at.settings c.args.t.now.now).arity = λ q q-is. q-is ∙ ap (λ (y : ℕ). c.args.b / y) x.arity_is in
+    let below : (q : ℕ) → q ≡ c.args.b / c.shape_of-shape.result.arity → q ≡ c.args.b / (at.settings c.args.t.now.now).arity =
+    λ q q-is. q-is ∙ ap (λ (y : ℕ). c.args.b / y) x.arity_is in
     laws.by-child _ _ _ _ _ _ _ c.requires.0 above
     _ (below _ c.quotient-below.ensures) _ c.child-child.ensures
-    _ _ _ c.in-At.is _ c.down-further.ensures.value _ _ c.pointing_step.ensures
+    _ _ c.in-Some.is _ c.down-further.ensures.value _ _ c.pointing_step.ensures
 
 pub pointing_step-to_kept-landing-requires : goal.pointing_step-to_kept-landing-requires
 pointing_step-to_kept-landing-requires t c = c.requires

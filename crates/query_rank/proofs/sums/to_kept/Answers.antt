@@ -12,7 +12,7 @@ returns-in_default c = laws.by-no-target _ _ _ _ _ _ _ c.requires.0 _ c.classify
 pub across-requires : goal.across-requires
 across-requires c = (
   laws.target-across _ _ _ _ _ _ c.args.sum c.requires.0 _ c.classify_block-here.ensures _ _ c.in-Points.is
-      _ c.resolve_target-there.ensures _ _ c.in-At.is,
+      _ c.resolve_target-there.ensures _ c.in-Some.is,
   walk.may-enter _ _ _ _ _ _ _ c.requires.0,
   c.requires.1,
 )
@@ -20,9 +20,9 @@ across-requires c = (
 pub returns-in-Kept : goal.returns-in-Kept
 returns-in-Kept c = laws.by_itself _ _ _ _ _ _ _ c.requires.0 _ c.classify_block-here.ensures _ _ _ _ c.in-Kept.is c.requires.1
 
-pub returns-in-At : goal.returns-in-At
-returns-in-At c = laws.by-target _ _ _ _ _ _ _ c.requires.0 _ c.classify_block-here.ensures _ _ c.in-Points.is
-    _ c.resolve_target-there.ensures _ _ c.in-At.is _ _ _ c.across.ensures.value c.across.ensures.carried
+pub returns-in-Some : goal.returns-in-Some
+returns-in-Some c = laws.by-target _ _ _ _ _ _ _ c.requires.0 _ c.classify_block-here.ensures _ _ c.in-Points.is
+    _ c.resolve_target-there.ensures _ c.in-Some.is _ _ _ c.across.ensures.value c.across.ensures.carried
 
 pub returns-in-Off : goal.returns-in-Off
 returns-in-Off c = laws.by-none _ _ _ _ _ _ _ c.requires.0 _ c.classify_block-here.ensures _ _ c.in-Off.is
