@@ -24,7 +24,7 @@ pub struct Progress {
     pub other: TreeRange,
 }
 
-// Some more places are equal, or the comparison has ended.
+// Some more places are equal, or the comparison has ended. No `Result`: that it has ended is no error.
 #[derive(Clone, Copy)]
 pub enum Round {
     On(Progress),

@@ -3,7 +3,7 @@
 
 pub mod rows_after;
 
-// The next row, which is the new mark; or none, with the new mark. A search that is refused leaves the mark unchanged.
+// The next row, which is the new mark; or none, with the new mark. A search that is refused leaves the mark unchanged. No `Option`: both have a mark.
 #[derive(Clone, Copy)]
 pub enum NextRow {
     Row(u32),

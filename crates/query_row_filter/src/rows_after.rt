@@ -18,7 +18,8 @@ use row_filter::{RowScan, RowScanner};
 // The most bytes that are read at once: a selected row is often near.
 const MOST: u32 = 1024;
 
-// Where the rows after a mark begin, with the total of byte 10; or the answer of the call, if no row begins there or the place is not found.
+// Where the rows after a mark begin, with the total of byte 10; or the answer of the call, if no row begins there or the place is not found. No `Result`:
+// the answer is no error where no row begins.
 #[derive(Clone, Copy)]
 pub enum RowsStart {
     At(TextPlace, u64),

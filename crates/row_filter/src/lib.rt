@@ -6,14 +6,15 @@ ghost use Rattle.std.specs.Prelude.{◌≡◌, ℕ, ◌+◌, ◌<◌, length};
 ghost use Rattle.row_filter.specs.RowAutomaton.{Automaton, scan_byte, scan_bytes, RowBetween};
 ghost use Rattle.row_filter.specs.RowScans.{scan_of, IsStep};
 
-// The number of the first accepted row that ends in the scanned bytes; or else the state and the number of the row in which these bytes end.
+// The number of the first accepted row that ends in the scanned bytes; or else the state and the number of the row in which these bytes end. No `Result`:
+// neither is an error.
 #[derive(Clone, Copy)]
 pub enum RowScan<S> {
     Found(u32),
     On(S, u32),
 }
 
-// The same of a step of the scan, with the place from which the scan goes on.
+// The same of a step of the scan, with the place from which the scan goes on: no `Result` for the same reason.
 #[derive(Clone, Copy)]
 pub enum ScanStep<S> {
     Found(u32),
