@@ -115,7 +115,10 @@ pub fn bt_byte(tree: &[u8], place: u32, value: &mut u32, entered: &mut u32) -> u
     let answer = query_access::byte(tree, TextPlace(place));
     match answer {
         Ok((byte, blocks)) => put_u32(value, byte as u32, put_u32(entered, blocks, 0)),
-        Err(refusal) => put_u32(value, 0, put_u32(entered, 0, refusal.number())),
+        Err(refusal) => {
+            let number = refusal.number();
+            put_u32(value, 0, put_u32(entered, 0, number))
+        }
     }
 }
 
