@@ -1,6 +1,6 @@
-use Rattle.std.proofs.Common.{◌≡◌, length}
+use Rattle.std.proofs.Common.{◌≡◌}
 use Rattle.sha256.specs.Sha256.{rounds}
 use Rattle.sha256.proofs.compression.all_rounds.Given as goal
 
-abbrev pub invariant-loop-k : goal.invariant-loop-k
-invariant-loop-k l = l.v ≡ rounds l.words l.initial.v (length l.yielded)
+abbrev pub invariant-loop-i : goal.invariant-loop-i
+invariant-loop-i l = l.v ≡ rounds l.words l.initial.v l.i
