@@ -13,7 +13,6 @@ use lib.Dec.{eqb}
 use Rattle.std.proofs.lemmas.List.Edits.{paste_none}
 use Rattle.std.proofs.lemmas.Slice.{put_mid-paste}
 use Rattle.std.specs.List.{list_all}
-use Rattle.std.specs.Cmp.Lexicographic.{pointwise}
 use borrow.Rule.Slice.PartMut.{put_mid}
 use Rattle.text.specs.Text.{same_list, substring, count_in}
 use Rattle.text.specs.ListLaws.{lt-or-ge, ne-same_list}
@@ -137,11 +136,3 @@ zeros-all t a n k fits same = let all : length (take n (drop a t)) ≡ n = lengt
 -- Lists of different lengths differ.
 pub lengths_differ : (a b : List ℕ) → (length a ≡ length b → ⊥) → false ≡ same_list a b
 lengths_differ a b n = sym (ne-same_list a b (λ e. n (ap length e)))
-
--- The library's equality of lists.
-pub same-pointwise : (xs ys : List ℕ) → pointwise eqb xs ys ≡ same_list xs ys
-unfolding same_list
-same-pointwise [] [] = refl
-same-pointwise [] (y ∷ ys) = refl
-same-pointwise (x ∷ xs) [] = refl
-same-pointwise (x ∷ xs) (y ∷ ys) = rw (same-pointwise xs ys)

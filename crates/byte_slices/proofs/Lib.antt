@@ -1,1 +1,2 @@
 pub mod ByteSliceLaws
+pub mod SameLaws

@@ -66,11 +66,20 @@ pub fn clear_at(out: &mut [u8], to: usize, n: usize)
     out[to..end].fill(0);
 }
 
-// Whether two slices are equal; stops at the first difference.
+// Whether two slices are equal; stops at the first difference. A short loop, which is inlined into loops over windows and edges: `==` of slices is a call from
+// the fifth byte on, and what compares bytes by it is not inlined any more.
 pub fn equal(a: &[u8], b: &[u8]) -> bool
     ensures { result ≡ same_list a.now b.now }
 {
-    a == b
+    if a.len() != b.len() {
+        return false;
+    }
+    for i in 0..a.len() {
+        if a[i] != b[i] {
+            return false;
+        }
+    }
+    true
 }
 
 // Whether the n bytes at p and at q are equal.
