@@ -1,3 +1,4 @@
 pub mod SideBySideLaws
+pub mod OrderGivenLaws
 pub mod FirstLaws
 pub mod Theorems

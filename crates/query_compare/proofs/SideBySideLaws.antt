@@ -11,17 +11,15 @@ use mathlib.Core.Path.{◌≡◌, sym, ap, ◌∙◌}
 use mathlib.Core.Logic.{◌⊎◌, inl, inr}
 use Prim.Native.Nat.{ℕ, zero, suc, ◌+◌, ◌-◌, ◌≤◌, ◌<◌, min}
 use native.Mathlib.Omega.{arith}
+use borrow.Author.Count.{below_more}
 use native.Mathlib.Nat.{sub-zero}
 use borrow.Author.Tests.{lt-ltb, le-ltb}
 use lib.ListN.{length, get_or}
 use Rattle.std.specs.List.{between, zip, AllWithin, HoldsAt}
 use Rattle.std.specs.Option.{MatchOption, unwrap_or}
-use Rattle.std.specs.Cmp.Lexicographic.{pointwise}
 use Rattle.std.proofs.Common.{Option, Some, None}
 use Rattle.std.proofs.lemmas.List.Edits.{length-between, get_or-between}
-use Rattle.std.proofs.lemmas.Slice.Eq.{slice_eq-Decides}
 use Rattle.std.proofs.lemmas.Slice.Zip.{length-zip, get_or-zip}
-use Rattle.std.proofs.lemmas.Bool.Decides.{Decides-eqb}
 use lib.Dec.{eqb, ltb}
 use Rattle.text.specs.ListLaws.{lt-or-ge}
 use Rattle.format.specs.Answers.{Answer, refused, replied, unless, byte_answer}
@@ -264,6 +262,12 @@ module _ (t u : List ℕ) (x : Result Header Refusal) (q : Refusal) (e : x ≡ E
       let z = header_refused u x x-is q e in
       record { answers = rw r (unless-refused (header_result u) z.0 (refusal_number q) _ z.1 z.2) }
 
+-- One place more agrees.
+pub agree-more : (s : List ℕ) (a : ℕ) (t : List ℕ) (b i : ℕ)
+    → ((x : ℕ) → x < i → get_or s (a + x) 0 ≡ get_or t (b + x) 0) → get_or s (a + i) 0 ≡ get_or t (b + i) 0
+    → (x : ℕ) → x < i + 1 → get_or s (a + x) 0 ≡ get_or t (b + x) 0
+agree-more s a t b i all here = below_more (λ x. get_or s (a + x) 0 ≡ get_or t (b + x) 0) i all here
+
 -- A byte of one range beside that of the other.
 abbrev pub Differ : ℕ × ℕ → Type 0
 Differ p = p.0 ≡ p.1 → ⊥
@@ -278,11 +282,6 @@ module _ (s : List ℕ) (a : ℕ) (t : List ℕ) (b n : ℕ) (fits : a + n ≤ l
 
   abbrev ys : List ℕ
   ys = between b (b + n) t
-
-  pub equal-ranges : (r : Bool) → r ≡ pointwise eqb xs ys → r ≡ true → (x : ℕ) → x < n → get_or s (a + x) 0 ≡ get_or t (b + x) 0
-  equal-ranges r e y x h =
-      sym (get_or-between s a (a + n) x 0 (omega arith)) ∙ ap (λ (l : List ℕ). get_or l x 0) ((slice_eq-Decides Decides-eqb xs ys r e).0 y)
-      ∙ get_or-between t b (b + n) x 0 (omega arith)
 
   pair-at : (x : ℕ) → x < n → get_or (zip xs ys) x (0, 0) ≡ (get_or s (a + x) 0, get_or t (b + x) 0)
   pair-at x h =

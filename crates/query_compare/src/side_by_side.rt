@@ -125,8 +125,8 @@ fn min(a: usize, b: usize) -> usize
     a
 }
 
-// The length of the common prefix of two ranges of n bytes. Mostly all bytes agree, and `==` of slices compares many at once; only if one differs are they
-// compared one by one.
+// The length of the common prefix of two ranges of n bytes. Mostly all bytes agree, and a loop without an exit is compiled to vector instructions; only if
+// one differs are they compared one by one.
 fn agree(one: &[u8], from: usize, other: &[u8], at: usize, n: usize) -> usize
     requires { (from + n ≤ length one.now) × (at + n ≤ length other.now) }
     ensures { Agrees one.now from other.now at n result }
@@ -142,8 +142,13 @@ fn all_agree(one: &[u8], from: usize, other: &[u8], at: usize, n: usize) -> bool
     requires { (from + n ≤ length one.now) × (at + n ≤ length other.now) }
     ensures { result ≡ true → (x : ℕ) → x < n → get_or one.now (from + x) 0 ≡ get_or other.now (at + x) 0 }
 {
-    let (end, until) = (from + n, at + n);
-    one[from..end] == other[at..until]
+    let mut same = true;
+    for i in 0..n {
+        if one[from + i] != other[at + i] {
+            same = false;
+        }
+    }
+    same
 }
 
 // The first of n bytes in which two ranges differ; n if they agree.
