@@ -81,6 +81,9 @@ module _ (ranges part : List ℕ) (at : ℕ) where
   unfolding cut_count
   cut_out k below out = record { misfit = λ e. record { cut = k; below = below; out = out } }
 
+  pub cuts-in : CutsFit ranges part at true
+  cuts-in = record { misfit = λ e. bool_clash true refl e }
+
 -- A row passed over.
 module _ {S : Type 0} (m : Automaton S) (part : List ℕ) where
   read-on : (k i : ℕ) (s : S) (q : ℕ) → i + k ≤ length part → Without part i k 10

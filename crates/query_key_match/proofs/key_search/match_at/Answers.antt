@@ -4,6 +4,7 @@ use borrow.Author.Rules.{rules}
 use borrow.Author.Tests.{not-true, not-false}
 use Rattle.keys.specs.Keys.{matches}
 use Rattle.keys.specs.KeyStates.{key_automaton}
+use Rattle.keys.proofs.RangesLaws.{range-short}
 use Rattle.keys.proofs.RowKeyStates.{reads}
 use Rattle.query_rows.specs.RowSpans.{settled_by}
 use Rattle.query_row_filter.proofs.AllowedAnswerLaws.{answer-found}
@@ -17,6 +18,10 @@ are_ranges-requires c = search rules
 pub returns-then-not-are_ranges : goal.returns-then-not-are_ranges
 unfolding settled_by
 returns-then-not-are_ranges c = match-19 _ _ _ c.requires.passes (sym c.are_ranges.ensures ∙ not-true _ c.if-not-are_ranges.true-raw)
+
+pub invariant_of-ranges : goal.invariant_of-ranges
+unfolding settled_by
+invariant_of-ranges c = record { few = range-short _ (sym c.are_ranges.ensures ∙ not-false _ c.if-not-are_ranges.false-raw) }
 
 pub begin-start-requires : goal.begin-start-requires
 unfolding settled_by
