@@ -4,7 +4,7 @@ use mathlib.Core.List.{List}
 use mathlib.Core.Bool.{true, false, cond}
 use mathlib.Core.Path.{◌≡◌}
 use mathlib.Core.Logic.{◌⊎◌}
-use Prim.Native.Nat.{ℕ, ◌≤◌, ◌<◌}
+use Prim.Native.Nat.{ℕ, suc, ◌≤◌, ◌<◌}
 use contract.Lifetimes.{Lfts}
 use denote.Ref.{Bor}
 use lib.ListN.{length}
@@ -19,7 +19,7 @@ use Rattle.keys.specs.MatchLaws.{Wider, wider-matched}
 use Rattle.std.specs.Prelude.{Result, Ok, Err}
 use Rattle.refusals.specs.declared.Refusal.{Refusal}
 use Rattle.refusals.specs.declared.Refusal.TheVariants.{ByteNotCounted, PathBroken, CutsWrong}
-use Rattle.refusals.specs.Refusals.{refusal_number}
+use Rattle.refusals.specs.Refusals.{refusal_number, result_refusal}
 use Rattle.query_row_filter.specs.declared.NextRow.{NextRow}
 use Rattle.query_row_filter.specs.declared.NextRow.TheVariants.{Row, Nothing}
 use Rattle.query_row_filter.specs.AllowedRows.{max_rows, query_refusal}
@@ -39,11 +39,17 @@ module _ (t ranges : List ℕ) where
   refusal-leaves = next_row.refusal-leaves t (check_result t) (λ v. v) (query_refusal t 19 (ranges_ok ranges)) (matches ranges)
 
   module _ (mark : ℕ) (r : Result NextRow Refusal) (a : IsMatchAnswer t ranges mark r) where
-    -- Questions 5 to 7.
-    pub match-unread : (q : Refusal) → header_result t ≡ refusal_number q → r ≡ Err q
+    -- Questions 5 to 7: the call is refused with the number of the first that fails.
+    pub match-unread : (q : ℕ) → header_result t ≡ suc q → result_refusal r ≡ suc q
     match-unread q e =
-        next_row.refused-first t (check_result t) (λ v. v) (query_refusal t 19 (ranges_ok ranges)) (matches ranges) mark r a q
+        next_row.refused-number t (check_result t) (λ v. v) (query_refusal t 19 (ranges_ok ranges)) (matches ranges) mark r a q
         (next_row.asked-unread t 19 (ranges_ok ranges) q e)
+
+    -- The same, for a refusal that has this number.
+    pub match-unread-by : (q : Refusal) → header_result t ≡ refusal_number q → r ≡ Err q
+    match-unread-by q e =
+        next_row.refused-first t (check_result t) (λ v. v) (query_refusal t 19 (ranges_ok ranges)) (matches ranges) mark r a q
+        (next_row.asked-unread-by t 19 (ranges_ok ranges) q e)
 
     module _ (pass : header_result t ≡ 0) where
       -- Refused with 19, after 7: ranges that question 19 does not allow.

@@ -3,7 +3,7 @@ use mathlib.Core.List.{List, [], ◌++◌}
 use mathlib.Core.Bool.{true, false, cond}
 use mathlib.Core.Path.{◌≡◌, ◌∙◌}
 use mathlib.Core.Logic.{◌⊎◌}
-use Prim.Native.Nat.{ℕ, ◌≤◌, ◌<◌}
+use Prim.Native.Nat.{ℕ, suc, ◌≤◌, ◌<◌}
 use contract.Lifetimes.{Lfts}
 use denote.Ref.{Bor}
 use lib.ListN.{length}
@@ -22,7 +22,7 @@ use Rattle.query_guide.proofs.GuideList.{guide-checked}
 use Rattle.std.specs.Prelude.{Result, Ok, Err}
 use Rattle.refusals.specs.declared.Refusal.{Refusal}
 use Rattle.refusals.specs.declared.Refusal.TheVariants.{ByteNotCounted, PathBroken, PatternLengthWrong}
-use Rattle.refusals.specs.Refusals.{refusal_number}
+use Rattle.refusals.specs.Refusals.{refusal_number, result_refusal}
 use Rattle.query_row_filter.specs.declared.NextRow.{NextRow}
 use Rattle.query_row_filter.specs.declared.NextRow.TheVariants.{Row, Nothing}
 use Rattle.query_row_filter.specs.AllowedRows.{max_rows, query_refusal, AllowedAnswer, MarkMoved}
@@ -74,11 +74,17 @@ module _ (t : List ℕ) (ok : ℕ) (sound : ok ≡ 0 → check_result t ≡ 0) (
   -- For any bytes.
 
   module _ (mark : ℕ) (r : Result NextRow Refusal) (a : IsPrefixAnswer t ok prefix mark r) where
-    -- Questions 5 to 7.
-    pub prefix-unread : (q : Refusal) → header_result t ≡ refusal_number q → r ≡ Err q
+    -- Questions 5 to 7: the call is refused with the number of the first that fails.
+    pub prefix-unread : (q : ℕ) → header_result t ≡ suc q → result_refusal r ≡ suc q
     prefix-unread q e =
-        next_row.refused-first t ok sound (query_refusal t 16 (pattern_ok prefix)) (starts_with prefix) mark r a q
+        next_row.refused-number t ok sound (query_refusal t 16 (pattern_ok prefix)) (starts_with prefix) mark r a q
         (next_row.asked-unread t 16 (pattern_ok prefix) q e)
+
+    -- The same, for a refusal that has this number.
+    pub prefix-unread-by : (q : Refusal) → header_result t ≡ refusal_number q → r ≡ Err q
+    prefix-unread-by q e =
+        next_row.refused-first t ok sound (query_refusal t 16 (pattern_ok prefix)) (starts_with prefix) mark r a q
+        (next_row.asked-unread-by t 16 (pattern_ok prefix) q e)
 
     module _ (pass : header_result t ≡ 0) where
       -- 16, after question 7: the prefix has no byte or more than 256

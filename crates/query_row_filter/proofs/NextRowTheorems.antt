@@ -21,7 +21,7 @@ use Rattle.row_filter.specs.SelectedRowLaws.{Next, no_more, next, next_of, Shows
 use Rattle.std.specs.Prelude.{Result, Ok, Err}
 use Rattle.refusals.specs.declared.Refusal.{Refusal}
 use Rattle.refusals.specs.declared.Refusal.TheVariants.{PathBroken}
-use Rattle.refusals.specs.Refusals.{refusal_number}
+use Rattle.refusals.specs.Refusals.{refusal_number, result_refusal}
 use Rattle.refusals.specs.RefusalsLaws.{number-above, one-number}
 use Rattle.query_row_filter.specs.declared.NextRow.{NextRow}
 use Rattle.query_row_filter.specs.declared.NextRow.TheVariants.{Row, Nothing}
@@ -101,11 +101,21 @@ module _ (q R mark : ℕ) where
       go (Ok (Nothing m)) low s false e = absurd (let y : ⊥ = omega (arith, ap (λ (w : NextRowOutcome). w.row) s, one false e refl, eqb-false q 0 e) in y)
       go (Err n) low s b e = absurd (next-only (refusal_number n) low s)
 
+-- The number in an outcome is that of the result's refusal.
+outcome-refusal : (mark : ℕ) (r : Result NextRow Refusal) → (outcome_of mark r).refusal ≡ result_refusal r
+outcome-refusal mark (Ok (Row n)) = refl
+outcome-refusal mark (Ok (Nothing n)) = refl
+outcome-refusal mark (Err q) = refl
+
 -- The questions before the walk: 5 to 7, the query's own, and 11.
 module _ (t : List ℕ) (k : ℕ) (ok : Bool) where
-  pub asked-unread : (q : Refusal) → header_result t ≡ refusal_number q → query_refusal t k ok ≡ refusal_number q
+  pub asked-unread : (q : ℕ) → header_result t ≡ suc q → query_refusal t k ok ≡ suc q
   unfolding query_refusal
-  asked-unread q e = rw (e, ne_eqb (refusal_number q) 0 (λ z. omega (arith, number-above q)))
+  asked-unread q e = rw (e, ne_eqb (suc q) 0 (λ z. omega arith))
+
+  pub asked-unread-by : (q : Refusal) → header_result t ≡ refusal_number q → query_refusal t k ok ≡ refusal_number q
+  unfolding query_refusal
+  asked-unread-by q e = rw (e, ne_eqb (refusal_number q) 0 (λ z. omega (arith, number-above q)))
 
   pub asked-bad : header_result t ≡ 0 → ok ≡ false → query_refusal t k ok ≡ k
   unfolding query_refusal
@@ -135,7 +145,11 @@ module _ (t : List ℕ) (ok : ℕ) (sound : ok ≡ 0 → check_result t ≡ 0) (
   refusal-leaves mark n after m = m.mark_is
 
   module _ (mark : ℕ) (r : Result NextRow Refusal) (a : AllowedAnswer t ok refusal selected mark r) where
-    -- A question that refuses before the walk determines the answer.
+    -- A question that refuses before the walk determines the answer: its number.
+    pub refused-number : (q : ℕ) → refusal ≡ suc q → result_refusal r ≡ suc q
+    refused-number q e = sym (outcome-refusal mark r) ∙ ap (λ (s : NextRowOutcome). s.refusal) (a.answers.asked (omega (arith, e))) ∙ e
+
+    -- The same, for a refusal that has this number.
     pub refused-first : (q : Refusal) → refusal ≡ refusal_number q → r ≡ Err q
     refused-first q e = filter-refused-is mark r q (a.answers.asked (omega (arith, e, number-above q)) ∙ rw e)
 

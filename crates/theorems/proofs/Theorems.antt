@@ -75,7 +75,7 @@ pub use Rattle.row_filter.specs.SelectedRowLaws.{all_shown, selected-rise, selec
 -- Request 107: wider ranges return every row that the narrower ones return.
 pub use Rattle.query_key_match.proofs.Theorems.{widening-monotone}
 -- Request 107: the refusals in their order, 5 to 7, 19, 11 and 14.
-pub use Rattle.query_key_match.proofs.Theorems.{match-unread, match_ranges, match-uncounted}
+pub use Rattle.query_key_match.proofs.Theorems.{match-unread, match-unread-by, match_ranges, match-uncounted}
 pub use Rattle.theorems.proofs.NextMatchCall.{match-numbers}
 -- Request 107: a refusal leaves the mark unchanged. On a tree that the check refuses, the row is free, but these hold.
 pub use Rattle.query_key_match.proofs.Theorems.{refusal-leaves, row-after, none_after}
@@ -87,7 +87,7 @@ pub use Rattle.query_prefix.proofs.Theorems.{all-with-prefix, in_order, each-sho
 -- Extending the prefix returns a subsequence; a prefix with a byte 10 starts no row.
 pub use Rattle.query_prefix.proofs.Theorems.{longer-narrows, longer-shows-fewer, newline-shows-none}
 -- Refusals: 5 to 7, then 16, 11 and 14.
-pub use Rattle.query_prefix.proofs.Theorems.{prefix-unread, prefix_length, prefix-uncounted}
+pub use Rattle.query_prefix.proofs.Theorems.{prefix-unread, prefix-unread-by, prefix_length, prefix-uncounted}
 pub use Rattle.theorems.proofs.PrefixRowCall.{prefix-numbers}
 -- With a guide: for an accepted tree and guide the same answer, so that all of this holds of it too.
 pub use Rattle.query_prefix.proofs.Theorems.{guided-as-prefix}
