@@ -2,11 +2,11 @@
 use mathlib.Core.List.{List, [], ◌∷◌}
 use mathlib.Core.Bool.{Bool, true, false, cond, ◌&&◌}
 use mathlib.Core.Path.{◌≡◌, refl, sym, ap, ◌∙◌}
-use Prim.Native.Nat.{ℕ, zero, suc, ◌+◌, ◌*◌, ◌/◌, ◌≤◌}
+use Prim.Native.Nat.{ℕ, zero, suc, ◌+◌, ◌*◌, ◌/◌, ◌≤◌, ◌<◌}
 use native.Mathlib.Omega.{arith}
 use lib.ListN.{length, take, get_or, set}
 use lib.Dec.{leb, eqb}
-use borrow.Author.Tests.{leb-true, eqb-true, ne_eqb, eq-eqb}
+use borrow.Author.Tests.{leb-true, le-leb, lt-leb, eqb-true, ne_eqb, eq-eqb}
 use lib.Seq.{ext_get_or}
 use Rattle.std.specs.Prelude.{Option, Some, None, Result, Ok, Err}
 use Rattle.std.specs.Bool.{then_some}
@@ -31,6 +31,18 @@ digit_low x h = leb-true 48 x (and_left (leb 48 x) (leb x 57) h)
 pub digit-high : (x : ℕ) → is_digit x ≡ true → x ≤ 57
 unfolding is_digit
 digit-high x h = leb-true x 57 (and_right (leb 48 x) (leb x 57) h)
+
+pub digit-below : (x : ℕ) → x < 48 → is_digit x ≡ false
+unfolding is_digit
+digit-below x h = rw (lt-leb 48 x h)
+
+pub digit-above : (x : ℕ) → 48 ≤ x → 57 < x → is_digit x ≡ false
+unfolding is_digit
+digit-above x low h = rw (le-leb 48 x low, lt-leb x 57 h)
+
+pub digit-is : (x : ℕ) → 48 ≤ x → x ≤ 57 → is_digit x ≡ true
+unfolding is_digit
+digit-is x low h = rw (le-leb 48 x low, le-leb x 57 h)
 
 -- A test of each of the first n items, from the first on.
 all-front : (n : ℕ) (p : ℕ → Bool) → all_below (suc n) p ≡ (p 0 && all_below n (λ i. p (suc i)))
