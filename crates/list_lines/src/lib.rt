@@ -31,7 +31,9 @@ pub fn list(tree: &[u8], out: &mut [u8]) -> Result<u32, Refusal>
     ensures list_answer { IsListAnswer tree.now (length out.old) result }
     ensures out_after { out.new ≡ list_buffer tree.now out.old }
 {
-    check_input(tree)?;
+    if let Err(refusal) = check_input(tree) {
+        return Err(refusal);
+    }
     let mut lines = [0u8; MAX_LINES];
     let size = level_lines(tree, &mut lines);
     if out.len() < size {

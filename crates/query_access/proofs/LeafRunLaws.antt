@@ -8,7 +8,7 @@ use mathlib.Core.Path.{◌≡◌, refl, sym, ap, ◌∙◌}
 use Prim.Native.Nat.{ℕ, zero, suc, ◌+◌, ◌-◌, ◌≤◌, ◌<◌, min}
 use native.Mathlib.Omega.{arith}
 use native.Mathlib.Nat.{le_trans}
-use lib.ListN.{length, get_or}
+use lib.ListN.{length, get_or, set}
 use Rattle.format.specs.Layout.{max_text}
 use Rattle.format.specs.Layout as at
 use Rattle.format.specs.Answers.{Answer, refused, replied, byte_answer, run_answer}
@@ -22,6 +22,7 @@ use Rattle.walk_steps.specs.Steps.{OnLevel}
 use Rattle.walk_steps.proofs.NextLaws.{on-top}
 use Rattle.walk_path.specs.declared.TopLevel.{TopLevel}
 use Rattle.byte_slices.specs.ByteSlices.{bytes_written}
+use Rattle.byte_slices.proofs.ByteSliceLaws.{bytes-more}
 use Rattle.query_access.specs.declared.read_by_header.LeafRun.{LeafRun}
 use Rattle.query_access.specs.declared.read_by_header.TreeRange.{TreeRange}
 use Rattle.walk_ranges.specs.declared.leaf_end.LeafEnd.{LeafEnd}
@@ -194,6 +195,20 @@ pub run-first-byte : (t : List ℕ) (p : ℕ) (r : LeafRun) → LeafRunAt t p r
 run-first-byte t p r k a e =
     let z : p + 0 ≡ p = omega arith in
     ap (λ (x : Result (ℕ × ℕ) Refusal). replied (byte_reply x)) e ∙ sym (rw z at (k.answers 0 k.some_byte))
+
+-- The byte that is taken out of an answer is written.
+abbrev value_in : Result (ℕ × ℕ) Refusal → ℕ
+value_in (Ok x) = x.0
+value_in (Err q) = 0
+
+value-is : (a : Result (ℕ × ℕ) Refusal) (v n u m : ℕ) → a ≡ Ok (v, n) → a ≡ Ok (u, m) → u ≡ v
+value-is a v n u m e f = ap value_in (sym f ∙ e)
+
+pub byte-written : (d e t : List ℕ) (to from j : ℕ) → e ≡ bytes_written d to t from j
+    → (a : Result (ℕ × ℕ) Refusal) (n u m : ℕ) → a ≡ Ok (get_or t (from + j) 0, n) → a ≡ Ok (u, m)
+    → set e (to + j) u ≡ bytes_written d to t from (j + 1)
+byte-written d e t to from j is a n u m given taken =
+    bytes-more d e _ t to from j is (ap (set e (to + j)) (value-is a (get_or t (from + j) 0) n u m given taken))
 
 -- No bytes, and those of a range.
 pub access-none-read : (t : List ℕ) (p : ℕ) (r : LeafRun) → r.length ≡ 0 → r.from ≡ 0 → ReadsFrom t p r

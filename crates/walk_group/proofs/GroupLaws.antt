@@ -7,7 +7,7 @@ use Prim.Native.Nat.{ℕ, zero, suc, ◌+◌, ◌-◌, ◌*◌, ◌/◌, ◌%◌
 use native.Mathlib.Omega.{arith}
 use native.Mathlib.Nat.{mod-lt}
 use lib.ListN.{get_or, set, length, drop, length-set}
-use lib.Seq.{drop-set-lt}
+use lib.Seq.{get_or-set_same, get_or-set_other, drop-set-lt}
 use borrow.Author.Count.{below_more}
 use borrow.Author.Tests.{lt-ltb}
 use Rattle.std.specs.Prelude as prelude
@@ -134,6 +134,26 @@ module _ (t : List ℕ) (l : ℕ) (is₀ os₀ : List ℕ) where
       pub steps-off : (n : ℕ) → k < n → x ≡ None → WalkedTo t l (l + 1) n is₀ os₀ is os false
       unfolding group_leaf
       steps-off n less e = let z = c.others k (omega arith) in (k, less, rw (z.0, z.1) at (rw e at x-is))
+
+      pub steps-more : (y : BlockPosition) → x ≡ Some y → k < length is₀ → k < length os₀
+          → StepsUpTo (set is k y.block.0) (set os k y.place.0) (k + 1)
+      steps-more y e low low₂ =
+          let z = c.others k (omega arith) in
+          let js = set is k y.block.0 in
+          let qs = set os k y.place.0 in
+          let far : (m : ℕ) → (m ≡ k → ⊥) → (get_or js m 0 ≡ get_or is m 0) × (get_or qs m 0 ≡ get_or os m 0) =
+          λ m apart. (get_or-set_other is k m y.block.0 0 apart, get_or-set_other os k m y.place.0 0 apart) in
+          let new : (get_or js k 0 ≡ y.block.0) × (get_or qs k 0 ≡ y.place.0) =
+          (get_or-set_same is k y.block.0 0 (omega (arith, c.same_blocks)), get_or-set_same os k y.place.0 0 (omega (arith, c.same_places))) in
+          let here : GoesTo t l (get_or is₀ k 0) (get_or os₀ k 0) (l + 1) y.block.0 y.place.0 = rw (z.0, z.1) at (rw e at x-is) in record {
+            same_blocks = simp length-set c.same_blocks;
+            same_places = simp length-set c.same_places;
+            moved = below_more (λ m. GoesTo t l (get_or is₀ m 0) (get_or os₀ m 0) (l + 1) (get_or js m 0) (get_or qs m 0)) k
+                (λ m less. (let v = far m (λ u. omega arith) in rw (v.0, v.1) (c.moved m less)))
+                (rw (new.0, new.1) here);
+            others = λ m past. (let v = far m (λ u. omega arith) in
+                let w = c.others m (omega arith) in (v.0 ∙ w.0, v.1 ∙ w.1));
+          }
 
 -- Level by level.
 module _ (t : List ℕ) (n : ℕ) (is₀ os₀ : List ℕ) where
