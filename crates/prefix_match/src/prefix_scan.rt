@@ -1,4 +1,4 @@
-// Scans bytes of a text for a row that starts with a prefix.
+// The automaton of a prefix for the scan of `row_filter`, and the bytes that the scan passes over.
 ghost use Rattle.std.specs.Prelude.{◌≡◌, ◌+◌, ◌≤◌, ◌<◌, length};
 ghost use Rattle.prefix_match.specs.PrefixStates.{prefix_automaton};
 ghost use Rattle.prefix_match.specs.PrefixScanned.{Passed};

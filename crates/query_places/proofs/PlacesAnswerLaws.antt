@@ -115,12 +115,12 @@ module _ (t P table : List ℕ) where
                 ∙ filled-all (places_of t P) n table (omega (arith, all.1)) ∙ ap (λ (m : ℕ). places_of t P ++ drop m table) (sym all.1))
 
       -- One pass, with room for all places that there can be.
-      no-break : (room : ℕ) (before last : List ℕ) (x : Option ℕ) → SeekAnswer t P room before x last → links_ok t ≡ true → x ≡ None → ⊥
+      pub no-break : (room : ℕ) (before last : List ℕ) (x : Option ℕ) → SeekAnswer t P room before x last → links_ok t ≡ true → x ≡ None → ⊥
       no-break room before last x k linked e =
           bool_clash _ (paths-all t passes linked 0 (at.text_length t) (omega arith))
           (broken-cases (paths_hold t 0 (at.text_length t)) (length (places_of t P)) (sym e ∙ k.answers))
 
-      written_once : (room : ℕ) (last : List ℕ) (x : Option ℕ) → SeekAnswer t P room table x last → (n : ℕ) → x ≡ Some n
+      pub written_once : (room : ℕ) (last : List ℕ) (x : Option ℕ) → SeekAnswer t P room table x last → (n : ℕ) → x ≡ Some n
           → room ≡ at.text_length t + 1 - length P → room ≤ length table → Listed t P table (record { number = 0; value = n; entered = 0 }) last
       written_once room last x k n e is fits =
           let few : length (places_of t P) ≤ room = omega (arith, places-few t P low) in
